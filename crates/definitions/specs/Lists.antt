@@ -1,0 +1,67 @@
+-- The vocabulary on lists that all definitions share, beside the library's own.
+use mathlib.Core.List.{List, [], _∷_, _++_}
+use mathlib.Core.Bool.{Bool, true, false, _&&_, _||_}
+use Prim.Native.Nat.{ℕ, zero, suc, _+_, _-_, _*_, _/_}
+use lib.Dec.{eqb}
+use lib.ListN.{length, take, drop, getD, replicate}
+
+infix 0 if_then_else_
+
+abbrev pub if_then_else_ : {A : Type 0} → Bool → A → A → A
+if true then a else b = a
+if false then a else b = b
+
+-- the number at a place of a list, 0 beyond its end
+infixl 80 _!_
+
+abbrev pub _!_ : List ℕ → ℕ → ℕ
+l ! i = getD l i 0
+
+-- whether every element, or some element, passes a test
+unfoldable pub all : {A : Type 0} → (A → Bool) → List A → Bool
+all test [] = true
+all test (x ∷ l) = test x && all test l
+
+unfoldable pub any : {A : Type 0} → (A → Bool) → List A → Bool
+any test [] = false
+any test (x ∷ l) = test x || any test l
+
+-- the elements that pass a test, in order
+unfoldable pub select : {A : Type 0} → (A → Bool) → List A → List A
+select test [] = []
+select test (x ∷ l) = if test x then x ∷ select test l else select test l
+
+-- the lists that the elements give, one after the other
+unfoldable pub concatMap : {A B : Type 0} → (A → List B) → List A → List B
+concatMap f [] = []
+concatMap f (x ∷ l) = f x ++ concatMap f l
+
+-- a, a+1, a+2, .., as many as `count`
+unfoldable pub upFrom : (a count : ℕ) → List ℕ
+upFrom a zero = []
+upFrom a (suc count) = a ∷ upFrom (suc a) count
+
+-- how often a number stands in a list
+unfoldable pub times : ℕ → List ℕ → ℕ
+times x [] = 0
+times x (y ∷ l) = if eqb x y then suc (times x l) else times x l
+
+-- whether two lists of numbers are the same
+unfoldable pub same : List ℕ → List ℕ → Bool
+same [] [] = true
+same [] (y ∷ l) = false
+same (x ∷ k) [] = false
+same (x ∷ k) (y ∷ l) = eqb x y && same k l
+
+-- the first `count` records of `size` numbers each
+unfoldable pub records : (size count : ℕ) → List ℕ → List (List ℕ)
+records size zero l = []
+records size (suc count) l = take size l ∷ records size count (drop size l)
+
+-- a lent buffer of `size` numbers, all 0
+abbrev pub cleared : ℕ → List ℕ
+cleared size = replicate size 0
+
+-- a lent buffer of `size` numbers that begins with `used` and is 0 after it
+unfoldable pub padded : ℕ → List ℕ → List ℕ
+padded size used = used ++ cleared (size - length used)

@@ -1,0 +1,59 @@
+-- Document 01, "Matrices and metastates", its first paragraph and the shift: matrices of 2n+1 columns, each a set of phones.
+-- Nothing here but `rootMatrix` knows the width: it is the length of the list.
+use mathlib.Core.List.{List, [], _∷_, _++_}
+use mathlib.Core.Bool.{Bool, true, false, not, _&&_}
+use Prim.Native.Nat.{ℕ, zero, suc, _+_}
+use lib.Dec.{eqb}
+use lib.Bits.{bitAnd}
+use lib.ListN.{drop, replicate}
+use Rattle.definitions.specs.Lists.{all, padded}
+use Rattle.definitions.specs.PhoneSets.{has, one, allPhones, without}
+
+-- "A matrix has 2n+1 columns, each a set of phones"
+abbrev pub Matrix : Type 0
+Matrix = List ℕ
+
+-- "it is kept as seven 64-bit words, the unused ones 0"
+unfoldable pub matrixWords : Matrix → List ℕ
+matrixWords m = padded 7 m
+
+-- "A root's matrix for phone p has all phones in every column but column n, which has p alone."
+unfoldable pub rootMatrix : (half phones p : ℕ) → Matrix
+rootMatrix half phones p = replicate half (allPhones phones) ++ (one p ∷ replicate half (allPhones phones))
+
+-- "Yes keeps in the question's column the class's members"
+unfoldable pub yesSide : (position set : ℕ) → Matrix → Matrix
+yesSide position set [] = []
+yesSide zero set (column ∷ m) = bitAnd column set ∷ m
+yesSide (suc position) set (column ∷ m) = column ∷ yesSide position set m
+
+-- "no keeps the others"
+unfoldable pub noSide : (position set : ℕ) → Matrix → Matrix
+noSide position set [] = []
+noSide zero set (column ∷ m) = without column set ∷ m
+noSide (suc position) set (column ∷ m) = column ∷ noSide position set m
+
+-- "A matrix is valid if no column is empty."
+unfoldable pub valid : Matrix → Bool
+valid m = all (λ column. not (eqb column 0)) m
+
+-- two matrices meet column by column
+unfoldable pub meet : Matrix → Matrix → Matrix
+meet [] [] = []
+meet [] (b ∷ n) = []
+meet (a ∷ m) [] = []
+meet (a ∷ m) (b ∷ n) = bitAnd a b ∷ meet m n
+
+-- "Shift: column c takes old column c+1, the last column takes all phones."
+unfoldable pub shift : (phones : ℕ) → Matrix → Matrix
+shift phones m = drop 1 m ++ (allPhones phones ∷ [])
+
+-- "with columns 0..n−1 cut to {1}": the start of a sentence, where silence stands to the left
+unfoldable pub startCut : (half : ℕ) → Matrix → Matrix
+startCut zero m = m
+startCut (suc half) [] = []
+startCut (suc half) (column ∷ m) = bitAnd column (one 1) ∷ startCut half m
+
+-- "columns n+1..2n all hold 1": silence may stand to the right
+unfoldable pub endsHere : (half : ℕ) → Matrix → Bool
+endsHere half m = all (has 1) (drop (half + 1) m)

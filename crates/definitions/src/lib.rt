@@ -1,0 +1,83 @@
+// The types that every layer shares: a book's header, a tree's node, a network's counts, and refusals by fault.
+ghost use mathlib.Core.Path.{_≡_};
+ghost use Rattle.definitions.specs.Faults.{numberOf};
+
+// The numbers of an H line.
+pub struct Header {
+    // The half-width n: a context has 2n+1 phones.
+    pub half: u32,
+    // States per phone, k.
+    pub states: u32,
+    pub phones: u32,
+    pub classes: u32,
+    pub nodes: u32,
+}
+
+// The five words of a node record; the last three are 0 at a leaf.
+pub struct Node {
+    // 1 for a question, 2 for a leaf.
+    pub kind: u32,
+    // A question's class, a leaf's model.
+    pub value: u32,
+    pub position: u32,
+    pub yes: u32,
+    pub no: u32,
+}
+
+// The numbers of a W line.
+pub struct Counts {
+    // States per metastate, k.
+    pub states: u32,
+    pub metastates: u32,
+    pub arcs: u32,
+}
+
+// The faults of document 01, by their words and in the order of their numbers.
+pub enum Fault {
+    Ragged,
+    Misprint,
+    Range,
+    Order,
+    Backward,
+    Orphan,
+    Count,
+    Foreign,
+    Narrow,
+    Long,
+    Choices,
+    Crowd,
+    Tangle,
+    Short,
+    Utterance,
+    State,
+}
+
+// A fault and the line it was met at, 0 where no line is meant.
+pub struct Refusal {
+    pub fault: Fault,
+    pub line: usize,
+}
+
+// The number that document 01 gives to a fault.
+pub fn number(fault: Fault) -> u32
+    ensures { λ r. ⌜ r ≡ numberOf fault ⌝ }
+{
+    match fault {
+        Fault::Ragged => 11,
+        Fault::Misprint => 12,
+        Fault::Range => 13,
+        Fault::Order => 14,
+        Fault::Backward => 15,
+        Fault::Orphan => 16,
+        Fault::Count => 17,
+        Fault::Foreign => 18,
+        Fault::Narrow => 20,
+        Fault::Long => 22,
+        Fault::Choices => 30,
+        Fault::Crowd => 31,
+        Fault::Tangle => 32,
+        Fault::Short => 33,
+        Fault::Utterance => 41,
+        Fault::State => 42,
+    }
+}
