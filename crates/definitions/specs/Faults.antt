@@ -5,7 +5,7 @@ use Prim.Native.Nat.{ℕ}
 use Rattle.definitions.specs.declared.Fault.{Fault}
 use Rattle.definitions.specs.declared.Fault.the-variants.{Ragged, Misprint, Range, Order, Backward, Orphan, Count, Foreign, Narrow, Long, Choices, Crowd, Tangle, Short, Utterance, State}
 use Rattle.definitions.specs.declared.Refusal.{Refusal}
-use Rattle.definitions.specs.Lists.{if_then_else_}
+use Rattle.definitions.specs.Lists.{if_then_else_, cleared, padded}
 
 -- the table of document 01
 abbrev pub numberOf : Fault → ℕ
@@ -40,7 +40,6 @@ pub record Test : Type 0 where
   pub passes : Bool
 
 infix 68 _unless_
-
 abbrev pub _unless_ : Fault → Bool → Test
 fault unless passes = record { fault = fault; passes = passes }
 
@@ -53,3 +52,9 @@ judge line (t ∷ ts) answer = if t .passes then judge line ts answer else refus
 unfoldable pub andThen : {A B : Type 0} → Outcome A → (A → Outcome B) → Outcome B
 andThen (answered a) next = next a
 andThen (refused r) next = refused r
+
+-- what a lent buffer of `size` numbers holds then: "In every model or text buffer, what follows the answer is 0", and
+-- after a refusal "every word of every output buffer 0"
+unfoldable pub answerLeft : (size : ℕ) → Outcome (List ℕ) → List ℕ
+answerLeft size (answered answer) = padded size answer
+answerLeft size (refused r) = cleared size

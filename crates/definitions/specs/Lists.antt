@@ -6,14 +6,12 @@ use lib.Dec.{eqb}
 use lib.ListN.{length, take, drop, getD, replicate}
 
 infix 0 if_then_else_
-
 abbrev pub if_then_else_ : {A : Type 0} → Bool → A → A → A
 if true then a else b = a
 if false then a else b = b
 
 -- the number at a place of a list, 0 beyond its end
 infixl 80 _!_
-
 abbrev pub _!_ : List ℕ → ℕ → ℕ
 l ! i = getD l i 0
 
@@ -30,6 +28,12 @@ any test (x ∷ l) = test x || any test l
 unfoldable pub select : {A : Type 0} → (A → Bool) → List A → List A
 select test [] = []
 select test (x ∷ l) = if test x then x ∷ select test l else select test l
+
+-- whether the last element, if there is one, passes a test
+unfoldable pub lastPasses : {A : Type 0} → (A → Bool) → List A → Bool
+lastPasses test [] = true
+lastPasses test (x ∷ []) = test x
+lastPasses test (x ∷ y ∷ l) = lastPasses test (y ∷ l)
 
 -- the lists that the elements give, one after the other
 unfoldable pub concatMap : {A B : Type 0} → (A → List B) → List A → List B

@@ -1,0 +1,93 @@
+-- Document 01, "Tree book", its table: the lines of a book, and what they say together.
+use mathlib.Core.List.{List, [], _∷_}
+use Prim.Native.Nat.{ℕ}
+use Prim.Native.Char.{code}
+use lib.Dec.{leb, eqb}
+use mathlib.Core.Bool.{Bool, _&&_}
+use Rattle.definitions.specs.declared.Header.{Header}
+use Rattle.definitions.specs.Lists.{if_then_else_, _!_, concatMap}
+use Rattle.definitions.specs.Lines.{Line}
+
+-- the five letters with the fields that the table names
+pub data BookLine : Type 0 where
+  H : (half states phones classes nodes : ℕ) → BookLine
+  Q : (class phone : ℕ) → BookLine
+  N : (node class position yesNode noNode : ℕ) → BookLine
+  L : (node model : ℕ) → BookLine
+  R : (phone state root : ℕ) → BookLine
+
+-- a line's numbers in the fields of its letter, which is one of these five
+unfoldable pub bookLine : Line → BookLine
+bookLine line =
+    let n : List ℕ = line .numbers in
+    if eqb (line .letter) (code "H") then H (n ! 0) (n ! 1) (n ! 2) (n ! 3) (n ! 4) else
+    if eqb (line .letter) (code "Q") then Q (n ! 0) (n ! 1) else
+    if eqb (line .letter) (code "N") then N (n ! 0) (n ! 1) (n ! 2) (n ! 3) (n ! 4) else
+    if eqb (line .letter) (code "L") then L (n ! 0) (n ! 1) else
+    R (n ! 0) (n ! 1) (n ! 2)
+
+-- the header: the numbers of the H line, which comes first
+abbrev pub noHeader : Header
+noHeader = record { half = 0; states = 0; phones = 0; classes = 0; nodes = 0 }
+
+unfoldable pub headerIn : BookLine → Header
+headerIn (H half states phones classes nodes) =
+    record { half = half; states = states; phones = phones; classes = classes; nodes = nodes }
+headerIn (Q _ _) = noHeader
+headerIn (N _ _ _ _ _) = noHeader
+headerIn (L _ _) = noHeader
+headerIn (R _ _ _) = noHeader
+
+unfoldable pub headerOf : List BookLine → Header
+headerOf [] = noHeader
+headerOf (line ∷ lines) = headerIn line
+
+-- whether a number is one of a book's phones: "Phones .. count from 1"
+unfoldable pub isPhone : (phones : ℕ) → ℕ → Bool
+isPhone phones p = leb 1 p && leb p phones
+
+-- the members of classes. "the class holds that phone"
+pub record Member : Type 0 where
+  pub class : ℕ
+  pub phone : ℕ
+
+unfoldable pub memberIn : BookLine → List Member
+memberIn (H _ _ _ _ _) = []
+memberIn (Q class phone) = record { class = class; phone = phone } ∷ []
+memberIn (N _ _ _ _ _) = []
+memberIn (L _ _) = []
+memberIn (R _ _ _) = []
+
+unfoldable pub membersOf : List BookLine → List Member
+membersOf lines = concatMap memberIn lines
+
+-- the nodes of the trees, in the order of their lines
+pub data TreeNode : Type 0 where
+  question : (class position yesNode noNode : ℕ) → TreeNode
+  leaf : (model : ℕ) → TreeNode
+
+unfoldable pub nodeIn : BookLine → List TreeNode
+nodeIn (H _ _ _ _ _) = []
+nodeIn (Q _ _) = []
+nodeIn (N node class position yesNode noNode) = question class position yesNode noNode ∷ []
+nodeIn (L node model) = leaf model ∷ []
+nodeIn (R _ _ _) = []
+
+unfoldable pub nodesOf : List BookLine → List TreeNode
+nodesOf lines = concatMap nodeIn lines
+
+-- the roots, "in R order"
+unfoldable pub rootIn : BookLine → List ℕ
+rootIn (H _ _ _ _ _) = []
+rootIn (Q _ _) = []
+rootIn (N _ _ _ _ _) = []
+rootIn (L _ _) = []
+rootIn (R phone state root) = root ∷ []
+
+unfoldable pub rootsOf : List BookLine → List ℕ
+rootsOf lines = concatMap rootIn lines
+
+-- the nodes that a node names. "Every node is named exactly once, as a child or as a root"
+unfoldable pub childrenOf : TreeNode → List ℕ
+childrenOf (question class position yesNode noNode) = yesNode ∷ noNode ∷ []
+childrenOf (leaf model) = []

@@ -1,0 +1,123 @@
+-- Document 01, "Tree book": the order and the counts that the lines of a book must keep, and reading a book.
+use mathlib.Core.List.{List, [], _∷_, _++_}
+use mathlib.Core.Bool.{Bool, true, false, not, _&&_, _||_}
+use Prim.Native.Nat.{ℕ, suc, _+_, _*_, _/_, _%_}
+use lib.Dec.{leb, ltb, eqb}
+use lib.ListN.{length}
+use Rattle.definitions.specs.declared.Header.{Header}
+use Rattle.definitions.specs.declared.Fault.the-variants.{Backward, Orphan, Narrow}
+use Rattle.definitions.specs.Faults.{Outcome, answered, refuse, Test, _unless_}
+use Rattle.definitions.specs.Lists.{if_then_else_, select, lastPasses, concatMap, upFrom, times}
+use Rattle.definitions.specs.Lines.{bookForms}
+use Rattle.definitions.specs.Reading.{Kind, readText}
+use Rattle.definitions.specs.BookLines.{BookLine, H, Q, N, L, R, bookLine, headerIn, headerOf, Member, membersOf, TreeNode, nodesOf, rootsOf, childrenOf}
+
+-- 14 for the letter. "Order: one H; Q lines ..; one N or L per node ..; one R for every phone and state"
+unfoldable pub bookFollows : (before : List BookLine) → BookLine → Bool
+bookFollows before (H _ _ _ _ _) = eqb (length before) 0
+bookFollows before (Q _ _) = ltb 0 (length before) && eqb (length (nodesOf before)) 0
+bookFollows before (N _ _ _ _ _) = ltb (length (nodesOf before)) (headerOf before .nodes)
+bookFollows before (L _ _) = ltb (length (nodesOf before)) (headerOf before .nodes)
+bookFollows before (R _ _ _) = ltb 0 (length before) && eqb (length (nodesOf before)) (headerOf before .nodes)
+
+-- 13, "the header's counts". What is lowest is fixed, and stands in the table of each letter.
+unfoldable pub withinHeader : Header → BookLine → Bool
+withinHeader header (H _ _ _ _ _) = true
+withinHeader header (Q class phone) = leb class (header .classes) && leb phone (header .phones)
+withinHeader header (N node class position yesNode noNode) =
+    ltb node (header .nodes) && leb class (header .classes) && leb position (2 * header .half)
+    && ltb yesNode (header .nodes) && ltb noNode (header .nodes)
+withinHeader header (L node model) = ltb node (header .nodes)
+withinHeader header (R phone state root) =
+    leb phone (header .phones) && leb state (header .states) && ltb root (header .nodes)
+
+-- "strictly ascending by (class, phone)"
+unfoldable pub comesBefore : Member → Member → Bool
+comesBefore a b = ltb (a .class) (b .class) || (eqb (a .class) (b .class) && ltb (a .phone) (b .phone))
+
+-- 14 for the numbers. "Q lines strictly ascending by (class, phone); one N or L per node, ascending;
+-- one R for every phone and state, ascending by (phone, state)"
+unfoldable pub bookInOrder : (before : List BookLine) → BookLine → Bool
+bookInOrder before (H _ _ _ _ _) = true
+bookInOrder before (Q class phone) =
+    lastPasses (λ m. comesBefore m (record { class = class; phone = phone })) (membersOf before)
+bookInOrder before (N node _ _ _ _) = eqb node (length (nodesOf before))
+bookInOrder before (L node _) = eqb node (length (nodesOf before))
+bookInOrder before (R phone state _) =
+    let roots : ℕ = length (rootsOf before) in
+    eqb phone (roots / headerOf before .states + 1) && eqb state (roots % headerOf before .states + 1)
+
+-- not 15. "A child's number is greater than its node's."
+unfoldable pub childrenGreater : BookLine → Bool
+childrenGreater (H _ _ _ _ _) = true
+childrenGreater (Q _ _) = true
+childrenGreater (N node class position yesNode noNode) = ltb node yesNode && ltb node noNode
+childrenGreater (L _ _) = true
+childrenGreater (R _ _ _) = true
+
+-- the lengths of the lent tables, in words
+pub record Lent : Type 0 where
+  pub nodes : ℕ
+  pub classes : ℕ
+  pub roots : ℕ
+
+-- not 20, "a table too short for the header"
+unfoldable pub wideEnough : Lent → Header → Bool
+wideEnough lent header =
+    leb (5 * header .nodes) (lent .nodes) && leb (header .classes) (lent .classes)
+    && leb (header .phones * header .states) (lent .roots)
+
+-- "15, with 20 at line 1 after its ranges": a line other than H has no header, which fits every table
+unfoldable pub bookTests : Lent → BookLine → List Test
+bookTests lent line =
+    Backward unless childrenGreater line
+    ∷ Narrow unless wideEnough lent (headerIn line)
+    ∷ []
+
+-- not 17: "one R for every phone and state", a book's last lines
+unfoldable pub bookComplete : List BookLine → Bool
+bookComplete lines =
+    ltb 0 (length lines) && eqb (length (rootsOf lines)) (headerOf lines .phones * headerOf lines .states)
+
+-- the nodes that are not "named exactly once, as a child or as a root", ascending
+unfoldable pub orphans : List TreeNode → (roots : List ℕ) → List ℕ
+orphans nodes roots =
+    let named : List ℕ = concatMap childrenOf nodes ++ roots in
+    select (λ node. not (eqb (times node named) 1)) (upFrom 0 (length nodes))
+
+unfoldable pub isLineOf : (node : ℕ) → BookLine → Bool
+isLineOf node (H _ _ _ _ _) = false
+isLineOf node (Q _ _) = false
+isLineOf node (N other _ _ _ _) = eqb node other
+isLineOf node (L other _) = eqb node other
+isLineOf node (R _ _ _) = false
+
+-- the number of a node's line, where the first of these lines has number `at`
+unfoldable pub nodeLineFrom : (at node : ℕ) → List BookLine → ℕ
+nodeLineFrom at node [] = at
+nodeLineFrom at node (line ∷ lines) = if isLineOf node line then at else nodeLineFrom (suc at) node lines
+
+-- "then 16 at the lowest such node's line"
+unfoldable pub judgeNames : List BookLine → Outcome (List BookLine)
+judgeNames lines =
+    elim (orphans (nodesOf lines) (rootsOf lines)) [
+      | [] ↦ answered lines
+      | node ∷ others ↦ refuse Orphan (nodeLineFrom 1 node lines)
+    ]
+
+unfoldable pub bookKind : Lent → Kind BookLine
+bookKind lent =
+    record {
+      forms = bookForms;
+      view = bookLine;
+      follows = bookFollows;
+      withinCounts = λ before line. withinHeader (headerOf before) line;
+      inOrder = bookInOrder;
+      furtherTests = bookTests lent;
+      complete = bookComplete;
+      afterLast = judgeNames;
+    }
+
+-- Reading a text as a tree book, into lent tables of these lengths: the book's lines, or the refusal.
+unfoldable pub readBook : Lent → (text : List ℕ) → Outcome (List BookLine)
+readBook lent text = readText (bookKind lent) text

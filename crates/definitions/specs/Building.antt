@@ -1,0 +1,81 @@
+-- Document 01, "Connecting": the build from lent tables into lent space, and what every buffer holds afterwards.
+use mathlib.Core.List.{List, [], _∷_, map}
+use Prim.Native.Nat.{ℕ, _/_, min}
+use lib.ListN.{length}
+use Rattle.definitions.specs.declared.Header.{Header}
+use Rattle.definitions.specs.declared.Counts.{Counts}
+use Rattle.definitions.specs.Faults.{Outcome, answered, refused, andThen}
+use Rattle.definitions.specs.Lists.{_!_, concatMap, records, cleared, padded}
+use Rattle.definitions.specs.Matrices.{matrixWords}
+use Rattle.definitions.specs.Tables.{Book, Tables, tablesBook}
+use Rattle.definitions.specs.Combinations.{combinations, combine, combinationWords}
+use Rattle.definitions.specs.Connecting.{Arc, arc, Metastate, Network, Room, Built, finished, stopped, connect}
+
+-- the lengths of the lent space for combinations, metastates and arcs, in words
+pub record Space : Type 0 where
+  pub combinations : ℕ
+  pub metastates : ℕ
+  pub arcs : ℕ
+
+-- "Only whole records of lent space count"; "At most 65535 metastates and 999999 arcs."
+unfoldable pub roomIn : Space → Room
+roomIn space = record { metastates = min (space .metastates / 8) 65535; arcs = min (space .arcs / 4) 999999 }
+
+-- The build: 18, then 30, then 31 or 32 as construction meets them.
+unfoldable pub build : Header → Tables → Space → (limit : ℕ) → Outcome Built
+build header tables space limit =
+    andThen (combine header tables (space .combinations))
+    (λ combos. connect (tablesBook header tables) combos (roomIn space) limit)
+
+-- The answer's numbers.
+unfoldable pub networkIn : Built → Network
+networkIn (finished turns net) = net
+networkIn (stopped turns net) = net
+
+-- "the counts of metastates and arcs", with k
+unfoldable pub countsIn : (states : ℕ) → Network → Counts
+countsIn states net =
+    record { states = states; metastates = length (net .metastates); arcs = length (net .arcs) }
+
+-- The words of the records.
+-- a metastate is "held as eight 64-bit words"
+unfoldable pub metastateWords : Metastate → List ℕ
+metastateWords x = x .number ∷ matrixWords (x .matrix)
+
+-- "An arc is (from, to, model, phone), four 32-bit words"
+unfoldable pub arcWords : Arc → List ℕ
+arcWords a = a .from ∷ a .to ∷ a .model ∷ a .phone ∷ []
+
+unfoldable pub arcOf : List ℕ → Arc
+arcOf words = arc (words ! 0) (words ! 1) (words ! 2) (words ! 3)
+
+-- the arcs in the first `count` records of arc space
+unfoldable pub arcsIn : (count : ℕ) → (words : List ℕ) → List Arc
+arcsIn count words = map arcOf (records 4 count words)
+
+-- What the build leaves in the lent space. "the words after the last record are 0, in metastate and arc space too"
+pub record Buffers : Type 0 where
+  pub combinations : List ℕ
+  pub metastates : List ℕ
+  pub arcs : List ℕ
+
+unfoldable pub buffersOf : Book → Space → Network → Buffers
+buffersOf book space net =
+    record {
+      combinations = padded (space .combinations) (concatMap combinationWords (combinations book));
+      metastates = padded (space .metastates) (concatMap metastateWords (net .metastates));
+      arcs = padded (space .arcs) (concatMap arcWords (net .arcs));
+    }
+
+-- "every word of every output buffer 0"
+unfoldable pub noBuffers : Space → Buffers
+noBuffers space =
+    record {
+      combinations = cleared (space .combinations);
+      metastates = cleared (space .metastates);
+      arcs = cleared (space .arcs);
+    }
+
+unfoldable pub buffersLeft : Book → Space → Outcome Built → Buffers
+buffersLeft book space (answered built) = buffersOf book space (networkIn built)
+buffersLeft book space (refused r) = noBuffers space

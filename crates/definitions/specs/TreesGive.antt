@@ -1,0 +1,95 @@
+-- Document 01, "Transcription": what the trees give to a sequence of phones, read from the book's lines alone.
+-- Nothing here knows of tables or matrices: it is the meaning that demand 3 holds the network to.
+use mathlib.Core.List.{List, [], _∷_, _++_, map}
+use mathlib.Core.Bool.{Bool, true, false, _&&_}
+use mathlib.Core.Option.{Option, none, some}
+use Prim.Native.Nat.{ℕ, zero, suc, _+_, _-_, _*_}
+use lib.Dec.{eqb}
+use lib.ListN.{length, take, drop, replicate}
+use Rattle.definitions.specs.Lists.{if_then_else_, _!_, all, any, concatMap, upFrom}
+use Rattle.definitions.specs.BookLines.{BookLine, H, Q, N, L, R, headerOf, isPhone, TreeNode, question, leaf}
+
+-- "The context of place i in a sequence S has 2n+1 phones: in column c the phone at place i+c−n, or 1 where that lies
+-- beyond either end." With n silences before and after S, place i+c−n of S is place i+c. So the contexts are windows of
+-- 2n+1 phones, each one place further on.
+unfoldable pub windows : (width count : ℕ) → List ℕ → List (List ℕ)
+windows width zero phones = []
+windows width (suc count) phones = take width phones ∷ windows width count (drop 1 phones)
+
+unfoldable pub withSilence : (half : ℕ) → (S : List ℕ) → List ℕ
+withSilence half S = replicate half 1 ++ S ++ replicate half 1
+
+unfoldable pub contexts : (half : ℕ) → (S : List ℕ) → List (List ℕ)
+contexts half S = windows (2 * half + 1) (length S) (withSilence half S)
+
+-- "the node in the R line of the phone .. and that state"
+unfoldable pub rootLine : List BookLine → (phone state : ℕ) → Option ℕ
+rootLine [] phone state = none
+rootLine (H _ _ _ _ _ ∷ lines) phone state = rootLine lines phone state
+rootLine (Q _ _ ∷ lines) phone state = rootLine lines phone state
+rootLine (N _ _ _ _ _ ∷ lines) phone state = rootLine lines phone state
+rootLine (L _ _ ∷ lines) phone state = rootLine lines phone state
+rootLine (R p s root ∷ lines) phone state =
+    if eqb p phone && eqb s state then some root else rootLine lines phone state
+
+-- what the N or L line of a node says
+unfoldable pub nodeLine : List BookLine → (node : ℕ) → Option TreeNode
+nodeLine [] node = none
+nodeLine (H _ _ _ _ _ ∷ lines) node = nodeLine lines node
+nodeLine (Q _ _ ∷ lines) node = nodeLine lines node
+nodeLine (N m class position yesNode noNode ∷ lines) node =
+    if eqb m node then some (question class position yesNode noNode) else nodeLine lines node
+nodeLine (L m model ∷ lines) node = if eqb m node then some (leaf model) else nodeLine lines node
+nodeLine (R _ _ _ ∷ lines) node = nodeLine lines node
+
+-- whether "a Q line puts the context's phone .. into its class"
+unfoldable pub isMemberLine : (class phone : ℕ) → BookLine → Bool
+isMemberLine class phone (H _ _ _ _ _) = false
+isMemberLine class phone (Q c p) = eqb c class && eqb p phone
+isMemberLine class phone (N _ _ _ _ _) = false
+isMemberLine class phone (L _ _) = false
+isMemberLine class phone (R _ _ _) = false
+
+unfoldable pub putInClass : List BookLine → (class phone : ℕ) → Bool
+putInClass lines class phone = any (isMemberLine class phone) lines
+
+-- "At an N line go to its yes node if a Q line puts the context's phone at its position into its class, else to its no
+-- node. At an L line its model is given." The walk meets greater nodes only, so as many steps as lines are enough.
+unfoldable pub modelBelow : (steps : ℕ) → List BookLine → (context : List ℕ) → (node : ℕ) → Option ℕ
+modelBelow zero lines context node = none
+modelBelow (suc steps) lines context node =
+    elim (nodeLine lines node) [
+      | none ↦ none
+      | some (question class position yesNode noNode) ↦
+          modelBelow steps lines context (if putInClass lines class (context ! position) then yesNode else noNode)
+      | some (leaf model) ↦ some model
+    ]
+
+-- "For each state, start at the node in the R line of the phone at i and that state."
+unfoldable pub modelGiven : List BookLine → (context : List ℕ) → (state : ℕ) → Option ℕ
+modelGiven lines context state =
+    elim (rootLine lines (context ! headerOf lines .half) state) [
+      | none ↦ none
+      | some root ↦ modelBelow (length lines) lines context root
+    ]
+
+-- all answers in order, or none if one of them is none
+unfoldable pub together : List (Option ℕ) → Option (List ℕ)
+together [] = some []
+together (none ∷ answers) = none
+together (some a ∷ answers) = elim (together answers) [ none ↦ none | some rest ↦ some (a ∷ rest) ]
+
+-- "phones in order and within each phone the states ascending"
+unfoldable pub modelsAlong : List BookLine → (contexts : List (List ℕ)) → Option (List ℕ)
+modelsAlong lines contexts =
+    together
+    (concatMap (λ context. map (λ state. modelGiven lines context state) (upFrom 1 (headerOf lines .states))) contexts)
+
+-- "The trees give S these models .. To the empty sequence they give the empty M, to one with a phone out of range no M."
+unfoldable pub treesGive : List BookLine → (S : List ℕ) → Option (List ℕ)
+treesGive lines S =
+    if all (isPhone (headerOf lines .phones)) S then modelsAlong lines (contexts (headerOf lines .half) S) else none
+
+-- "S begins and ends with silence" (the empty sequence has no phone there)
+unfoldable pub silentEnds : (S : List ℕ) → Bool
+silentEnds S = eqb (S ! 0) 1 && eqb (S ! (length S - 1)) 1
