@@ -17,4 +17,5 @@ pub mod Leaving
 pub mod TreesGive
 pub mod Transcription
 pub mod Program
+pub mod laws
 pub mod demand
