@@ -1,6 +1,6 @@
 -- Document 01, "Tree book", its table: the lines of a book, and what they say together.
 use mathlib.Core.List.{List, [], _∷_}
-use Prim.Native.Nat.{ℕ}
+use Prim.Native.Nat.{ℕ, _*_}
 use Prim.Native.Char.{code}
 use lib.Dec.{leb, eqb}
 use mathlib.Core.Bool.{Bool, _&&_}
@@ -41,6 +41,10 @@ headerIn (R _ _ _) = noHeader
 unfoldable pub headerOf : List BookLine → Header
 headerOf [] = noHeader
 headerOf (line ∷ lines) = headerIn line
+
+-- "one R for every phone and state"
+unfoldable pub rootCount : Header → ℕ
+rootCount header = header .phones * header .states
 
 -- whether a number is one of a book's phones: "Phones .. count from 1"
 unfoldable pub isPhone : (phones : ℕ) → ℕ → Bool

@@ -8,9 +8,10 @@ use Rattle.definitions.specs.declared.Header.{Header}
 use Rattle.definitions.specs.declared.Fault.the-variants.{Backward, Orphan, Narrow}
 use Rattle.definitions.specs.Faults.{Outcome, answered, refuse, Test, _unless_}
 use Rattle.definitions.specs.Lists.{if_then_else_, select, lastPasses, concatMap, upFrom, times}
-use Rattle.definitions.specs.Lines.{bookForms}
+use Rattle.definitions.specs.Forms.{bookForms}
 use Rattle.definitions.specs.Reading.{Kind, readText}
-use Rattle.definitions.specs.BookLines.{BookLine, H, Q, N, L, R, bookLine, headerIn, headerOf, Member, membersOf, TreeNode, nodesOf, rootsOf, childrenOf}
+use Rattle.definitions.specs.BookLines.{BookLine, H, Q, N, L, R, bookLine, headerIn, headerOf, rootCount}
+use Rattle.definitions.specs.BookLines.{Member, membersOf, TreeNode, nodesOf, rootsOf, childrenOf}
 
 -- 14 for the letter. "Order: one H; Q lines ..; one N or L per node ..; one R for every phone and state"
 unfoldable pub bookFollows : (before : List BookLine) → BookLine → Bool
@@ -61,11 +62,15 @@ pub record Lent : Type 0 where
   pub classes : ℕ
   pub roots : ℕ
 
+-- "for each node five 32-bit words"
+abbrev pub nodeSize : ℕ
+nodeSize = 5
+
 -- not 20, "a table too short for the header"
 unfoldable pub wideEnough : Lent → Header → Bool
 wideEnough lent header =
-    leb (5 * header .nodes) (lent .nodes) && leb (header .classes) (lent .classes)
-    && leb (header .phones * header .states) (lent .roots)
+    leb (nodeSize * header .nodes) (lent .nodes) && leb (header .classes) (lent .classes)
+    && leb (rootCount header) (lent .roots)
 
 -- "15, with 20 at line 1 after its ranges": a line other than H has no header, which fits every table
 unfoldable pub bookTests : Lent → BookLine → List Test
@@ -77,7 +82,7 @@ bookTests lent line =
 -- not 17: "one R for every phone and state", a book's last lines
 unfoldable pub bookComplete : List BookLine → Bool
 bookComplete lines =
-    ltb 0 (length lines) && eqb (length (rootsOf lines)) (headerOf lines .phones * headerOf lines .states)
+    ltb 0 (length lines) && eqb (length (rootsOf lines)) (rootCount (headerOf lines))
 
 -- the nodes that are not "named exactly once, as a child or as a root", ascending
 unfoldable pub orphans : List TreeNode → (roots : List ℕ) → List ℕ

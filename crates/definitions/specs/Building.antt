@@ -11,6 +11,28 @@ use Rattle.definitions.specs.Tables.{Book, Tables, tablesBook}
 use Rattle.definitions.specs.Combinations.{combinations, combine, combinationWords}
 use Rattle.definitions.specs.Connecting.{Arc, arc, Metastate, Network, Room, Built, finished, stopped, connect}
 
+-- The words of the records.
+-- a metastate is "held as eight 64-bit words"
+abbrev pub metastateSize : ℕ
+metastateSize = 8
+
+unfoldable pub metastateWords : Metastate → List ℕ
+metastateWords x = x .number ∷ matrixWords (x .matrix)
+
+-- "An arc is (from, to, model, phone), four 32-bit words"
+abbrev pub arcSize : ℕ
+arcSize = 4
+
+unfoldable pub arcWords : Arc → List ℕ
+arcWords a = a .from ∷ a .to ∷ a .model ∷ a .phone ∷ []
+
+unfoldable pub arcOf : List ℕ → Arc
+arcOf words = arc (words ! 0) (words ! 1) (words ! 2) (words ! 3)
+
+-- the arcs in the first `count` records of arc space
+unfoldable pub arcsIn : (count : ℕ) → (words : List ℕ) → List Arc
+arcsIn count words = map arcOf (records arcSize count words)
+
 -- the lengths of the lent space for combinations, metastates and arcs, in words
 pub record Space : Type 0 where
   pub combinations : ℕ
@@ -19,13 +41,17 @@ pub record Space : Type 0 where
 
 -- "Only whole records of lent space count"; "At most 65535 metastates and 999999 arcs."
 unfoldable pub roomIn : Space → Room
-roomIn space = record { metastates = min (space .metastates / 8) 65535; arcs = min (space .arcs / 4) 999999 }
+roomIn space =
+    record {
+      metastates = min (space .metastates / metastateSize) 65535;
+      arcs = min (space .arcs / arcSize) 999999;
+    }
 
 -- The build: 18, then 30, then 31 or 32 as construction meets them.
 unfoldable pub build : Header → Tables → Space → (limit : ℕ) → Outcome Built
 build header tables space limit =
     andThen (combine header tables (space .combinations))
-    (λ combos. connect (tablesBook header tables) combos (roomIn space) limit)
+    (λ found. connect (tablesBook header tables) found (roomIn space) limit)
 
 -- The answer's numbers.
 unfoldable pub networkIn : Built → Network
@@ -36,22 +62,6 @@ networkIn (stopped turns net) = net
 unfoldable pub countsIn : (states : ℕ) → Network → Counts
 countsIn states net =
     record { states = states; metastates = length (net .metastates); arcs = length (net .arcs) }
-
--- The words of the records.
--- a metastate is "held as eight 64-bit words"
-unfoldable pub metastateWords : Metastate → List ℕ
-metastateWords x = x .number ∷ matrixWords (x .matrix)
-
--- "An arc is (from, to, model, phone), four 32-bit words"
-unfoldable pub arcWords : Arc → List ℕ
-arcWords a = a .from ∷ a .to ∷ a .model ∷ a .phone ∷ []
-
-unfoldable pub arcOf : List ℕ → Arc
-arcOf words = arc (words ! 0) (words ! 1) (words ! 2) (words ! 3)
-
--- the arcs in the first `count` records of arc space
-unfoldable pub arcsIn : (count : ℕ) → (words : List ℕ) → List Arc
-arcsIn count words = map arcOf (records 4 count words)
 
 -- What the build leaves in the lent space. "the words after the last record are 0, in metastate and arc space too"
 pub record Buffers : Type 0 where

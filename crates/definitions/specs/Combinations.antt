@@ -1,6 +1,5 @@
 -- Document 01, "Matrices and metastates": the leaves of a tree with their matrices, and the valid combinations of leaves.
 use mathlib.Core.List.{List, [], _∷_, _++_, map}
-use mathlib.Core.Bool.{Bool}
 use Prim.Native.Nat.{ℕ, zero, suc, _+_, _-_, _*_, _/_, min}
 use lib.Dec.{leb, ltb}
 use lib.ListN.{length}
@@ -9,8 +8,9 @@ use Rattle.definitions.specs.declared.Fault.the-variants.{Foreign, Choic
 use Rattle.definitions.specs.Faults.{Outcome, answered, refused, _unless_, judge}
 use Rattle.definitions.specs.Lists.{if_then_else_, _!_, concatMap, upFrom, cleared, padded}
 use Rattle.definitions.specs.Matrices.{Matrix, matrixWords, rootMatrix, yesSide, noSide, valid, meet}
-use Rattle.definitions.specs.BookLines.{TreeNode, question, leaf}
-use Rattle.definitions.specs.Tables.{Book, Tables, tablesBook, tablesKnown}
+use Rattle.definitions.specs.BookLines.{question, leaf}
+use Rattle.definitions.specs.Tables.{Book, Tables, tablesBook}
+use Rattle.definitions.specs.ForeignTables.{tablesKnown}
 use Rattle.definitions.specs.Lookup.{nodeAt}
 
 -- a leaf of a tree: its node number, and the matrix of the contexts that reach it
@@ -74,24 +74,27 @@ unfoldable pub combinations : Book → List Combination
 combinations book = concatMap (λ phone. combinationsOf book phone) (upFrom 1 (book .phones))
 
 -- "each held as eleven 64-bit words: phone, three leaf nodes (0 beyond k), matrix"
+abbrev pub combinationSize : ℕ
+combinationSize = 11
+
 unfoldable pub combinationWords : Combination → List ℕ
 combinationWords c = c .phone ∷ padded 3 (c .leaves) ++ matrixWords (c .matrix)
 
 -- "Only whole records of lent space count"; "more combinations than the lent space or 65535"
 unfoldable pub combinationRoom : (space : ℕ) → ℕ
-combinationRoom space = min (space / 11) 65535
+combinationRoom space = min (space / combinationSize) 65535
 
 -- the combinations of a book in tables, into lent space of so many words: 18, then 30
 unfoldable pub combine : Header → Tables → (space : ℕ) → Outcome (List Combination)
 combine header tables space =
-    let all : List Combination = combinations (tablesBook header tables) in
+    let found : List Combination = combinations (tablesBook header tables) in
     judge 0
     (Foreign unless tablesKnown header tables
-    ∷ Choices unless leb (length all) (combinationRoom space)
+    ∷ Choices unless leb (length found) (combinationRoom space)
     ∷ [])
-    (answered all)
+    (answered found)
 
 -- "the words after the last record are 0"
 unfoldable pub combinationSpace : (space : ℕ) → Outcome (List Combination) → List ℕ
-combinationSpace space (answered all) = padded space (concatMap combinationWords all)
+combinationSpace space (answered found) = padded space (concatMap combinationWords found)
 combinationSpace space (refused r) = cleared space

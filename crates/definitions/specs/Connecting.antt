@@ -63,44 +63,47 @@ ownArcs state (model ∷ models) = arc state (suc state) model 0 ∷ ownArcs (su
 abbrev pub noCombination : Combination
 noCombination = record { phone = 0; leaves = []; matrix = [] }
 
-module _ (book : Book) (combos : List Combination) where
-  unfoldable pub combinationOf : Metastate → Combination
-  combinationOf x = getD combos (x .number) noCombination
+-- "Start metastates: each silence combination whose matrix, with columns 0..n−1 cut to {1}, is valid, with that cut
+-- matrix, in combination order." The list begins with combination `number`.
+unfoldable pub startsFrom : (half number : ℕ) → List Combination → List Metastate
+startsFrom half number [] = []
+startsFrom half number (c ∷ cs) =
+    let cut : Matrix = startCut half (c .matrix) in
+    if eqb (c .phone) 1 && valid cut
+    then record { number = number; matrix = cut } ∷ startsFrom half (suc number) cs
+    else startsFrom half (suc number) cs
 
-  unfoldable pub phoneOf : Metastate → ℕ
-  phoneOf x = combinationOf x .phone
+-- "for each combination in order whose matrix meets q's shifted matrix validly"; "The new metastate carries the meet,
+-- not the combination's own matrix." The list begins with combination `number`.
+unfoldable pub followersFrom : (shifted : Matrix) → (number : ℕ) → List Combination → List Metastate
+followersFrom shifted number [] = []
+followersFrom shifted number (c ∷ cs) =
+    let met : Matrix = meet shifted (c .matrix) in
+    if valid met
+    then record { number = number; matrix = met } ∷ followersFrom shifted (suc number) cs
+    else followersFrom shifted (suc number) cs
+
+-- a metastate's combination, and its phone
+unfoldable pub combinationOf : (combinations : List Combination) → Metastate → Combination
+combinationOf combinations x = getD combinations (x .number) noCombination
+
+unfoldable pub phoneOf : (combinations : List Combination) → Metastate → ℕ
+phoneOf combinations x = combinationOf combinations x .phone
+
+module _ (book : Book) (combinations : List Combination) where
+  unfoldable pub starts : List Metastate
+  starts = startsFrom (book .half) 0 combinations
+
+  unfoldable pub followers : Metastate → List Metastate
+  followers q = followersFrom (shift (book .phones) (q .matrix)) 0 combinations
 
   -- the models of a metastate's states
   unfoldable pub modelsOf : Metastate → List ℕ
-  modelsOf x = map (λ node. modelAt (book .nodes) node) (combinationOf x .leaves)
-
-  -- "Start metastates: each silence combination whose matrix, with columns 0..n−1 cut to {1}, is valid, with that cut
-  -- matrix, in combination order." The list begins with combination `number`.
-  unfoldable pub startsFrom : (number : ℕ) → List Combination → List Metastate
-  startsFrom number [] = []
-  startsFrom number (c ∷ cs) =
-      if eqb (c .phone) 1 && valid (startCut (book .half) (c .matrix))
-      then record { number = number; matrix = startCut (book .half) (c .matrix) } ∷ startsFrom (suc number) cs
-      else startsFrom (suc number) cs
-
-  unfoldable pub starts : List Metastate
-  starts = startsFrom 0 combos
-
-  -- "for each combination in order whose matrix meets q's shifted matrix validly"; "The new metastate carries the meet,
-  -- not the combination's own matrix." The list begins with combination `number`.
-  unfoldable pub followersFrom : (number : ℕ) → (shifted : Matrix) → List Combination → List Metastate
-  followersFrom number shifted [] = []
-  followersFrom number shifted (c ∷ cs) =
-      if valid (meet shifted (c .matrix))
-      then record { number = number; matrix = meet shifted (c .matrix) } ∷ followersFrom (suc number) shifted cs
-      else followersFrom (suc number) shifted cs
-
-  unfoldable pub followers : Metastate → List Metastate
-  followers q = followersFrom 0 (shift (book .phones) (q .matrix)) combos
+  modelsOf x = map (λ node. modelAt (book .nodes) node) (combinationOf combinations x .leaves)
 
   -- "if its phone is 1 and columns n+1..2n all hold 1, the arc from its last state to 1 with 0, 0"
   unfoldable pub mayEnd : Metastate → Bool
-  mayEnd q = eqb (phoneOf q) 1 && endsHere (book .half) (q .matrix)
+  mayEnd q = eqb (phoneOf combinations q) 1 && endsHere (book .half) (q .matrix)
 
   unfoldable pub finalArcs : (place : ℕ) → Metastate → List Arc
   finalArcs place q = if mayEnd q then arc (lastState (book .states) place) FINAL 0 0 ∷ [] else []
@@ -118,7 +121,7 @@ module _ (book : Book) (combos : List Combination) where
 
   -- the arc to a metastate's first state, "with its first model and its phone"
   unfoldable pub arcInto : (from place : ℕ) → Metastate → Arc
-  arcInto from place x = arc from (firstState (book .states) place) (modelsOf x ! 0) (phoneOf x)
+  arcInto from place x = arc from (firstState (book .states) place) (modelsOf x ! 0) (phoneOf combinations x)
 
 -- the place of a metastate in the table, "which is new if number and matrix have not occurred";
 -- the first of the table has place `at`
@@ -153,16 +156,16 @@ pub data Built : Type 0 where
 abbrev pub noMetastate : Metastate
 noMetastate = record { number = 0; matrix = [] }
 
-module _ (book : Book) (combos : List Combination) (room : Room) where
+module _ (book : Book) (combinations : List Combination) (room : Room) where
   -- "31 before the arc to that metastate"
   unfoldable pub perform : Network → Event → Outcome Network
   perform net (plain a) = addArc room a net
   perform net (enter from x) =
       elim (placeFrom 0 x (net .metastates)) [
-        | some place ↦ addArc room (arcInto book combos from place x) net
+        | some place ↦ addArc room (arcInto book combinations from place x) net
         | none ↦
             andThen (addMetastate room x net)
-            (λ grown. addArc room (arcInto book combos from (length (net .metastates)) x) grown)
+            (λ grown. addArc room (arcInto book combinations from (length (net .metastates)) x) grown)
       ]
 
   unfoldable pub performAll : Network → List Event → Outcome Network
@@ -177,12 +180,12 @@ module _ (book : Book) (combos : List Combination) (room : Room) where
       elim (ltb turns (length (net .metastates))) [
         | false ↦ answered (finished turns net)
         | true ↦
-            andThen (performAll net (turnEvents book combos turns (getD (net .metastates) turns noMetastate)))
+            andThen (performAll net (turnEvents book combinations turns (getD (net .metastates) turns noMetastate)))
             (λ next. turnsFrom limit (suc turns) next)
       ]
 
   -- "First come the arcs from 0 ..", "Then each turn takes the oldest unexpanded metastate"
   unfoldable pub connect : (limit : ℕ) → Outcome Built
   connect limit =
-      andThen (performAll (record { metastates = []; arcs = [] }) (startEvents book combos))
+      andThen (performAll (record { metastates = []; arcs = [] }) (startEvents book combinations))
       (λ net. turnsFrom limit 0 net)

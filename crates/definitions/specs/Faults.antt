@@ -3,7 +3,9 @@ use mathlib.Core.List.{List, [], _∷_}
 use mathlib.Core.Bool.{Bool}
 use Prim.Native.Nat.{ℕ}
 use Rattle.definitions.specs.declared.Fault.{Fault}
-use Rattle.definitions.specs.declared.Fault.the-variants.{Ragged, Misprint, Range, Order, Backward, Orphan, Count, Foreign, Narrow, Long, Choices, Crowd, Tangle, Short, Utterance, State}
+use Rattle.definitions.specs.declared.Fault.the-variants.{Ragged, Misprint, Range, Order, Backward, Orphan, Count}
+use Rattle.definitions.specs.declared.Fault.the-variants.{Foreign, Narrow, Long, Choices, Crowd, Tangle, Short}
+use Rattle.definitions.specs.declared.Fault.the-variants.{Utterance, State}
 use Rattle.definitions.specs.declared.Refusal.{Refusal}
 use Rattle.definitions.specs.Lists.{if_then_else_, cleared, padded}
 

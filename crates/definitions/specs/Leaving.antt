@@ -8,7 +8,7 @@ use Rattle.definitions.specs.declared.Fault.the-variants.{Foreign, State
 use Rattle.definitions.specs.Faults.{Outcome, answered, refused, _unless_, judge}
 use Rattle.definitions.specs.Lists.{select}
 use Rattle.definitions.specs.Connecting.{Arc}
-use Rattle.definitions.specs.Building.{arcsIn}
+use Rattle.definitions.specs.Building.{arcSize, arcsIn}
 use Rattle.definitions.specs.NetworkText.{networkKnown, isState}
 
 -- a part of the arc list: the place of its first arc, and how many arcs it has
@@ -41,4 +41,4 @@ partHanded (refused r) = record { start = 0; count = 0 }
 
 -- the words of the part
 unfoldable pub partWords : (words : List ℕ) → Part → List ℕ
-partWords words part = take (4 * part .count) (drop (4 * part .start) words)
+partWords words part = take (arcSize * part .count) (drop (arcSize * part .start) words)

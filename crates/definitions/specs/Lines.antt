@@ -1,12 +1,14 @@
--- Document 01, "Tree book", its first paragraph: the line of 32 bytes, read and written by one constant table per letter.
+-- Document 01, "Tree book", its first paragraph: the line of 32 bytes, read by the table of its letter, and written.
 use mathlib.Core.List.{List, [], _∷_, _++_, map}
-use mathlib.Core.Bool.{Bool, true, false, not, _&&_}
+use mathlib.Core.Bool.{Bool, true, false, _&&_}
 use mathlib.Core.Option.{Option, none, some}
-use Prim.Native.Nat.{ℕ, zero, suc, _+_, _-_, _*_, _/_, _%_}
-use Prim.Native.Char.{Char, code}
+use Prim.Native.Nat.{ℕ, _-_, _*_, _/_, _%_}
+use Prim.Native.Char.{code}
 use lib.Dec.{leb, ltb, eqb}
 use lib.ListN.{length, drop, replicate}
 use Rattle.definitions.specs.Lists.{if_then_else_, _!_, all, concatMap, records}
+use Rattle.definitions.specs.Numerals.{isNumeral, valueOf, numeral}
+use Rattle.definitions.specs.Forms.{Range, Form}
 
 -- the bytes that have a meaning of their own
 abbrev pub space : ℕ
@@ -14,33 +16,6 @@ space = code " "
 
 abbrev pub lineFeed : ℕ
 lineFeed = code "\n"
-
--- Numbers. "A number is .. without leading zeros (zero is `0`)."
-unfoldable pub isDigit : ℕ → Bool
-isDigit byte = leb (code "0") byte && leb byte (code "9")
-
--- whether the bytes are a number's digits, without leading zeros
-unfoldable pub isNumeral : List ℕ → Bool
-isNumeral [] = false
-isNumeral (byte ∷ []) = isDigit byte
-isNumeral (byte ∷ next ∷ bytes) = isDigit byte && not (eqb byte (code "0")) && all isDigit (next ∷ bytes)
-
--- the number that digits give, after digits that give `value`
-unfoldable pub valueOf : (value : ℕ) → List ℕ → ℕ
-valueOf value [] = value
-valueOf value (byte ∷ bytes) = valueOf (value * 10 + (byte - code "0")) bytes
-
--- a number's digits; a number has fewer digits than `enough` if that is the number itself
-unfoldable pub numeralWithin : (enough n : ℕ) → List ℕ
-numeralWithin zero n = (code "0" + n) ∷ []
-numeralWithin (suc enough) n =
-    elim (ltb n 10) [
-      | true ↦ (code "0" + n) ∷ []
-      | false ↦ numeralWithin enough (n / 10) ++ ((code "0" + n % 10) ∷ [])
-    ]
-
-unfoldable pub numeral : ℕ → List ℕ
-numeral n = numeralWithin n n
 
 -- Fields. "five fields of six bytes"
 pub data Field : Type 0 where
@@ -63,58 +38,6 @@ fieldOf bytes = digitsField (skipSpaces bytes)
 
 unfoldable pub fieldText : ℕ → List ℕ
 fieldText n = replicate (6 - length (numeral n)) space ++ numeral n
-
--- The table of each letter: "used fields, lowest and highest fixed values"
-pub record Range : Type 0 where
-  pub lowest : ℕ
-  pub highest : ℕ
-
-infix 68 _‥_
-abbrev pub _‥_ : ℕ → ℕ → Range
-lowest ‥ highest = record { lowest = lowest; highest = highest }
-
-pub record Form : Type 0 where
-  pub letter : ℕ
-  pub fields : List Range
-
-infix 66 _∣_
-abbrev pub _∣_ : Char → List Range → Form
-letter ∣ fields = record { letter = code letter; fields = fields }
-
--- "H | half-width n 0..3, states per phone k 1..3, phones 1..64, classes 0..255, nodes 1..4096"
-abbrev pub formH : Form
-formH = "H" ∣ 0 ‥ 3 ∷ 1 ‥ 3 ∷ 1 ‥ 64 ∷ 0 ‥ 255 ∷ 1 ‥ 4096 ∷ []
-
--- "Q | class, phone"
-abbrev pub formQ : Form
-formQ = "Q" ∣ 1 ‥ 255 ∷ 1 ‥ 64 ∷ []
-
--- "N | node, class, position 0..2n, yes node, no node"
-abbrev pub formN : Form
-formN = "N" ∣ 0 ‥ 4095 ∷ 1 ‥ 255 ∷ 0 ‥ 6 ∷ 0 ‥ 4095 ∷ 0 ‥ 4095 ∷ []
-
--- "L | node, model 1..65535"
-abbrev pub formL : Form
-formL = "L" ∣ 0 ‥ 4095 ∷ 1 ‥ 65535 ∷ []
-
--- "R | phone, state, root node"
-abbrev pub formR : Form
-formR = "R" ∣ 1 ‥ 64 ∷ 1 ‥ 3 ∷ 0 ‥ 4095 ∷ []
-
--- "`W` with k, metastates, arcs": "k 1..3, metastates 1..65535, arcs 1..999999"
-abbrev pub formW : Form
-formW = "W" ∣ 1 ‥ 3 ∷ 1 ‥ 65535 ∷ 1 ‥ 999999 ∷ []
-
--- "one `A` per arc with from, to, model, phone": "states below 2+k×metastates, models to 65535, phones to 64"
-abbrev pub formA : Form
-formA = "A" ∣ 0 ‥ 196606 ∷ 0 ‥ 196606 ∷ 0 ‥ 65535 ∷ 0 ‥ 64 ∷ []
-
--- the letters that a tree book has, and those that network text has
-abbrev pub bookForms : List Form
-bookForms = formH ∷ formQ ∷ formN ∷ formL ∷ formR ∷ []
-
-abbrev pub networkForms : List Form
-networkForms = formW ∷ formA ∷ []
 
 -- Lines. A line read: its letter, and the numbers in its used fields.
 pub record Line : Type 0 where

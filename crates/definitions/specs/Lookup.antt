@@ -2,15 +2,17 @@
 use mathlib.Core.List.{List, [], _∷_, map}
 use mathlib.Core.Bool.{Bool, _&&_}
 use Prim.Native.Nat.{ℕ, zero, suc, _+_, _-_, _*_}
-use lib.Dec.{leb, ltb, eqb}
+use lib.Dec.{ltb, eqb}
 use lib.ListN.{length, getD}
+use Rattle.definitions.specs.declared.Header.{Header}
 use Rattle.definitions.specs.declared.Node.{Node}
 use Rattle.definitions.specs.declared.Fault.the-variants.{Foreign, Range}
 use Rattle.definitions.specs.Faults.{Outcome, answered, _unless_, judge}
 use Rattle.definitions.specs.Lists.{if_then_else_, _!_, all}
 use Rattle.definitions.specs.PhoneSets.{has}
 use Rattle.definitions.specs.BookLines.{isPhone, TreeNode, question, leaf}
-use Rattle.definitions.specs.Tables.{treeNode, nodesKnown, classesKnown}
+use Rattle.definitions.specs.Tables.{treeNode}
+use Rattle.definitions.specs.ForeignTables.{headerKnown, nodesKnown, classTableKnown}
 
 abbrev pub nodeAt : List TreeNode → ℕ → TreeNode
 nodeAt nodes node = getD nodes node (leaf 0)
@@ -37,24 +39,23 @@ unfoldable pub leafReached : List TreeNode → (classes context : List ℕ) → 
 leafReached nodes classes context root = walk (length nodes) nodes classes context root
 
 -- not 18: "A record that no N or L line leaves, a child not greater than its node or not in the list, or a root not in
--- the list is 18 (how often nodes are named is not judged here)". The list's length is the number of nodes, and that of
--- the classes their number.
-unfoldable pub lookupKnown : (half phones : ℕ) (classes : List ℕ) (nodes : List Node) (root : ℕ) → Bool
-lookupKnown half phones classes nodes root =
-    leb half 3 && leb 1 phones && leb phones 64
-    && leb (length classes) 255 && classesKnown phones classes
-    && leb (length nodes) 4096 && nodesKnown half (length classes) (length nodes) 0 nodes
-    && ltb root (length nodes)
+-- the list is 18 (how often nodes are named is not judged here)". The list holds the header's nodes and no others.
+unfoldable pub lookupKnown : Header → (classes : List ℕ) → List Node → (root : ℕ) → Bool
+lookupKnown header classes nodes root =
+    headerKnown header
+    && eqb (length nodes) (header .nodes) && nodesKnown header 0 nodes
+    && classTableKnown header classes
+    && ltb root (header .nodes)
 
 -- not 13: "a context that is not 2n+1 phones in range is 13"
-unfoldable pub isContext : (half phones : ℕ) → List ℕ → Bool
-isContext half phones context = eqb (length context) (2 * half + 1) && all (isPhone phones) context
+unfoldable pub isContext : Header → List ℕ → Bool
+isContext header context = eqb (length context) (2 * header .half + 1) && all (isPhone (header .phones)) context
 
 -- "answers the node number of the leaf that a context reaches from a root"
-unfoldable pub lookup : (half phones : ℕ) (classes : List ℕ) (nodes : List Node) (root : ℕ) (context : List ℕ) → Outcome ℕ
-lookup half phones classes nodes root context =
+unfoldable pub lookup : Header → (classes : List ℕ) → List Node → (root : ℕ) → (context : List ℕ) → Outcome ℕ
+lookup header classes nodes root context =
     judge 0
-    (Foreign unless lookupKnown half phones classes nodes root
-    ∷ Range unless isContext half phones context
+    (Foreign unless lookupKnown header classes nodes root
+    ∷ Range unless isContext header context
     ∷ [])
     (answered (leafReached (map treeNode nodes) classes context root))

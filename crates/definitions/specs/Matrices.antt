@@ -1,7 +1,7 @@
 -- Document 01, "Matrices and metastates", its first paragraph and the shift: matrices of 2n+1 columns, each a set of phones.
 -- Nothing here but `rootMatrix` knows the width: it is the length of the list.
 use mathlib.Core.List.{List, [], _∷_, _++_}
-use mathlib.Core.Bool.{Bool, true, false, not, _&&_}
+use mathlib.Core.Bool.{Bool, not}
 use Prim.Native.Nat.{ℕ, zero, suc, _+_}
 use lib.Dec.{eqb}
 use lib.Bits.{bitAnd}
@@ -14,8 +14,11 @@ abbrev pub Matrix : Type 0
 Matrix = List ℕ
 
 -- "it is kept as seven 64-bit words, the unused ones 0"
+abbrev pub matrixSize : ℕ
+matrixSize = 7
+
 unfoldable pub matrixWords : Matrix → List ℕ
-matrixWords m = padded 7 m
+matrixWords m = padded matrixSize m
 
 -- "A root's matrix for phone p has all phones in every column but column n, which has p alone."
 unfoldable pub rootMatrix : (half phones p : ℕ) → Matrix

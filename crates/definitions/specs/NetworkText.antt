@@ -1,6 +1,6 @@
 -- Document 01, "Connecting": network text out and in, and what each leaves in its buffer.
-use mathlib.Core.List.{List, [], _∷_, _++_, map}
-use mathlib.Core.Bool.{Bool, true, false, _&&_}
+use mathlib.Core.List.{List, [], _∷_, _++_}
+use mathlib.Core.Bool.{Bool, true, _&&_}
 use Prim.Native.Nat.{ℕ, suc, _+_, _*_}
 use Prim.Native.Char.{code}
 use lib.Dec.{leb, ltb, eqb}
@@ -9,11 +9,12 @@ use Rattle.definitions.specs.declared.Counts.{Counts}
 use Rattle.definitions.specs.declared.Fault.the-variants.{Foreign, Narrow, Short}
 use Rattle.definitions.specs.Faults.{Outcome, answered, refused, Test, _unless_, judge}
 use Rattle.definitions.specs.Lists.{if_then_else_, _!_, all, lastPasses, concatMap, cleared, padded}
-use Rattle.definitions.specs.Lines.{Line, lineText, inRanges, formW, formA, networkForms}
+use Rattle.definitions.specs.Lines.{Line, lineText, inRanges}
+use Rattle.definitions.specs.Forms.{formW, formA, networkForms}
 use Rattle.definitions.specs.Reading.{Kind, readText}
-use Rattle.definitions.specs.Tables.{zeroBeyond}
+use Rattle.definitions.specs.ForeignTables.{holdsOnly}
 use Rattle.definitions.specs.Connecting.{Arc, arc}
-use Rattle.definitions.specs.Building.{arcWords, arcsIn}
+use Rattle.definitions.specs.Building.{arcSize, arcWords, arcsIn}
 
 -- "`W` with k, metastates, arcs; then one `A` per arc with from, to, model, phone"
 pub data NetworkLine : Type 0 where
@@ -65,7 +66,7 @@ networkInOrder before (A a) = lastPasses (λ b. leb (b .from) (a .from)) (arcsOf
 
 -- 20 at line 1, "a table too short for the header": `lent` is the length of the arc table in words
 unfoldable pub networkTests : (lent : ℕ) → NetworkLine → List Test
-networkTests lent line = Narrow unless leb (4 * countsInLine line .arcs) lent ∷ []
+networkTests lent line = Narrow unless leb (arcSize * countsInLine line .arcs) lent ∷ []
 
 -- not 17: one A line per arc
 unfoldable pub networkComplete : List NetworkLine → Bool
@@ -106,10 +107,9 @@ neverDescending (a ∷ b ∷ arcs) = leb (a .from) (b .from) && neverDescending 
 unfoldable pub networkKnown : Counts → (words : List ℕ) → Bool
 networkKnown counts words =
     inRanges (formW .fields) (counts .states ∷ counts .metastates ∷ counts .arcs ∷ [])
-    && leb (4 * counts .arcs) (length words)
+    && holdsOnly (arcSize * counts .arcs) words
     && all (arcKnown counts) (arcsIn (counts .arcs) words)
     && neverDescending (arcsIn (counts .arcs) words)
-    && zeroBeyond (4 * counts .arcs) words
 
 -- Writing network text: 18, then 33.
 unfoldable pub lineOfCounts : Counts → Line

@@ -1,29 +1,29 @@
 -- Document 01, "A whole example": the build program, from the bytes it reads to the bytes it prints.
 use mathlib.Core.List.{List, [], _∷_}
-use mathlib.Core.Bool.{Bool, true, false}
+use mathlib.Core.Bool.{true, false}
 use Prim.Native.Nat.{ℕ, _*_}
 use Prim.Native.Char.{code}
 use lib.Dec.{ltb}
 use lib.ListN.{length}
-use Rattle.definitions.specs.declared.Header.{Header}
 use Rattle.definitions.specs.declared.Refusal.{Refusal}
 use Rattle.definitions.specs.declared.Fault.the-variants.{Long}
-use Rattle.definitions.specs.Faults.{Outcome, answered, refused, numberOf, _unless_, judge, andThen}
+use Rattle.definitions.specs.Faults.{Outcome, answered, refused, numberOf, andThen}
 use Rattle.definitions.specs.Lines.{lineText}
 use Rattle.definitions.specs.BookLines.{BookLine, headerOf}
-use Rattle.definitions.specs.BookReading.{Lent, readBook}
+use Rattle.definitions.specs.BookReading.{Lent, nodeSize, readBook}
 use Rattle.definitions.specs.Tables.{tablesLeft}
+use Rattle.definitions.specs.Combinations.{combinationSize}
 use Rattle.definitions.specs.Connecting.{Network}
-use Rattle.definitions.specs.Building.{Space, build, networkIn, countsIn}
+use Rattle.definitions.specs.Building.{metastateSize, arcSize, Space, build, networkIn, countsIn}
 use Rattle.definitions.specs.NetworkText.{networkText}
 
 -- "with space for 1024 nodes"; every book's classes and roots fit
 abbrev pub programLent : Lent
-programLent = record { nodes = 5 * 1024; classes = 255; roots = 64 * 3 }
+programLent = record { nodes = nodeSize * 1024; classes = 255; roots = 64 * 3 }
 
 -- "512 combinations, 512 metastates and 2000 arcs, and a turn limit of 512"
 abbrev pub programSpace : Space
-programSpace = record { combinations = 11 * 512; metastates = 8 * 512; arcs = 4 * 2000 }
+programSpace = record { combinations = combinationSize * 512; metastates = metastateSize * 512; arcs = arcSize * 2000 }
 
 abbrev pub programTurns : ℕ
 programTurns = 512

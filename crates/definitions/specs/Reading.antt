@@ -1,11 +1,12 @@
 -- Document 01, "Fault numbers", its last paragraph: the order in which a text's lines are judged, one for every kind of text.
 use mathlib.Core.List.{List, [], _∷_, _++_}
 use mathlib.Core.Bool.{Bool, not}
-use mathlib.Core.Option.{Option, none, some}
-use Prim.Native.Nat.{ℕ, zero, suc}
+use mathlib.Core.Option.{none, some}
+use Prim.Native.Nat.{ℕ, suc}
 use Rattle.definitions.specs.declared.Fault.the-variants.{Ragged, Misprint, Range, Order, Count}
-use Rattle.definitions.specs.Faults.{Outcome, answered, refuse, Test, _unless_, judge}
-use Rattle.definitions.specs.Lines.{Form, Line, lineOf, inFixedRanges, linesOf, wholeLines}
+use Rattle.definitions.specs.Faults.{Outcome, refuse, Test, _unless_, judge}
+use Rattle.definitions.specs.Forms.{Form}
+use Rattle.definitions.specs.Lines.{Line, lineOf, inFixedRanges, linesOf, wholeLines}
 
 -- A kind of text: the lines it is made of, and what is asked of each after the lines `before` it.
 pub record Kind (L : Type 0) : Type 0 where

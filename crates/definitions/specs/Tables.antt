@@ -1,17 +1,16 @@
--- Document 01, "Tree book": the tables that reading leaves, the book read back out of them, and fault 18 on them.
-use mathlib.Core.List.{List, [], _∷_, _++_, map}
-use mathlib.Core.Bool.{Bool, true, false, _&&_, _||_}
-use Prim.Native.Nat.{ℕ, suc, _+_, _-_, _*_, _^_}
-use lib.Dec.{leb, ltb, eqb}
-use lib.ListN.{length, take, drop}
+-- Document 01, "Tree book": the tables that reading leaves, and the book read back out of them.
+use mathlib.Core.List.{List, [], _∷_, map}
+use Prim.Native.Nat.{ℕ}
+use lib.Dec.{eqb}
+use lib.ListN.{take}
 use Rattle.definitions.specs.declared.Header.{Header}
 use Rattle.definitions.specs.declared.Node.{Node}
 use Rattle.definitions.specs.Faults.{Outcome, answered, refused}
-use Rattle.definitions.specs.Lists.{if_then_else_, _!_, all, select, concatMap, upFrom, same, records, cleared, padded}
+use Rattle.definitions.specs.Lists.{if_then_else_, _!_, select, concatMap, upFrom, records, cleared, padded}
 use Rattle.definitions.specs.PhoneSets.{setOf}
-use Rattle.definitions.specs.Lines.{Form, inRanges, formH}
-use Rattle.definitions.specs.BookLines.{BookLine, headerOf, Member, membersOf, TreeNode, question, leaf, nodesOf, rootsOf, childrenOf}
-use Rattle.definitions.specs.BookReading.{Lent, wideEnough, orphans}
+use Rattle.definitions.specs.BookLines.{BookLine, headerOf, rootCount, Member, membersOf}
+use Rattle.definitions.specs.BookLines.{TreeNode, question, leaf, nodesOf, rootsOf}
+use Rattle.definitions.specs.BookReading.{Lent, nodeSize}
 
 -- A book as the later stages use it: its nodes, the set of each class, and the roots by phone and state.
 pub record Book : Type 0 where
@@ -83,11 +82,8 @@ treeNode node =
     then question (node .value) (node .position) (node .yes) (node .no)
     else leaf (node .value)
 
-unfoldable pub nodeRecords : Header → Tables → List Node
-nodeRecords header tables = map nodeOf (records 5 (header .nodes) (tables .nodes))
-
-unfoldable pub rootCount : Header → ℕ
-rootCount header = header .phones * header .states
+unfoldable pub nodeRecords : Header → (words : List ℕ) → List Node
+nodeRecords header words = map nodeOf (records nodeSize (header .nodes) words)
 
 unfoldable pub tablesBook : Header → Tables → Book
 tablesBook header tables =
@@ -95,69 +91,7 @@ tablesBook header tables =
       half = header .half;
       states = header .states;
       phones = header .phones;
-      nodes = map treeNode (nodeRecords header tables);
+      nodes = map treeNode (nodeRecords header (tables .nodes));
       classes = take (header .classes) (tables .classes);
       roots = take (rootCount header) (tables .roots);
     }
-
--- 18, "lent tables .., with their header .., that the readers never leave".
--- a header in its ranges
-unfoldable pub headerKnown : Header → Bool
-headerKnown header =
-    inRanges (formH .fields)
-    (header .half ∷ header .states ∷ header .phones ∷ header .classes ∷ header .nodes ∷ [])
-
--- the lengths of the tables
-unfoldable pub lentOf : Tables → Lent
-lentOf tables =
-    record {
-      nodes = length (tables .nodes);
-      classes = length (tables .classes);
-      roots = length (tables .roots);
-    }
-
--- a record that an N line leaves as node `at` of `count`: its class and position in range, both children later nodes
-unfoldable pub questionKnown : (half classes count at : ℕ) → Node → Bool
-questionKnown half classes count at node =
-    eqb (node .kind) 1 && leb 1 (node .value) && leb (node .value) classes && leb (node .position) (2 * half)
-    && ltb at (node .yes) && ltb (node .yes) count && ltb at (node .no) && ltb (node .no) count
-
--- a record that an L line leaves
-unfoldable pub leafKnown : Node → Bool
-leafKnown node =
-    eqb (node .kind) 2 && leb 1 (node .value) && leb (node .value) 65535
-    && eqb (node .position) 0 && eqb (node .yes) 0 && eqb (node .no) 0
-
--- records that N and L lines leave as nodes `at`, at+1, .. of `count`
-unfoldable pub nodesKnown : (half classes count at : ℕ) → List Node → Bool
-nodesKnown half classes count at [] = true
-nodesKnown half classes count at (node ∷ nodes) =
-    (questionKnown half classes count at node || leafKnown node) && nodesKnown half classes count (suc at) nodes
-
--- sets that hold no phone beyond the header's
-unfoldable pub classesKnown : (phones : ℕ) → List ℕ → Bool
-classesKnown phones classes = all (λ set. ltb set (2 ^ phones)) classes
-
--- roots in the list of nodes, and every node named exactly once
-unfoldable pub namesKnown : Book → Bool
-namesKnown book =
-    all (λ root. ltb root (length (book .nodes))) (book .roots)
-    && eqb (length (orphans (book .nodes) (book .roots))) 0
-
--- 0 in every word beyond those that the header counts
-unfoldable pub zeroBeyond : ℕ → List ℕ → Bool
-zeroBeyond count words = all (λ word. eqb word 0) (drop count words)
-
-unfoldable pub tailsClear : Header → Tables → Bool
-tailsClear header tables =
-    zeroBeyond (5 * header .nodes) (tables .nodes) && zeroBeyond (header .classes) (tables .classes)
-    && zeroBeyond (rootCount header) (tables .roots)
-
-unfoldable pub tablesKnown : Header → Tables → Bool
-tablesKnown header tables =
-    headerKnown header
-    && wideEnough (lentOf tables) header
-    && nodesKnown (header .half) (header .classes) (header .nodes) 0 (nodeRecords header tables)
-    && classesKnown (header .phones) (take (header .classes) (tables .classes))
-    && namesKnown (tablesBook header tables)
-    && tailsClear header tables

@@ -9,7 +9,8 @@ use Rattle.definitions.specs.declared.Fault.the-variants.{Foreign, Utter
 use Rattle.definitions.specs.Faults.{Outcome, answered, _unless_, judge}
 use Rattle.definitions.specs.Lists.{_!_, all, concatMap, upFrom}
 use Rattle.definitions.specs.BookLines.{isPhone}
-use Rattle.definitions.specs.Tables.{Book, Tables, tablesBook, tablesKnown}
+use Rattle.definitions.specs.Tables.{Book, Tables, tablesBook}
+use Rattle.definitions.specs.ForeignTables.{tablesKnown}
 use Rattle.definitions.specs.Lookup.{leafReached, modelAt}
 use Rattle.definitions.specs.Combinations.{rootOf}
 use Rattle.definitions.specs.TreesGive.{contexts, silentEnds}

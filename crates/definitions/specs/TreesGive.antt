@@ -1,7 +1,7 @@
 -- Document 01, "Transcription": what the trees give to a sequence of phones, read from the book's lines alone.
 -- Nothing here knows of tables or matrices: it is the meaning that demand 3 holds the network to.
 use mathlib.Core.List.{List, [], _∷_, _++_, map}
-use mathlib.Core.Bool.{Bool, true, false, _&&_}
+use mathlib.Core.Bool.{Bool, false, _&&_}
 use mathlib.Core.Option.{Option, none, some}
 use Prim.Native.Nat.{ℕ, zero, suc, _+_, _-_, _*_}
 use lib.Dec.{eqb}

@@ -9,10 +9,9 @@ use Rattle.definitions.specs.declared.Header.{Header}
 use Rattle.definitions.specs.Faults.{Outcome, answered, refused, numberOf}
 use Rattle.definitions.specs.Lists.{concatMap}
 use Rattle.definitions.specs.Lines.{space as blank, lineFeed}
-use Rattle.definitions.specs.BookLines.{BookLine, headerOf}
 use Rattle.definitions.specs.BookReading.{Lent, readBook}
 use Rattle.definitions.specs.Tables.{Tables, tablesLeft}
-use Rattle.definitions.specs.Connecting.{Network, Built, finished, stopped}
+use Rattle.definitions.specs.Connecting.{Built, finished, stopped}
 use Rattle.definitions.specs.Building.{Space, build}
 use Rattle.definitions.specs.Transcription.{transcribe}
 use Rattle.definitions.specs.Program.{program}

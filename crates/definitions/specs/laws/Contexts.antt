@@ -1,7 +1,7 @@
 -- Laws about contexts: the definition by windows is document 01's sentence, "in column c the phone at place i+c−n, or 1
 -- where that lies beyond either end". Place i+c of the sequence with silence around it stands between.
 use mathlib.Core.Path.{_≡_, refl, sym, ap, _∙_}
-use mathlib.Core.List.{List, [], _∷_, _++_}
+use mathlib.Core.List.{List, [], _++_}
 use Prim.Native.Nat.{ℕ, zero, suc, _+_, _-_, _*_, _≤_, _<_}
 use native.Mathlib.Omega.{arith}
 use lib.ListN.{length, take, drop, getD, replicate, length-append, length-replicate, length-take, length-drop}

@@ -1,0 +1,71 @@
+-- Document 01, fault 18: "lent tables .., with their header .., that the readers never leave".
+use mathlib.Core.List.{List, [], _∷_}
+use mathlib.Core.Bool.{Bool, true, _&&_, _||_}
+use Prim.Native.Nat.{ℕ, suc, _*_, _^_}
+use lib.Dec.{leb, ltb, eqb}
+use lib.ListN.{length, take, drop}
+use Rattle.definitions.specs.declared.Header.{Header}
+use Rattle.definitions.specs.declared.Node.{Node}
+use Rattle.definitions.specs.Lists.{all}
+use Rattle.definitions.specs.Forms.{formH}
+use Rattle.definitions.specs.Lines.{inRanges}
+use Rattle.definitions.specs.BookLines.{rootCount}
+use Rattle.definitions.specs.BookReading.{nodeSize, orphans}
+use Rattle.definitions.specs.Tables.{Book, Tables, nodeRecords, tablesBook}
+
+-- a header that an H line states
+unfoldable pub headerKnown : Header → Bool
+headerKnown header =
+    inRanges (formH .fields)
+    (header .half ∷ header .states ∷ header .phones ∷ header .classes ∷ header .nodes ∷ [])
+
+-- a record that an N line leaves as node `at`: "a child not greater than its node or not in the list" is foreign
+unfoldable pub questionKnown : Header → (at : ℕ) → Node → Bool
+questionKnown header at node =
+    eqb (node .kind) 1 && leb 1 (node .value) && leb (node .value) (header .classes)
+    && leb (node .position) (2 * header .half)
+    && ltb at (node .yes) && ltb (node .yes) (header .nodes)
+    && ltb at (node .no) && ltb (node .no) (header .nodes)
+
+-- a record that an L line leaves
+unfoldable pub leafKnown : Node → Bool
+leafKnown node =
+    eqb (node .kind) 2 && leb 1 (node .value) && leb (node .value) 65535
+    && eqb (node .position) 0 && eqb (node .yes) 0 && eqb (node .no) 0
+
+-- records that N and L lines leave as nodes `at`, at+1, ..
+unfoldable pub nodesKnown : Header → (at : ℕ) → List Node → Bool
+nodesKnown header at [] = true
+nodesKnown header at (node ∷ nodes) =
+    (questionKnown header at node || leafKnown node) && nodesKnown header (suc at) nodes
+
+-- a table of at least `count` words, 0 in every word beyond them. "Words beyond these are 0."
+unfoldable pub holdsOnly : (count : ℕ) → List ℕ → Bool
+holdsOnly count words = leb count (length words) && all (λ word. eqb word 0) (drop count words)
+
+unfoldable pub nodeTableKnown : Header → List ℕ → Bool
+nodeTableKnown header words =
+    holdsOnly (nodeSize * header .nodes) words && nodesKnown header 0 (nodeRecords header words)
+
+-- sets that hold no phone beyond the header's
+unfoldable pub classTableKnown : Header → List ℕ → Bool
+classTableKnown header words =
+    holdsOnly (header .classes) words && all (λ set. ltb set (2 ^ header .phones)) (take (header .classes) words)
+
+-- roots that are nodes
+unfoldable pub rootTableKnown : Header → List ℕ → Bool
+rootTableKnown header words =
+    holdsOnly (rootCount header) words && all (λ root. ltb root (header .nodes)) (take (rootCount header) words)
+
+-- "Every node is named exactly once, as a child or as a root"
+unfoldable pub namedOnce : Book → Bool
+namedOnce book = eqb (length (orphans (book .nodes) (book .roots))) 0
+
+-- not 18: tables that reading leaves
+unfoldable pub tablesKnown : Header → Tables → Bool
+tablesKnown header tables =
+    headerKnown header
+    && nodeTableKnown header (tables .nodes)
+    && classTableKnown header (tables .classes)
+    && rootTableKnown header (tables .roots)
+    && namedOnce (tablesBook header tables)
