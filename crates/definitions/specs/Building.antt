@@ -1,37 +1,16 @@
 -- Document 01, "Connecting": the build from lent tables into lent space, and what every buffer holds afterwards.
-use mathlib.Core.List.{List, [], _∷_, map}
+use mathlib.Core.List.{List}
 use Prim.Native.Nat.{ℕ, _/_, min}
 use lib.ListN.{length}
 use Rattle.definitions.specs.declared.Header.{Header}
 use Rattle.definitions.specs.declared.Counts.{Counts}
 use Rattle.definitions.specs.Faults.{Outcome, answered, refused, andThen}
-use Rattle.definitions.specs.Lists.{_!_, concatMap, records, cleared, padded}
-use Rattle.definitions.specs.Matrices.{matrixWords}
+use Rattle.definitions.specs.Lists.{concatMap, cleared, padded}
 use Rattle.definitions.specs.Tables.{Book, Tables, tablesBook}
 use Rattle.definitions.specs.Combinations.{combinations, combine, combinationWords}
-use Rattle.definitions.specs.Connecting.{Arc, arc, Metastate, Network, Room, Built, finished, stopped, connect}
-
--- The words of the records.
--- a metastate is "held as eight 64-bit words"
-abbrev pub metastateSize : ℕ
-metastateSize = 8
-
-unfoldable pub metastateWords : Metastate → List ℕ
-metastateWords x = x .number ∷ matrixWords (x .matrix)
-
--- "An arc is (from, to, model, phone), four 32-bit words"
-abbrev pub arcSize : ℕ
-arcSize = 4
-
-unfoldable pub arcWords : Arc → List ℕ
-arcWords a = a .from ∷ a .to ∷ a .model ∷ a .phone ∷ []
-
-unfoldable pub arcOf : List ℕ → Arc
-arcOf words = arc (words ! 0) (words ! 1) (words ! 2) (words ! 3)
-
--- the arcs in the first `count` records of arc space
-unfoldable pub arcsIn : (count : ℕ) → (words : List ℕ) → List Arc
-arcsIn count words = map arcOf (records arcSize count words)
+use Rattle.definitions.specs.Arcs.{arcSize, arcWords}
+use Rattle.definitions.specs.Metastates.{metastateSize, metastateWords}
+use Rattle.definitions.specs.Connecting.{Network, Room, Built, finished, stopped, connect}
 
 -- the lengths of the lent space for combinations, metastates and arcs, in words
 pub record Space : Type 0 where

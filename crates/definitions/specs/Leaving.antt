@@ -7,8 +7,7 @@ use Rattle.definitions.specs.declared.Counts.{Counts}
 use Rattle.definitions.specs.declared.Fault.the-variants.{Foreign, State}
 use Rattle.definitions.specs.Faults.{Outcome, answered, refused, _unless_, judge}
 use Rattle.definitions.specs.Lists.{select}
-use Rattle.definitions.specs.Connecting.{Arc}
-use Rattle.definitions.specs.Building.{arcSize, arcsIn}
+use Rattle.definitions.specs.Arcs.{Arc, arcSize, arcsIn}
 use Rattle.definitions.specs.NetworkText.{networkKnown, isState}
 
 -- a part of the arc list: the place of its first arc, and how many arcs it has

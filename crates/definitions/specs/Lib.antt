@@ -12,6 +12,8 @@ pub mod Lookup
 pub mod PhoneSets
 pub mod Matrices
 pub mod Combinations
+pub mod Arcs
+pub mod Metastates
 pub mod Connecting
 pub mod Building
 pub mod Paths
@@ -21,4 +23,4 @@ pub mod TreesGive
 pub mod Transcription
 pub mod Program
 pub mod laws
-pub mod demand
+pub mod examples

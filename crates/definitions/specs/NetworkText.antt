@@ -13,8 +13,7 @@ use Rattle.definitions.specs.Lines.{Line, lineText, inRanges}
 use Rattle.definitions.specs.Forms.{formW, formA, networkForms}
 use Rattle.definitions.specs.Reading.{Kind, readText}
 use Rattle.definitions.specs.ForeignTables.{holdsOnly}
-use Rattle.definitions.specs.Connecting.{Arc, arc}
-use Rattle.definitions.specs.Building.{arcSize, arcWords, arcsIn}
+use Rattle.definitions.specs.Arcs.{Arc, arc, arcSize, arcWords, arcsIn}
 
 -- "`W` with k, metastates, arcs; then one `A` per arc with from, to, model, phone"
 pub data NetworkLine : Type 0 where

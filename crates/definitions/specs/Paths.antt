@@ -6,7 +6,7 @@ use Prim.Native.Nat.{ℕ}
 use lib.Dec.{T, ltb, eqb}
 use lib.ListN.{length, getD}
 use Rattle.definitions.specs.Lists.{select}
-use Rattle.definitions.specs.Connecting.{Arc, arc, INITIAL, FINAL}
+use Rattle.definitions.specs.Arcs.{Arc, arc, INITIAL, FINAL}
 
 abbrev pub arcAt : List Arc → (place : ℕ) → Arc
 arcAt arcs place = getD arcs place (arc 0 0 0 0)

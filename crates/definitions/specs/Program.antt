@@ -13,8 +13,10 @@ use Rattle.definitions.specs.BookLines.{BookLine, headerOf}
 use Rattle.definitions.specs.BookReading.{Lent, nodeSize, readBook}
 use Rattle.definitions.specs.Tables.{tablesLeft}
 use Rattle.definitions.specs.Combinations.{combinationSize}
+use Rattle.definitions.specs.Arcs.{arcSize}
+use Rattle.definitions.specs.Metastates.{metastateSize}
 use Rattle.definitions.specs.Connecting.{Network}
-use Rattle.definitions.specs.Building.{metastateSize, arcSize, Space, build, networkIn, countsIn}
+use Rattle.definitions.specs.Building.{Space, build, networkIn, countsIn}
 use Rattle.definitions.specs.NetworkText.{networkText}
 
 -- "with space for 1024 nodes"; every book's classes and roots fit

@@ -1,2 +1,4 @@
 pub mod Everything
+pub mod Example
 pub mod Starred
+pub mod Refusals

@@ -1,11 +1,11 @@
--- Opens every definition, so that closed examples compute: who says `unfolding everything` opens all that its line names.
+-- Opens every definition, so that closed examples compute: `unfolding everything` opens all that its line names.
 use Rattle.definitions.specs.Lists.{all, any, select, lastPasses, concatMap, upFrom, times, same}
 use Rattle.definitions.specs.Lists.{records, padded}
 use Rattle.definitions.specs.Faults.{judge, andThen, answerLeft}
 use Rattle.definitions.specs.Numerals.{isDigit, isNumeral, valueOf, numeralWithin, numeral}
 use Rattle.definitions.specs.Lines.{skipSpaces, digitsField, fieldOf, fieldText, formOf, isBlank}
-use Rattle.definitions.specs.Lines.{numbersOf, fieldsOf, withLetter, lineOf, inRanges}
-use Rattle.definitions.specs.Lines.{inFixedRanges, lineText, linesOf, endsInLineFeed, wholeLines}
+use Rattle.definitions.specs.Lines.{numbersOf, fieldsOf, withLetter, lineOf, inRanges, inFixedRanges}
+use Rattle.definitions.specs.Lines.{lineText, linesOf, endsInLineFeed, wholeLines}
 use Rattle.definitions.specs.Reading.{lineTests, readFrom, readText}
 use Rattle.definitions.specs.BookLines.{bookLine, headerIn, headerOf, rootCount, isPhone, memberIn}
 use Rattle.definitions.specs.BookLines.{membersOf, nodeIn, nodesOf, rootIn, rootsOf, childrenOf}
@@ -13,27 +13,27 @@ use Rattle.definitions.specs.BookReading.{bookFollows, withinHeader, com
 use Rattle.definitions.specs.BookReading.{childrenGreater, wideEnough, bookTests, bookComplete}
 use Rattle.definitions.specs.BookReading.{orphans, isLineOf, nodeLineFrom, judgeNames, bookKind}
 use Rattle.definitions.specs.BookReading.{readBook}
-use Rattle.definitions.specs.Tables.{phonesOfClass, classSets, bookOf, nodeWords, tablesOf}
-use Rattle.definitions.specs.Tables.{noTables, tablesLeft, nodeOf, treeNode, nodeRecords}
-use Rattle.definitions.specs.Tables.{tablesBook}
-use Rattle.definitions.specs.ForeignTables.{headerKnown, questionKnown, leafKnown, nodesKnown, holdsOnly}
-use Rattle.definitions.specs.ForeignTables.{nodeTableKnown, classTableKnown, rootTableKnown, namedOnce}
-use Rattle.definitions.specs.ForeignTables.{tablesKnown}
+use Rattle.definitions.specs.Tables.{phonesOfClass, classSets, bookOf, nodeWords, tablesOf, noTables}
+use Rattle.definitions.specs.Tables.{tablesLeft, nodeOf, treeNode, nodeRecords, tablesBook}
+use Rattle.definitions.specs.ForeignTables.{headerKnown, questionKnown, leafKnown, nodesKnown}
+use Rattle.definitions.specs.ForeignTables.{holdsOnly, nodeTableKnown, classTableKnown}
+use Rattle.definitions.specs.ForeignTables.{rootTableKnown, namedOnce, tablesKnown}
 use Rattle.definitions.specs.Lookup.{modelAt, holdsAt, walk, leafReached, lookupKnown, isContext}
 use Rattle.definitions.specs.Lookup.{lookup}
 use Rattle.definitions.specs.PhoneSets.{has, one, allPhones, without, setOf}
 use Rattle.definitions.specs.Matrices.{matrixWords, rootMatrix, yesSide, noSide, valid, meet, shift}
 use Rattle.definitions.specs.Matrices.{startCut, endsHere}
-use Rattle.definitions.specs.Combinations.{leavesBelow, insertLeaf, ascending, rootOf, leavesOf, choose}
-use Rattle.definitions.specs.Combinations.{combinationsOf, combinations, combinationWords}
+use Rattle.definitions.specs.Combinations.{leavesBelow, insertLeaf, ascending, rootOf, leavesOf}
+use Rattle.definitions.specs.Combinations.{choose, combinationsOf, combinations, combinationWords}
 use Rattle.definitions.specs.Combinations.{combinationRoom, combine, combinationSpace}
-use Rattle.definitions.specs.Connecting.{sameMetastate, firstState, lastState, ownArcs, startsFrom}
-use Rattle.definitions.specs.Connecting.{followersFrom, combinationOf, phoneOf, starts, followers}
-use Rattle.definitions.specs.Connecting.{modelsOf, mayEnd, finalArcs, startEvents, turnEvents}
-use Rattle.definitions.specs.Connecting.{arcInto, placeFrom, addArc, addMetastate, perform}
+use Rattle.definitions.specs.Arcs.{firstState, lastState, arcWords, arcOf, arcsIn}
+use Rattle.definitions.specs.Metastates.{sameMetastate, metastateWords, startsFrom, followersFrom}
+use Rattle.definitions.specs.Metastates.{combinationOf, phoneOf, starts, followers, modelsOf, mayEnd}
+use Rattle.definitions.specs.Connecting.{ownArcs, finalArcs, startEvents, turnEvents, arcInto}
+use Rattle.definitions.specs.Connecting.{placeFrom, addArc, addMetastate, addBoth, perform}
 use Rattle.definitions.specs.Connecting.{performAll, turnsFrom, connect}
-use Rattle.definitions.specs.Building.{metastateWords, arcWords, arcOf, arcsIn, roomIn, build}
-use Rattle.definitions.specs.Building.{networkIn, countsIn, buffersOf, noBuffers, buffersLeft}
+use Rattle.definitions.specs.Building.{roomIn, build, networkIn, countsIn, buffersOf, noBuffers}
+use Rattle.definitions.specs.Building.{buffersLeft}
 use Rattle.definitions.specs.Paths.{leads, accepting, withoutZeros, modelsCarried, phonesCarried}
 use Rattle.definitions.specs.Leaving.{partOf, leaving, partHanded, partWords}
 use Rattle.definitions.specs.NetworkText.{networkLine, countsInLine, countsOf, arcInLine, arcsOf}
@@ -59,13 +59,13 @@ unfolding all any select lastPasses concatMap upFrom times same records padded j
     classTableKnown rootTableKnown namedOnce tablesKnown modelAt holdsAt walk leafReached lookupKnown
     isContext lookup has one allPhones without setOf matrixWords rootMatrix yesSide noSide valid meet
     shift startCut endsHere leavesBelow insertLeaf ascending rootOf leavesOf choose combinationsOf
-    combinations combinationWords combinationRoom combine combinationSpace sameMetastate firstState
-    lastState ownArcs startsFrom followersFrom combinationOf phoneOf starts followers modelsOf mayEnd
-    finalArcs startEvents turnEvents arcInto placeFrom addArc addMetastate perform performAll turnsFrom
-    connect metastateWords arcWords arcOf arcsIn roomIn build networkIn countsIn buffersOf noBuffers
-    buffersLeft leads accepting withoutZeros modelsCarried phonesCarried partOf leaving partHanded
-    partWords networkLine countsInLine countsOf arcInLine arcsOf isState networkFollows withinCounts
-    networkInOrder networkTests networkComplete networkKind readNetwork arcsLeft arcKnown
+    combinations combinationWords combinationRoom combine combinationSpace firstState lastState arcWords
+    arcOf arcsIn sameMetastate metastateWords startsFrom followersFrom combinationOf phoneOf starts
+    followers modelsOf mayEnd ownArcs finalArcs startEvents turnEvents arcInto placeFrom addArc
+    addMetastate addBoth perform performAll turnsFrom connect roomIn build networkIn countsIn buffersOf
+    noBuffers buffersLeft leads accepting withoutZeros modelsCarried phonesCarried partOf leaving
+    partHanded partWords networkLine countsInLine countsOf arcInLine arcsOf isState networkFollows
+    withinCounts networkInOrder networkTests networkComplete networkKind readNetwork arcsLeft arcKnown
     neverDescending networkKnown lineOfCounts lineOfArc networkText writeNetwork windows withSilence
     contexts rootLine nodeLine isMemberLine putInClass modelBelow modelGiven together modelsAlong
     treesGive silentEnds modelOf transcription isUtterance transcribe networkOf refusalText printed

@@ -1,0 +1,37 @@
+-- The ★ cases of document 01, proved together as one table about the definitions that contracts cite.
+use mathlib.Core.Path.{refl}
+use mathlib.Core.List.{List, [], _∷_}
+use Prim.Native.Nat.{ℕ}
+use Rattle.definitions.specs.Building.{Space, build}
+use Rattle.definitions.specs.Transcription.{transcribe}
+use Rattle.definitions.specs.Program.{program}
+use Rattle.definitions.specs.examples.Everything.{everything}
+use Rattle.definitions.specs.examples.Example.{input, output, header, tables, spaceFor, given, built}
+use Rattle.definitions.specs.examples.Example.{Result, gives, finishes, stops, refuses, Case, _is_, Holds, example}
+
+-- a sequence transcribed, into a buffer for four models
+phones : (S : List ℕ) → Result
+phones S = given (transcribe header tables S 4)
+
+-- the network built, with so much space and so many turns
+building : Space → (turns : ℕ) → Result
+building space turns = built (build header tables space turns)
+
+pub table : List Case
+table =
+    gives (program input) is gives output
+    ∷ phones (1 ∷ []) is gives (10 ∷ [])
+    ∷ phones (1 ∷ 2 ∷ 1 ∷ []) is gives (10 ∷ 20 ∷ 10 ∷ [])
+    ∷ phones (1 ∷ 2 ∷ 2 ∷ 1 ∷ []) is gives (10 ∷ 20 ∷ 21 ∷ 10 ∷ [])
+    ∷ phones [] is refuses 41 0
+    ∷ phones (2 ∷ 1 ∷ []) is refuses 41 0
+    ∷ building (spaceFor 3 4 11) 4 is finishes 4 4 11
+    ∷ building (spaceFor 3 3 11) 4 is refuses 31 0
+    ∷ building (spaceFor 3 4 10) 4 is refuses 32 0
+    ∷ building (spaceFor 3 3 5) 4 is refuses 31 0
+    ∷ building (spaceFor 3 4 11) 3 is stops 3 4 9
+    ∷ []
+
+pub starred : Holds table
+unfolding everything example phones building table
+starred = refl
