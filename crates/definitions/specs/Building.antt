@@ -1,4 +1,5 @@
--- Document 01, "Connecting": the build from lent tables into lent space, and what every buffer holds afterwards.
+-- Document 01, "Connecting": the build from lent tables into lent space, and what every buffer holds
+-- afterwards.
 use mathlib.Core.List.{List}
 use Prim.Native.Nat.{ℕ, _/_, min}
 use lib.ListN.{length}
@@ -42,7 +43,8 @@ unfoldable pub countsIn : (states : ℕ) → Network → Counts
 countsIn states net =
     record { states = states; metastates = length (net .metastates); arcs = length (net .arcs) }
 
--- What the build leaves in the lent space. "the words after the last record are 0, in metastate and arc space too"
+-- What the build leaves in the lent space. "the words after the last record are 0, in metastate and arc
+-- space too"
 pub record Buffers : Type 0 where
   pub combinations : List ℕ
   pub metastates : List ℕ

@@ -1,4 +1,5 @@
--- Document 01, "Matrices and metastates": the leaves of a tree with their matrices, and the valid combinations of leaves.
+-- Document 01, "Matrices and metastates": the leaves of a tree with their matrices, and the valid
+-- combinations of leaves.
 use mathlib.Core.List.{List, [], _∷_, _++_, map}
 use Prim.Native.Nat.{ℕ, zero, suc, _+_, _-_, _*_, _/_, min}
 use lib.Dec.{leb, ltb}
@@ -18,8 +19,8 @@ pub record Leaf : Type 0 where
   pub node : ℕ
   pub matrix : Matrix
 
--- the leaves below a node that carries a matrix, the yes side first. Children are greater than their node, so as many
--- levels as there are nodes are enough.
+-- the leaves below a node that carries a matrix, the yes side first. Children are greater than their node,
+-- so as many levels as there are nodes are enough.
 unfoldable pub leavesBelow : (levels : ℕ) → Book → Matrix → (node : ℕ) → List Leaf
 leavesBelow zero book matrix node = []
 leavesBelow (suc levels) book matrix node =
@@ -47,8 +48,8 @@ rootOf book phone state = book .roots ! ((phone - 1) * book .states + (state - 1
 -- the leaves of a phone's tree for a state, from the root's matrix down
 unfoldable pub leavesOf : Book → (phone state : ℕ) → List Leaf
 leavesOf book phone state =
-    ascending
-    (leavesBelow (length (book .nodes)) book (rootMatrix (book .half) (book .phones) phone) (rootOf book phone state))
+    let top : Matrix = rootMatrix (book .half) (book .phones) phone in
+    ascending (leavesBelow (length (book .nodes)) book top (rootOf book phone state))
 
 -- "A combination is a phone with one leaf from each of its k trees whose matrices meet in a valid matrix."
 pub record Combination : Type 0 where
@@ -56,7 +57,8 @@ pub record Combination : Type 0 where
   pub leaves : List ℕ
   pub matrix : Matrix
 
--- the combinations that begin with these leaves, whose matrices meet in `matrix`, and take one leaf of each further tree
+-- the combinations that begin with these leaves, whose matrices meet in `matrix`, and take one leaf of each
+-- further tree
 unfoldable pub choose : (phone : ℕ) → (leaves : List ℕ) → Matrix → (trees : List (List Leaf)) → List Combination
 choose phone leaves matrix [] =
     if valid matrix then record { phone = phone; leaves = leaves; matrix = matrix } ∷ [] else []

@@ -1,5 +1,6 @@
 -- Document 01, "Connecting": the network, built by turns from the combinations of a book.
--- A turn gives events, which do not depend on what has been built; performing them knows the table and the limits.
+-- A turn gives events, which do not depend on what has been built; performing them knows the table and the
+-- limits.
 use mathlib.Core.List.{List, [], _∷_, _++_, map}
 use mathlib.Core.Bool.{true, false}
 use mathlib.Core.Option.{Option, none, some}
@@ -12,32 +13,37 @@ use Rattle.definitions.specs.Lists.{if_then_else_, _!_}
 use Rattle.definitions.specs.Tables.{Book}
 use Rattle.definitions.specs.Combinations.{Combination}
 use Rattle.definitions.specs.Arcs.{Arc, arc, INITIAL, FINAL, firstState, lastState}
-use Rattle.definitions.specs.Metastates.{Metastate, sameMetastate, phoneOf, modelsOf, starts, followers, mayEnd}
+use Rattle.definitions.specs.Metastates.{Metastate, sameMetastate, phoneOf, modelsOf, starts}
+use Rattle.definitions.specs.Metastates.{followers, mayEnd}
 
 -- a network as far as it is built
 pub record Network : Type 0 where
   pub metastates : List Metastate
   pub arcs : List Arc
 
--- what a turn asks to be appended: an arc between states that are there, or an arc into a metastate that may be new
+-- what a turn asks to be appended: an arc between states that are there, or an arc into a metastate that
+-- may be new
 pub data Event : Type 0 where
   plain : Arc → Event
   enter : (from : ℕ) → Metastate → Event
 
--- "arcs between its own states, with the target's model and phone 0", from a state through states with these models
+-- "arcs between its own states, with the target's model and phone 0", from a state through states with
+-- these models
 unfoldable pub ownArcs : (state : ℕ) → (models : List ℕ) → List Arc
 ownArcs state [] = []
 ownArcs state (model ∷ models) = arc state (suc state) model 0 ∷ ownArcs (suc state) models
 
 module _ (book : Book) (combinations : List Combination) where
   unfoldable pub finalArcs : (place : ℕ) → Metastate → List Arc
-  finalArcs place q = if mayEnd book combinations q then arc (lastState (book .states) place) FINAL 0 0 ∷ [] else []
+  finalArcs place q =
+      if mayEnd book combinations q then arc (lastState (book .states) place) FINAL 0 0 ∷ [] else []
 
   -- "First come the arcs from 0 to each start metastate's first state"
   unfoldable pub startEvents : List Event
   startEvents = map (enter INITIAL) (starts book combinations)
 
-  -- "each turn takes the oldest unexpanded metastate q and appends": its own arcs, the arc to FINAL, the arcs to followers
+  -- "each turn takes the oldest unexpanded metastate q and appends": its own arcs, the arc to FINAL, the
+  -- arcs to followers
   unfoldable pub turnEvents : (place : ℕ) → Metastate → List Event
   turnEvents place q =
       map plain (ownArcs (firstState (book .states) place) (drop 1 (modelsOf book combinations q)))
@@ -46,7 +52,8 @@ module _ (book : Book) (combinations : List Combination) where
 
   -- the arc to a metastate's first state, "with its first model and its phone"
   unfoldable pub arcInto : (from place : ℕ) → Metastate → Arc
-  arcInto from place x = arc from (firstState (book .states) place) (modelsOf book combinations x ! 0) (phoneOf combinations x)
+  arcInto from place x =
+      arc from (firstState (book .states) place) (modelsOf book combinations x ! 0) (phoneOf combinations x)
 
 -- the place of a metastate in the table, "which is new if number and matrix have not occurred";
 -- the first of the table has place `at`
@@ -101,12 +108,13 @@ module _ (book : Book) (combinations : List Combination) (room : Room) where
   -- the turns from now on, with `turns` metastates expanded and at most `limit` turns to go
   unfoldable pub turnsFrom : (limit turns : ℕ) → Network → Outcome Built
   turnsFrom zero turns net =
-      if ltb turns (length (net .metastates)) then answered (stopped turns net) else answered (finished turns net)
+      answered (if ltb turns (length (net .metastates)) then stopped turns net else finished turns net)
   turnsFrom (suc limit) turns net =
       elim (ltb turns (length (net .metastates))) [
         | false ↦ answered (finished turns net)
         | true ↦
-            andThen (performAll net (turnEvents book combinations turns (getD (net .metastates) turns noMetastate)))
+            let q : Metastate = getD (net .metastates) turns noMetastate in
+            andThen (performAll net (turnEvents book combinations turns q))
             (λ next. turnsFrom limit (suc turns) next)
       ]
 

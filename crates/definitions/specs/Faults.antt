@@ -1,10 +1,13 @@
--- Document 01, "Fault numbers": each fault's number, and how tests in a fixed order give an answer or a refusal.
+-- Document 01, "Fault numbers": each fault's number, and how tests in a fixed order give an answer or a
+-- refusal.
 use mathlib.Core.List.{List, [], _∷_}
 use mathlib.Core.Bool.{Bool}
 use Prim.Native.Nat.{ℕ}
 use Rattle.definitions.specs.declared.Fault.{Fault}
-use Rattle.definitions.specs.declared.Fault.the-variants.{Ragged, Misprint, Range, Order, Backward, Orphan, Count}
-use Rattle.definitions.specs.declared.Fault.the-variants.{Foreign, Narrow, Long, Choices, Crowd, Tangle, Short}
+use Rattle.definitions.specs.declared.Fault.the-variants.{Ragged, Misprint, Range, Order, Backward}
+use Rattle.definitions.specs.declared.Fault.the-variants.{Orphan, Count}
+use Rattle.definitions.specs.declared.Fault.the-variants.{Foreign, Narrow, Long, Choices, Crowd}
+use Rattle.definitions.specs.declared.Fault.the-variants.{Tangle, Short}
 use Rattle.definitions.specs.declared.Fault.the-variants.{Utterance, State}
 use Rattle.definitions.specs.declared.Refusal.{Refusal}
 use Rattle.definitions.specs.Lists.{if_then_else_, cleared, padded}
@@ -55,8 +58,8 @@ unfoldable pub andThen : {A B : Type 0} → Outcome A → (A → Outcome B) → 
 andThen (answered a) next = next a
 andThen (refused r) next = refused r
 
--- what a lent buffer of `size` numbers holds then: "In every model or text buffer, what follows the answer is 0", and
--- after a refusal "every word of every output buffer 0"
+-- what a lent buffer of `size` numbers holds then: "In every model or text buffer, what follows the answer
+-- is 0", and after a refusal "every word of every output buffer 0"
 unfoldable pub answerLeft : (size : ℕ) → Outcome (List ℕ) → List ℕ
 answerLeft size (answered answer) = padded size answer
 answerLeft size (refused r) = cleared size

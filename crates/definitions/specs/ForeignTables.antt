@@ -19,7 +19,8 @@ headerKnown header =
     inRanges (formH .fields)
     (header .half ∷ header .states ∷ header .phones ∷ header .classes ∷ header .nodes ∷ [])
 
--- a record that an N line leaves as node `at`: "a child not greater than its node or not in the list" is foreign
+-- a record that an N line leaves as node `at`: "a child not greater than its node or not in the list" is
+-- foreign
 unfoldable pub questionKnown : Header → (at : ℕ) → Node → Bool
 questionKnown header at node =
     eqb (node .kind) 1 && leb 1 (node .value) && leb (node .value) (header .classes)
@@ -50,12 +51,14 @@ nodeTableKnown header words =
 -- sets that hold no phone beyond the header's
 unfoldable pub classTableKnown : Header → List ℕ → Bool
 classTableKnown header words =
-    holdsOnly (header .classes) words && all (λ set. ltb set (2 ^ header .phones)) (take (header .classes) words)
+    holdsOnly (header .classes) words
+    && all (λ set. ltb set (2 ^ header .phones)) (take (header .classes) words)
 
 -- roots that are nodes
 unfoldable pub rootTableKnown : Header → List ℕ → Bool
 rootTableKnown header words =
-    holdsOnly (rootCount header) words && all (λ root. ltb root (header .nodes)) (take (rootCount header) words)
+    holdsOnly (rootCount header) words
+    && all (λ root. ltb root (header .nodes)) (take (rootCount header) words)
 
 -- "Every node is named exactly once, as a child or as a root"
 unfoldable pub namedOnce : Book → Bool

@@ -20,8 +20,8 @@ infix 66 _∣_
 abbrev pub _∣_ : Char → List Range → Form
 letter ∣ fields = record { letter = code letter; fields = fields }
 
--- The letters of a tree book. Where no range is stated, "Phones, classes and states count from 1, nodes from 0", and the
--- highest is what the largest header allows.
+-- The letters of a tree book. Where no range is stated, "Phones, classes and states count from 1, nodes
+-- from 0", and the highest is what the largest header allows.
 -- "H | half-width n 0..3, states per phone k 1..3, phones 1..64, classes 0..255, nodes 1..4096"
 abbrev pub formH : Form
 formH = "H" ∣ 0 ‥ 3 ∷ 1 ‥ 3 ∷ 1 ‥ 64 ∷ 0 ‥ 255 ∷ 1 ‥ 4096 ∷ []

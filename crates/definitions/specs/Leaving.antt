@@ -15,8 +15,8 @@ pub record Part : Type 0 where
   pub start : ℕ
   pub count : ℕ
 
--- "The arcs that leave a state are handed out as a part of the caller's arc list, standing where they would stand if
--- there are none": after all arcs of smaller sources
+-- "The arcs that leave a state are handed out as a part of the caller's arc list, standing where they would
+-- stand if there are none": after all arcs of smaller sources
 unfoldable pub partOf : List Arc → (state : ℕ) → Part
 partOf arcs state =
     record {

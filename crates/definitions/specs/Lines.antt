@@ -1,4 +1,5 @@
--- Document 01, "Tree book", its first paragraph: the line of 32 bytes, read by the table of its letter, and written.
+-- Document 01, "Tree book", its first paragraph: the line of 32 bytes, read by the table of its letter, and
+-- written.
 use mathlib.Core.List.{List, [], _∷_, _++_, map}
 use mathlib.Core.Bool.{Bool, true, false, _&&_}
 use mathlib.Core.Option.{Option, none, some}
@@ -83,7 +84,8 @@ lineOf forms bytes =
 unfoldable pub inRanges : List Range → List ℕ → Bool
 inRanges [] numbers = true
 inRanges (range ∷ ranges) [] = false
-inRanges (range ∷ ranges) (n ∷ numbers) = leb (range .lowest) n && leb n (range .highest) && inRanges ranges numbers
+inRanges (range ∷ ranges) (n ∷ numbers) =
+    leb (range .lowest) n && leb n (range .highest) && inRanges ranges numbers
 
 -- whether a line's numbers lie in the fixed ranges of its letter
 unfoldable pub inFixedRanges : List Form → Line → Bool

@@ -19,13 +19,15 @@ nodeAt nodes node = getD nodes node (leaf 0)
 
 -- the model at a leaf
 unfoldable pub modelAt : List TreeNode → (node : ℕ) → ℕ
-modelAt nodes node = elim (nodeAt nodes node) [ question class position yesNode noNode ↦ 0 | leaf model ↦ model ]
+modelAt nodes node =
+    elim (nodeAt nodes node) [ question class position yesNode noNode ↦ 0 | leaf model ↦ model ]
 
 -- whether the class holds the context's phone at the position; classes count from 1
 unfoldable pub holdsAt : (classes : List ℕ) (class position : ℕ) (context : List ℕ) → Bool
 holdsAt classes class position context = has (context ! position) (classes ! (class - 1))
 
--- the leaf that a walk from a node reaches. It moves to greater nodes only, so as many steps as there are nodes are enough.
+-- the leaf that a walk from a node reaches. It moves to greater nodes only, so as many steps as there are
+-- nodes are enough.
 unfoldable pub walk : (steps : ℕ) → List TreeNode → (classes context : List ℕ) → (node : ℕ) → ℕ
 walk zero nodes classes context node = node
 walk (suc steps) nodes classes context node =
@@ -38,8 +40,9 @@ walk (suc steps) nodes classes context node =
 unfoldable pub leafReached : List TreeNode → (classes context : List ℕ) → (root : ℕ) → ℕ
 leafReached nodes classes context root = walk (length nodes) nodes classes context root
 
--- not 18: "A record that no N or L line leaves, a child not greater than its node or not in the list, or a root not in
--- the list is 18 (how often nodes are named is not judged here)". The list holds the header's nodes and no others.
+-- not 18: "A record that no N or L line leaves, a child not greater than its node or not in the list, or a
+-- root not in the list is 18 (how often nodes are named is not judged here)". The list holds the header's
+-- nodes and no others.
 unfoldable pub lookupKnown : Header → (classes : List ℕ) → List Node → (root : ℕ) → Bool
 lookupKnown header classes nodes root =
     headerKnown header

@@ -1,5 +1,5 @@
--- Document 01, "Matrices and metastates", its first paragraph and the shift: matrices of 2n+1 columns, each a set of phones.
--- Nothing here but `rootMatrix` knows the width: it is the length of the list.
+-- Document 01, "Matrices and metastates", its first paragraph and the shift: matrices of 2n+1 columns, each
+-- a set of phones. Nothing here but `rootMatrix` knows the width: it is the length of the list.
 use mathlib.Core.List.{List, [], _∷_, _++_}
 use mathlib.Core.Bool.{Bool, not}
 use Prim.Native.Nat.{ℕ, zero, suc, _+_}

@@ -1,4 +1,5 @@
--- Document 01, "Matrices and metastates" and "Connecting": metastates, which of them start, follow one another and end.
+-- Document 01, "Matrices and metastates" and "Connecting": metastates, which of them start, follow one
+-- another and end.
 use mathlib.Core.List.{List, [], _∷_, map}
 use mathlib.Core.Bool.{Bool, _&&_}
 use Prim.Native.Nat.{ℕ, suc}
@@ -28,8 +29,8 @@ metastateWords x = x .number ∷ matrixWords (x .matrix)
 abbrev pub noCombination : Combination
 noCombination = record { phone = 0; leaves = []; matrix = [] }
 
--- "Start metastates: each silence combination whose matrix, with columns 0..n−1 cut to {1}, is valid, with that cut
--- matrix, in combination order." The list begins with combination `number`.
+-- "Start metastates: each silence combination whose matrix, with columns 0..n−1 cut to {1}, is valid, with
+-- that cut matrix, in combination order." The list begins with combination `number`.
 unfoldable pub startsFrom : (half number : ℕ) → List Combination → List Metastate
 startsFrom half number [] = []
 startsFrom half number (c ∷ cs) =
@@ -38,8 +39,8 @@ startsFrom half number (c ∷ cs) =
     then record { number = number; matrix = cut } ∷ startsFrom half (suc number) cs
     else startsFrom half (suc number) cs
 
--- "for each combination in order whose matrix meets q's shifted matrix validly"; "The new metastate carries the meet,
--- not the combination's own matrix." The list begins with combination `number`.
+-- "for each combination in order whose matrix meets q's shifted matrix validly"; "The new metastate carries
+-- the meet, not the combination's own matrix." The list begins with combination `number`.
 unfoldable pub followersFrom : (shifted : Matrix) → (number : ℕ) → List Combination → List Metastate
 followersFrom shifted number [] = []
 followersFrom shifted number (c ∷ cs) =

@@ -84,7 +84,8 @@ networkKind lent =
       afterLast = answered;
     }
 
--- Reading network text into an arc table of so many words: its lines, or the refusal; and what the table then holds.
+-- Reading network text into an arc table of so many words: its lines, or the refusal; and what the table
+-- then holds.
 unfoldable pub readNetwork : (lent : ℕ) → (text : List ℕ) → Outcome (List NetworkLine)
 readNetwork lent text = readText (networkKind lent) text
 

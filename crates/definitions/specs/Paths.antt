@@ -11,8 +11,8 @@ use Rattle.definitions.specs.Arcs.{Arc, arc, INITIAL, FINAL}
 abbrev pub arcAt : List Arc → (place : ℕ) → Arc
 arcAt arcs place = getD arcs place (arc 0 0 0 0)
 
--- "A path is a list of places among the counted arcs, each arc leaving the state that the one before it enters":
--- whether these places lead from a state to a state
+-- "A path is a list of places among the counted arcs, each arc leaving the state that the one before it
+-- enters": whether these places lead from a state to a state
 unfoldable pub leads : List Arc → (from : ℕ) → (places : List ℕ) → (to : ℕ) → Bool
 leads arcs from [] to = eqb from to
 leads arcs from (place ∷ places) to =

@@ -25,7 +25,12 @@ programLent = record { nodes = nodeSize * 1024; classes = 255; roots = 64 * 3 }
 
 -- "512 combinations, 512 metastates and 2000 arcs, and a turn limit of 512"
 abbrev pub programSpace : Space
-programSpace = record { combinations = combinationSize * 512; metastates = metastateSize * 512; arcs = arcSize * 2000 }
+programSpace =
+    record {
+      combinations = combinationSize * 512;
+      metastates = metastateSize * 512;
+      arcs = arcSize * 2000;
+    }
 
 abbrev pub programTurns : ℕ
 programTurns = 512

@@ -1,4 +1,5 @@
--- Document 01, "Fault numbers", its last paragraph: the order in which a text's lines are judged, one for every kind of text.
+-- Document 01, "Fault numbers", its last paragraph: the order in which a text's lines are judged, one for
+-- every kind of text.
 use mathlib.Core.List.{List, [], _∷_, _++_}
 use mathlib.Core.Bool.{Bool, not}
 use mathlib.Core.Option.{none, some}
@@ -35,8 +36,10 @@ lineTests kind before line =
     ∷ Order unless kind .inOrder before (kind .view line)
     ∷ kind .furtherTests (kind .view line)
 
--- "line by line 17 (going on), 12, ..; then 17 (ending early, line one past the last)", from line number `at` on
-unfoldable pub readFrom : {L : Type 0} → Kind L → (at : ℕ) → (before : List L) → List (List ℕ) → Outcome (List L)
+-- "line by line 17 (going on), 12, ..; then 17 (ending early, line one past the last)", from line number
+-- `at` on
+unfoldable pub readFrom : {L : Type 0} → Kind L
+    → (at : ℕ) → (before : List L) → (lines : List (List ℕ)) → Outcome (List L)
 readFrom kind at before [] = judge at (Count unless kind .complete before ∷ []) (kind .afterLast before)
 readFrom kind at before (bytes ∷ rest) =
     judge at (Count unless not (kind .complete before) ∷ [])

@@ -6,7 +6,8 @@ use lib.ListN.{take}
 use Rattle.definitions.specs.declared.Header.{Header}
 use Rattle.definitions.specs.declared.Node.{Node}
 use Rattle.definitions.specs.Faults.{Outcome, answered, refused}
-use Rattle.definitions.specs.Lists.{if_then_else_, _!_, select, concatMap, upFrom, records, cleared, padded}
+use Rattle.definitions.specs.Lists.{if_then_else_, _!_, select, concatMap, upFrom, records, cleared}
+use Rattle.definitions.specs.Lists.{padded}
 use Rattle.definitions.specs.PhoneSets.{setOf}
 use Rattle.definitions.specs.BookLines.{BookLine, headerOf, rootCount, Member, membersOf}
 use Rattle.definitions.specs.BookLines.{TreeNode, question, leaf, nodesOf, rootsOf}
@@ -41,7 +42,8 @@ bookOf lines =
     }
 
 -- The words of the tables.
--- "for each node five 32-bit words (1 question or 2 leaf; class or model; position; yes; no; the last three 0 at a leaf)"
+-- "for each node five 32-bit words (1 question or 2 leaf; class or model; position; yes; no; the last three
+-- 0 at a leaf)"
 unfoldable pub nodeWords : TreeNode → List ℕ
 nodeWords (question class position yesNode noNode) = 1 ∷ class ∷ position ∷ yesNode ∷ noNode ∷ []
 nodeWords (leaf model) = 2 ∷ model ∷ 0 ∷ 0 ∷ 0 ∷ []

@@ -7,11 +7,12 @@ use Prim.Native.Nat.{ℕ, zero, suc, _+_, _-_, _*_}
 use lib.Dec.{eqb}
 use lib.ListN.{length, take, drop, replicate}
 use Rattle.definitions.specs.Lists.{if_then_else_, _!_, all, any, concatMap, upFrom}
-use Rattle.definitions.specs.BookLines.{BookLine, H, Q, N, L, R, headerOf, isPhone, TreeNode, question, leaf}
+use Rattle.definitions.specs.BookLines.{BookLine, H, Q, N, L, R, headerOf, isPhone, TreeNode}
+use Rattle.definitions.specs.BookLines.{question, leaf}
 
--- "The context of place i in a sequence S has 2n+1 phones: in column c the phone at place i+c−n, or 1 where that lies
--- beyond either end." With n silences before and after S, place i+c−n of S is place i+c. So the contexts are windows of
--- 2n+1 phones, each one place further on.
+-- "The context of place i in a sequence S has 2n+1 phones: in column c the phone at place i+c−n, or 1 where
+-- that lies beyond either end." With n silences before and after S, place i+c−n of S is place i+c. So the
+-- contexts are windows of 2n+1 phones, each one place further on.
 unfoldable pub windows : (width count : ℕ) → List ℕ → List (List ℕ)
 windows width zero phones = []
 windows width (suc count) phones = take width phones ∷ windows width count (drop 1 phones)
@@ -53,15 +54,17 @@ isMemberLine class phone (R _ _ _) = false
 unfoldable pub putInClass : List BookLine → (class phone : ℕ) → Bool
 putInClass lines class phone = any (isMemberLine class phone) lines
 
--- "At an N line go to its yes node if a Q line puts the context's phone at its position into its class, else to its no
--- node. At an L line its model is given." The walk meets greater nodes only, so as many steps as lines are enough.
+-- "At an N line go to its yes node if a Q line puts the context's phone at its position into its class,
+-- else to its no node. At an L line its model is given." The walk meets greater nodes only, so as many
+-- steps as lines are enough.
 unfoldable pub modelBelow : (steps : ℕ) → List BookLine → (context : List ℕ) → (node : ℕ) → Option ℕ
 modelBelow zero lines context node = none
 modelBelow (suc steps) lines context node =
     elim (nodeLine lines node) [
       | none ↦ none
       | some (question class position yesNode noNode) ↦
-          modelBelow steps lines context (if putInClass lines class (context ! position) then yesNode else noNode)
+          modelBelow steps lines context
+          (if putInClass lines class (context ! position) then yesNode else noNode)
       | some (leaf model) ↦ some model
     ]
 
@@ -82,13 +85,16 @@ together (some a ∷ answers) = elim (together answers) [ none ↦ none | some r
 -- "phones in order and within each phone the states ascending"
 unfoldable pub modelsAlong : List BookLine → (contexts : List (List ℕ)) → Option (List ℕ)
 modelsAlong lines contexts =
-    together
-    (concatMap (λ context. map (λ state. modelGiven lines context state) (upFrom 1 (headerOf lines .states))) contexts)
+    let states : List ℕ = upFrom 1 (headerOf lines .states) in
+    together (concatMap (λ context. map (λ state. modelGiven lines context state) states) contexts)
 
--- "The trees give S these models .. To the empty sequence they give the empty M, to one with a phone out of range no M."
+-- "The trees give S these models .. To the empty sequence they give the empty M, to one with a phone out of
+-- range no M."
 unfoldable pub treesGive : List BookLine → (S : List ℕ) → Option (List ℕ)
 treesGive lines S =
-    if all (isPhone (headerOf lines .phones)) S then modelsAlong lines (contexts (headerOf lines .half) S) else none
+    if all (isPhone (headerOf lines .phones)) S
+    then modelsAlong lines (contexts (headerOf lines .half) S)
+    else none
 
 -- "S begins and ends with silence" (the empty sequence has no phone there)
 unfoldable pub silentEnds : (S : List ℕ) → Bool

@@ -1,4 +1,5 @@
--- Opens every definition, so that closed examples compute: `unfolding everything` opens all that its line names.
+-- Opens every definition, so that closed examples compute: `unfolding everything` opens all that its line
+-- names.
 use Rattle.definitions.specs.Lists.{all, any, select, lastPasses, concatMap, upFrom, times, same}
 use Rattle.definitions.specs.Lists.{records, padded}
 use Rattle.definitions.specs.Faults.{judge, andThen, answerLeft}

@@ -1,5 +1,5 @@
--- A case for each fault of document 01, on its example with a line altered, and for the order of two faults at once.
--- The numbers 31, 32 and 41 stand among the ★ cases.
+-- A case for each fault of document 01, on its example with a line altered, and for the order of two faults
+-- at once. The numbers 31, 32 and 41 stand among the ★ cases.
 use mathlib.Core.Path.{refl}
 use mathlib.Core.List.{List, [], _∷_, _++_}
 use Prim.Native.Nat.{ℕ, _-_, _*_}
@@ -17,8 +17,10 @@ use Rattle.definitions.specs.Leaving.{leaving}
 use Rattle.definitions.specs.Transcription.{transcribe}
 use Rattle.definitions.specs.Program.{program}
 use Rattle.definitions.specs.examples.Everything.{everything}
-use Rattle.definitions.specs.examples.Example.{textOf, inputLines, input, output, header, lent, tables, spaceFor}
-use Rattle.definitions.specs.examples.Example.{Result, accepts, gives, finishes, refuses, read, given, built}
+use Rattle.definitions.specs.examples.Example.{textOf, inputLines, input, output, header, lent}
+use Rattle.definitions.specs.examples.Example.{tables, spaceFor}
+use Rattle.definitions.specs.examples.Example.{Result, accepts, gives, finishes, refuses, read, given}
+use Rattle.definitions.specs.examples.Example.{built}
 use Rattle.definitions.specs.examples.Example.{Case, _is_, Holds, example}
 
 -- a book of these lines, and the example with one line altered
@@ -64,7 +66,8 @@ table =
     ∷ reading (take 7 inputLines) is refuses 17 8
     ∷ reading (inputLines ++ ("?" ∷ [])) is refuses 17 9
     ∷ read (readBook narrow input) is refuses 20 1
-    -- two faults in one line: 12 before 14, 14 for the letter before 13, 13 before 14 for the numbers, 13 before 15
+    -- two faults in one line: 12 before 14, 14 for the letter before 13, 13 before 14 for the numbers, 13
+    -- before 15
     ∷ line 3 "R     1     1" is refuses 12 3
     ∷ line 3 "R     9     1     0" is refuses 14 3
     ∷ line 5 "L     4    20" is refuses 13 5

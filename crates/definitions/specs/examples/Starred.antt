@@ -7,7 +7,8 @@ use Rattle.definitions.specs.Transcription.{transcribe}
 use Rattle.definitions.specs.Program.{program}
 use Rattle.definitions.specs.examples.Everything.{everything}
 use Rattle.definitions.specs.examples.Example.{input, output, header, tables, spaceFor, given, built}
-use Rattle.definitions.specs.examples.Example.{Result, gives, finishes, stops, refuses, Case, _is_, Holds, example}
+use Rattle.definitions.specs.examples.Example.{Result, gives, finishes, stops, refuses, Case, _is_}
+use Rattle.definitions.specs.examples.Example.{Holds, example}
 
 -- a sequence transcribed, into a buffer for four models
 phones : (S : List ℕ) → Result

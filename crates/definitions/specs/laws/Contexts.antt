@@ -1,5 +1,6 @@
--- Laws about contexts: the definition by windows is document 01's sentence, "in column c the phone at place i+c−n, or 1
--- where that lies beyond either end". Place i+c of the sequence with silence around it stands between.
+-- Laws about contexts: the definition by windows is document 01's sentence, "in column c the phone at place
+-- i+c−n, or 1 where that lies beyond either end". Place i+c of the sequence with silence around it stands
+-- between.
 use mathlib.Core.Path.{_≡_, refl, sym, ap, _∙_}
 use mathlib.Core.List.{List, [], _++_}
 use Prim.Native.Nat.{ℕ, zero, suc, _+_, _-_, _*_, _≤_, _<_}
@@ -77,7 +78,8 @@ module _ (half : ℕ) (S : List ℕ) (i : ℕ) (place : i < length S) where
     context-column : contextAt half S i ! c ≡ withSilence half S ! (i + c)
     context-column =
         ap (λ (l : List ℕ). l ! c) context-window
-        ∙ getD-take (2 * half + 1) (drop i (withSilence half S)) c 0 column ∙ getD-drop i (withSilence half S) c 0
+        ∙ getD-take (2 * half + 1) (drop i (withSilence half S)) c 0 column
+        ∙ getD-drop i (withSilence half S) c 0
 
     -- a place before the sequence: silence
     pub context-before : i + c < half → contextAt half S i ! c ≡ 1
