@@ -20,10 +20,10 @@ pub data BookLine : Type 0 where
 unfoldable pub bookLine : Line → BookLine
 bookLine line =
     let n : List ℕ = line .numbers in
-    if eqb (line .letter) (code "H") then H (n ! 0) (n ! 1) (n ! 2) (n ! 3) (n ! 4) else
-    if eqb (line .letter) (code "Q") then Q (n ! 0) (n ! 1) else
-    if eqb (line .letter) (code "N") then N (n ! 0) (n ! 1) (n ! 2) (n ! 3) (n ! 4) else
-    if eqb (line .letter) (code "L") then L (n ! 0) (n ! 1) else
+    if eqb (code "H") (line .letter) then H (n ! 0) (n ! 1) (n ! 2) (n ! 3) (n ! 4) else
+    if eqb (code "Q") (line .letter) then Q (n ! 0) (n ! 1) else
+    if eqb (code "N") (line .letter) then N (n ! 0) (n ! 1) (n ! 2) (n ! 3) (n ! 4) else
+    if eqb (code "L") (line .letter) then L (n ! 0) (n ! 1) else
     R (n ! 0) (n ! 1) (n ! 2)
 
 -- the header: the numbers of the H line, which comes first

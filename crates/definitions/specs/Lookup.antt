@@ -11,8 +11,9 @@ use Rattle.definitions.specs.Faults.{Outcome, answered, _unless_, judge}
 use Rattle.definitions.specs.Lists.{if_then_else_, _!_, all}
 use Rattle.definitions.specs.PhoneSets.{has}
 use Rattle.definitions.specs.BookLines.{isPhone, TreeNode, question, leaf}
-use Rattle.definitions.specs.Tables.{treeNode}
-use Rattle.definitions.specs.ForeignTables.{headerKnown, nodesKnown, classTableKnown}
+use Rattle.definitions.specs.BookReading.{nodeSize}
+use Rattle.definitions.specs.Tables.{treeNode, nodeRecords}
+use Rattle.definitions.specs.ForeignTables.{headerKnown, nodesKnown, holdsOnly, classTableKnown}
 
 abbrev pub nodeAt : List TreeNode → ℕ → TreeNode
 nodeAt nodes node = getD nodes node (leaf 0)
@@ -62,3 +63,10 @@ lookup header classes nodes root context =
     ∷ Range unless isContext header context
     ∷ [])
     (answered (leafReached (map treeNode nodes) classes context root))
+
+-- the same over the table of node words that reading leaves
+unfoldable pub lookupInTable : Header → (classes nodes : List ℕ) → (root : ℕ) → (context : List ℕ) → Outcome ℕ
+lookupInTable header classes nodes root context =
+    judge 0
+    (Foreign unless holdsOnly (nodeSize * header .nodes) nodes ∷ [])
+    (lookup header classes (nodeRecords header nodes) root context)

@@ -23,7 +23,7 @@ pub data NetworkLine : Type 0 where
 unfoldable pub networkLine : Line → NetworkLine
 networkLine line =
     let n : List ℕ = line .numbers in
-    if eqb (line .letter) (code "W") then W (n ! 0) (n ! 1) (n ! 2) else
+    if eqb (code "W") (line .letter) then W (n ! 0) (n ! 1) (n ! 2) else
     A (arc (n ! 0) (n ! 1) (n ! 2) (n ! 3))
 
 abbrev pub noCounts : Counts

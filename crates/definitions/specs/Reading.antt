@@ -5,7 +5,7 @@ use mathlib.Core.Bool.{Bool, not}
 use mathlib.Core.Option.{none, some}
 use Prim.Native.Nat.{ℕ, suc}
 use Rattle.definitions.specs.declared.Fault.the-variants.{Ragged, Misprint, Range, Order, Count}
-use Rattle.definitions.specs.Faults.{Outcome, refuse, Test, _unless_, judge}
+use Rattle.definitions.specs.Faults.{Outcome, answered, refuse, Test, _unless_, judge, andThen}
 use Rattle.definitions.specs.Forms.{Form}
 use Rattle.definitions.specs.Lines.{Line, lineOf, inFixedRanges, linesOf, wholeLines}
 
@@ -36,19 +36,20 @@ lineTests kind before line =
     ∷ Order unless kind .inOrder before (kind .view line)
     ∷ kind .furtherTests (kind .view line)
 
--- "line by line 17 (going on), 12, ..; then 17 (ending early, line one past the last)", from line number
--- `at` on
+-- 12, or the line
+unfoldable pub lineRead : List Form → (at : ℕ) → (bytes : List ℕ) → Outcome Line
+lineRead forms at bytes = elim (lineOf forms bytes) [ none ↦ refuse Misprint at | some line ↦ answered line ]
+
+-- "line by line 17 (going on), 12, ..; then 17 (ending early, line one past the last)", from line number `at`
 unfoldable pub readFrom : {L : Type 0} → Kind L
     → (at : ℕ) → (before : List L) → (lines : List (List ℕ)) → Outcome (List L)
 readFrom kind at before [] = judge at (Count unless kind .complete before ∷ []) (kind .afterLast before)
 readFrom kind at before (bytes ∷ rest) =
     judge at (Count unless not (kind .complete before) ∷ [])
-    (elim (lineOf (kind .forms) bytes) [
-      | none ↦ refuse Misprint at
-      | some line ↦
-          judge at (lineTests kind before line)
-          (readFrom kind (suc at) (before ++ (kind .view line ∷ [])) rest)
-    ])
+    (andThen (lineRead (kind .forms) at bytes)
+    (λ line.
+    judge at (lineTests kind before line)
+    (readFrom kind (suc at) (before ++ (kind .view line ∷ [])) rest)))
 
 -- "11 over the whole text, with line 0; then line by line"
 unfoldable pub readText : {L : Type 0} → Kind L → (text : List ℕ) → Outcome (List L)

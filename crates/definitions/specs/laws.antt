@@ -1,5 +1,12 @@
 pub mod Tests
+pub mod Lists
 pub mod Judging
+pub mod Reading
+pub mod Ranges
+pub mod Records
+pub mod Tables
+pub mod Books
+pub mod Walks
 pub mod PhoneSets
 pub mod Matrices
 pub mod SevenWords

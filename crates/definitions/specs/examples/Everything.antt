@@ -1,5 +1,4 @@
--- Opens every definition, so that closed examples compute: `unfolding everything` opens all that its line
--- names.
+-- Opens every definition, so that closed examples compute: `unfolding everything` opens what its line names.
 use Rattle.definitions.specs.Lists.{all, any, select, lastPasses, concatMap, upFrom, times, same}
 use Rattle.definitions.specs.Lists.{records, padded}
 use Rattle.definitions.specs.Faults.{judge, andThen, answerLeft}
@@ -7,7 +6,7 @@ use Rattle.definitions.specs.Numerals.{isDigit, isNumeral, valueOf, nume
 use Rattle.definitions.specs.Lines.{skipSpaces, digitsField, fieldOf, fieldText, formOf, isBlank}
 use Rattle.definitions.specs.Lines.{numbersOf, fieldsOf, withLetter, lineOf, inRanges, inFixedRanges}
 use Rattle.definitions.specs.Lines.{lineText, linesOf, endsInLineFeed, wholeLines}
-use Rattle.definitions.specs.Reading.{lineTests, readFrom, readText}
+use Rattle.definitions.specs.Reading.{lineTests, lineRead, readFrom, readText}
 use Rattle.definitions.specs.BookLines.{bookLine, headerIn, headerOf, rootCount, isPhone, memberIn}
 use Rattle.definitions.specs.BookLines.{membersOf, nodeIn, nodesOf, rootIn, rootsOf, childrenOf}
 use Rattle.definitions.specs.BookReading.{bookFollows, withinHeader, comesBefore, bookInOrder}
@@ -20,7 +19,7 @@ use Rattle.definitions.specs.ForeignTables.{headerKnown, questionKnown, 
 use Rattle.definitions.specs.ForeignTables.{holdsOnly, nodeTableKnown, classTableKnown}
 use Rattle.definitions.specs.ForeignTables.{rootTableKnown, namedOnce, tablesKnown}
 use Rattle.definitions.specs.Lookup.{modelAt, holdsAt, walk, leafReached, lookupKnown, isContext}
-use Rattle.definitions.specs.Lookup.{lookup}
+use Rattle.definitions.specs.Lookup.{lookup, lookupInTable}
 use Rattle.definitions.specs.PhoneSets.{has, one, allPhones, without, setOf}
 use Rattle.definitions.specs.Matrices.{matrixWords, rootMatrix, yesSide, noSide, valid, meet, shift}
 use Rattle.definitions.specs.Matrices.{startCut, endsHere}
@@ -52,23 +51,23 @@ unfoldable pub everything : Unit {0}
 unfolding all any select lastPasses concatMap upFrom times same records padded judge andThen answerLeft
     isDigit isNumeral valueOf numeralWithin numeral skipSpaces digitsField fieldOf fieldText formOf
     isBlank numbersOf fieldsOf withLetter lineOf inRanges inFixedRanges lineText linesOf endsInLineFeed
-    wholeLines lineTests readFrom readText bookLine headerIn headerOf rootCount isPhone memberIn
-    membersOf nodeIn nodesOf rootIn rootsOf childrenOf bookFollows withinHeader comesBefore bookInOrder
-    childrenGreater wideEnough bookTests bookComplete orphans isLineOf nodeLineFrom judgeNames bookKind
-    readBook phonesOfClass classSets bookOf nodeWords tablesOf noTables tablesLeft nodeOf treeNode
-    nodeRecords tablesBook headerKnown questionKnown leafKnown nodesKnown holdsOnly nodeTableKnown
-    classTableKnown rootTableKnown namedOnce tablesKnown modelAt holdsAt walk leafReached lookupKnown
-    isContext lookup has one allPhones without setOf matrixWords rootMatrix yesSide noSide valid meet
-    shift startCut endsHere leavesBelow insertLeaf ascending rootOf leavesOf choose combinationsOf
-    combinations combinationWords combinationRoom combine combinationSpace firstState lastState arcWords
-    arcOf arcsIn sameMetastate metastateWords startsFrom followersFrom combinationOf phoneOf starts
-    followers modelsOf mayEnd ownArcs finalArcs startEvents turnEvents arcInto placeFrom addArc
-    addMetastate addBoth perform performAll turnsFrom connect roomIn build networkIn countsIn buffersOf
-    noBuffers buffersLeft leads accepting withoutZeros modelsCarried phonesCarried partOf leaving
-    partHanded partWords networkLine countsInLine countsOf arcInLine arcsOf isState networkFollows
-    withinCounts networkInOrder networkTests networkComplete networkKind readNetwork arcsLeft arcKnown
-    neverDescending networkKnown lineOfCounts lineOfArc networkText writeNetwork windows withSilence
-    contexts rootLine nodeLine isMemberLine putInClass modelBelow modelGiven together modelsAlong
-    treesGive silentEnds modelOf transcription isUtterance transcribe networkOf refusalText printed
-    program
+    wholeLines lineTests lineRead readFrom readText bookLine headerIn headerOf rootCount isPhone
+    memberIn membersOf nodeIn nodesOf rootIn rootsOf childrenOf bookFollows withinHeader comesBefore
+    bookInOrder childrenGreater wideEnough bookTests bookComplete orphans isLineOf nodeLineFrom
+    judgeNames bookKind readBook phonesOfClass classSets bookOf nodeWords tablesOf noTables tablesLeft
+    nodeOf treeNode nodeRecords tablesBook headerKnown questionKnown leafKnown nodesKnown holdsOnly
+    nodeTableKnown classTableKnown rootTableKnown namedOnce tablesKnown modelAt holdsAt walk leafReached
+    lookupKnown isContext lookup lookupInTable has one allPhones without setOf matrixWords rootMatrix
+    yesSide noSide valid meet shift startCut endsHere leavesBelow insertLeaf ascending rootOf leavesOf
+    choose combinationsOf combinations combinationWords combinationRoom combine combinationSpace
+    firstState lastState arcWords arcOf arcsIn sameMetastate metastateWords startsFrom followersFrom
+    combinationOf phoneOf starts followers modelsOf mayEnd ownArcs finalArcs startEvents turnEvents
+    arcInto placeFrom addArc addMetastate addBoth perform performAll turnsFrom connect roomIn build
+    networkIn countsIn buffersOf noBuffers buffersLeft leads accepting withoutZeros modelsCarried
+    phonesCarried partOf leaving partHanded partWords networkLine countsInLine countsOf arcInLine arcsOf
+    isState networkFollows withinCounts networkInOrder networkTests networkComplete networkKind
+    readNetwork arcsLeft arcKnown neverDescending networkKnown lineOfCounts lineOfArc networkText
+    writeNetwork windows withSilence contexts rootLine nodeLine isMemberLine putInClass modelBelow
+    modelGiven together modelsAlong treesGive silentEnds modelOf transcription isUtterance transcribe
+    networkOf refusalText printed program
 everything = tt

@@ -1,0 +1,62 @@
+-- Laws about tables: the book read back out of the tables that hold it is that book.
+-- So whatever a later stage computes from tables as reading left them, it computes from the lines' book.
+use mathlib.Core.Path.{_≡_, refl, sym, ap, ap₂, _∙_}
+use mathlib.Core.List.{List, [], _∷_, map}
+use Prim.Native.Nat.{ℕ, _-_}
+use lib.ListN.{length, take}
+use lib.Seq.{take-at}
+use Rattle.definitions.specs.declared.Header.{Header}
+use Rattle.definitions.specs.Lists.{concatMap, cleared, padded}
+use Rattle.definitions.specs.BookLines.{TreeNode, question, leaf, rootCount}
+use Rattle.definitions.specs.BookReading.{Lent, nodeSize}
+use Rattle.definitions.specs.Tables.{Book, nodeWords, nodeOf, treeNode, nodeRecords, tablesOf, tablesBook}
+use Rattle.definitions.specs.laws.Records.{flat-records}
+
+-- a header that states a book's counts
+pub record Heads (header : Header) (book : Book) : Type 0 where
+  pub half : header .half ≡ book .half
+  pub states : header .states ≡ book .states
+  pub phones : header .phones ≡ book .phones
+  pub nodes : header .nodes ≡ length (book .nodes)
+  pub classes : header .classes ≡ length (book .classes)
+  pub roots : rootCount header ≡ length (book .roots)
+
+node-sized : (node : TreeNode) → length (nodeWords node) ≡ nodeSize
+unfolding nodeWords
+node-sized (question class position yesNode noNode) = refl
+node-sized (leaf model) = refl
+
+node-back : (node : TreeNode) → treeNode (nodeOf (nodeWords node)) ≡ node
+unfolding treeNode nodeOf nodeWords
+node-back (question class position yesNode noNode) = refl
+node-back (leaf model) = refl
+
+nodes-back : (nodes : List TreeNode) → map treeNode (map nodeOf (map nodeWords nodes)) ≡ nodes
+nodes-back [] = refl
+nodes-back (node ∷ nodes) =
+    ap₂ (λ (x : TreeNode) (l : List TreeNode). x ∷ l) (node-back node) (nodes-back nodes)
+
+-- the used words of a padded table
+used-words : (size count : ℕ) (used : List ℕ) → count ≡ length used → take count (padded size used) ≡ used
+unfolding padded
+used-words size count used e = take-at used (cleared (size - length used)) count (sym e)
+
+pub tables-nodes : (header : Header) (size : ℕ) (nodes : List TreeNode) → header .nodes ≡ length nodes
+    → map treeNode (nodeRecords header (padded size (concatMap nodeWords nodes))) ≡ nodes
+unfolding nodeRecords padded
+tables-nodes header size nodes e =
+    let rest : List ℕ = cleared (size - length (concatMap nodeWords nodes)) in
+    let back = flat-records nodeWords nodeSize node-sized nodes rest in
+    rw e (ap (λ (l : List (List ℕ)). map treeNode (map nodeOf l)) back) ∙ nodes-back nodes
+
+pub tables-book : (header : Header) (lent : Lent) (book : Book) → Heads header book
+    → tablesBook header (tablesOf lent book) ≡ book
+unfolding tablesBook tablesOf
+tables-book header lent book h = λ i. record {
+  half = h .half i;
+  states = h .states i;
+  phones = h .phones i;
+  nodes = tables-nodes header (lent .nodes) (book .nodes) (h .nodes) i;
+  classes = used-words (lent .classes) (header .classes) (book .classes) (h .classes) i;
+  roots = used-words (lent .roots) (rootCount header) (book .roots) (h .roots) i;
+}

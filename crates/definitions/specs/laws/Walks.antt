@@ -1,0 +1,69 @@
+-- Laws about walks: where each child is a greater node of the list, as many steps as there are nodes are
+-- enough. So the number of steps that a walk is given is no rule of its own.
+use mathlib.Core.Path.{_≡_, refl, sym, subst}
+use mathlib.Core.List.{List}
+use mathlib.Core.Bool.{Bool, true, false}
+use Prim.Native.Nat.{ℕ, zero, suc, _+_, _≤_, _<_}
+use native.Mathlib.Omega.{arith}
+use lib.ListN.{length}
+use Rattle.definitions.specs.Lists.{if_then_else_}
+use Rattle.definitions.specs.BookLines.{TreeNode, question, leaf}
+use Rattle.definitions.specs.Lookup.{nodeAt, holdsAt, walk, leafReached}
+
+-- every child is a greater node of the list
+pub record Later (nodes : List TreeNode) (node child : ℕ) : Type 0 where
+  pub greater : node < child
+  pub listed : child < length nodes
+
+abbrev pub Forward : List TreeNode → Type 0
+Forward nodes =
+    (node class position yesNode noNode : ℕ) → nodeAt nodes node ≡ question class position yesNode noNode
+    → Later nodes node yesNode × Later nodes node noNode
+
+-- a node of the list is a leaf
+abbrev pub IsLeaf : List TreeNode → ℕ → Type 0
+IsLeaf nodes node = (model : ℕ) × (nodeAt nodes node ≡ leaf model)
+
+module _ (nodes : List TreeNode) (classes context : List ℕ) where
+  abbrev walked : (steps node : ℕ) → ℕ
+  walked steps node = walk steps nodes classes context node
+
+  -- a step of a walk: a leaf stays, a question goes on at its answer
+  pub walk-leaf : (steps node model : ℕ) → nodeAt nodes node ≡ leaf model → walked (suc steps) node ≡ node
+  unfolding walk
+  walk-leaf steps node model e = rw (e, walk)
+
+  pub walk-question : (steps node class position yesNode noNode : ℕ)
+      → nodeAt nodes node ≡ question class position yesNode noNode → walked (suc steps) node
+      ≡ walked steps (if holdsAt classes class position context then yesNode else noNode)
+  unfolding walk
+  walk-question steps node class position yesNode noNode e = rw (e, walk)
+
+  -- enough steps end at a leaf
+  pub walk-ends : Forward nodes → (steps node : ℕ) → node < length nodes → length nodes ≤ node + steps
+      → IsLeaf nodes (walked steps node)
+  walk-ends forward zero node h k = absurd (omega arith)
+  walk-ends forward (suc steps) node h k =
+      at (nodeAt nodes node) refl (λ child h k. walk-ends forward steps child h k)
+    where
+      at : (x : TreeNode) → nodeAt nodes node ≡ x
+          → ((child : ℕ) → child < length nodes → length nodes ≤ child + steps
+          → IsLeaf nodes (walked steps child))
+          → IsLeaf nodes (walked (suc steps) node)
+      at (leaf model) e further =
+          (model, subst (λ (n : ℕ). nodeAt nodes n ≡ leaf model) (sym (walk-leaf steps node model e)) e)
+      at (question class position yesNode noNode) e further =
+          subst (IsLeaf nodes) (sym (walk-question steps node class position yesNode noNode e))
+          (choice (holdsAt classes class position context))
+        where
+          children : Later nodes node yesNode × Later nodes node noNode
+          children = forward node class position yesNode noNode e
+
+          choice : (b : Bool) → IsLeaf nodes (walked steps (if b then yesNode else noNode))
+          choice true = further yesNode (children .0 .listed) (omega (arith, children .0 .greater))
+          choice false = further noNode (children .1 .listed) (omega (arith, children .1 .greater))
+
+  pub leaf-reached : Forward nodes → (root : ℕ) → root < length nodes
+      → IsLeaf nodes (leafReached nodes classes context root)
+  unfolding leafReached
+  leaf-reached forward root h = walk-ends forward (length nodes) root h (omega arith)
