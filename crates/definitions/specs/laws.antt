@@ -1,9 +1,13 @@
 pub mod Tests
 pub mod Lists
+pub mod Records
 pub mod Judging
+pub mod Numerals
+pub mod Fields
+pub mod LineFields
+pub mod Lines
 pub mod Reading
 pub mod Ranges
-pub mod Records
 pub mod Tables
 pub mod Books
 pub mod Walks

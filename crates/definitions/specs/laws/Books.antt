@@ -22,7 +22,7 @@ use Rattle.definitions.specs.Tables.{bookOf, classSets, tablesLeft, tabl
 use Rattle.definitions.specs.laws.Tests.{T-and}
 use Rattle.definitions.specs.laws.Lists.{length-snoc, upFrom-length}
 use Rattle.definitions.specs.laws.Judging.{testAt, passes-at}
-use Rattle.definitions.specs.laws.Reading.{Passed, Accepted, text-holds}
+use Rattle.definitions.specs.laws.Reading.{Passed, text-holds}
 use Rattle.definitions.specs.laws.Judging.{refused-not-answered}
 use Rattle.definitions.specs.laws.Ranges.{HeaderRanges, Ranged, line-ranged}
 use Rattle.definitions.specs.laws.Tables.{Heads, tables-book}
@@ -123,7 +123,8 @@ names-judged lines answer e = none (orphans (nodesOf lines) (rootsOf lines)) ref
     none : (l : List ℕ) → orphans (nodesOf lines) (rootsOf lines) ≡ l
         → (lines ≡ answer) × (orphans (nodesOf lines) (rootsOf lines) ≡ [])
     none [] q =
-        let same : _≡_ {A = Outcome (List BookLine)} (answered lines) (answered answer) = rw (q, judgeNames) at e in
+        let same : _≡_ {A = Outcome (List BookLine)} (answered lines) (answered answer) =
+        rw (q, judgeNames) at e in
         (cc, q)
     none (node ∷ others) q = absurd (refused-not-answered _ Orphan _ answer refl (rw (q, judgeNames) at e))
 
@@ -186,5 +187,5 @@ pub accepted-book : (lent : Lent) (text : List ℕ) (lines : List BookLine) → 
     → tablesBook (headerOf lines) (tablesLeft lent (readBook lent text)) ≡ bookOf lines
 unfolding tablesLeft
 accepted-book lent text lines e =
-    let heads : Heads (headerOf lines) (bookOf lines) = orderly-heads lines (accepted-orderly lent text lines e) in
+    let heads = orderly-heads lines (accepted-orderly lent text lines e) in
     rw e (tables-book (headerOf lines) lent (bookOf lines) heads)

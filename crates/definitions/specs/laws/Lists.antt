@@ -1,9 +1,29 @@
--- Laws about the list vocabulary: what the elements of joined lists give, and counting up.
+-- Laws about the list vocabulary: tests of every element, what the elements of joined lists give, counting up.
+-- All other laws use them.
 use mathlib.Core.Path.{_≡_, refl, sym, ap, _∙_}
+use mathlib.Core.Logic.{_↔_}
 use mathlib.Core.List.{List, [], _∷_, _++_, append-assoc, append-nil}
+use mathlib.Core.Bool.{Bool, _&&_, and-assoc}
 use Prim.Native.Nat.{ℕ, zero, suc, _+_}
+use lib.Dec.{T}
 use lib.ListN.{length, length-append}
-use Rattle.definitions.specs.Lists.{concatMap, upFrom}
+use Rattle.definitions.specs.Lists.{all, concatMap, upFrom}
+use Rattle.definitions.specs.laws.Tests.{T-and}
+
+-- ---- tests of every element
+
+pub all-cons : {A : Type 0} (test : A → Bool) (x : A) (l : List A)
+    → T (all test (x ∷ l)) ↔ (T (test x) × T (all test l))
+unfolding all
+all-cons test x l = T-and (test x) (all test l)
+
+pub all-append : {A : Type 0} (test : A → Bool) (k l : List A)
+    → all test (k ++ l) ≡ (all test k && all test l)
+unfolding all
+all-append test [] l = refl
+all-append test (x ∷ k) l = rw (all-append test k l) (sym (and-assoc (test x) (all test k) (all test l)))
+
+-- ---- the lists that elements give, one after the other
 
 pub concatMap-append : {A B : Type 0} (f : A → List B) (k l : List A)
     → concatMap f (k ++ l) ≡ concatMap f k ++ concatMap f l
@@ -21,6 +41,8 @@ concatMap-snoc f l x = concatMap-append f l (x ∷ []) ∙ ap (λ m. concatMap f
 pub length-snoc : {A B : Type 0} (f : A → List B) (l : List A) (x : A)
     → length (concatMap f (l ++ (x ∷ []))) ≡ length (concatMap f l) + length (f x)
 length-snoc f l x = ap length (concatMap-snoc f l x) ∙ length-append (concatMap f l) (f x)
+
+-- ---- counting up
 
 pub upFrom-length : (a count : ℕ) → length (upFrom a count) ≡ count
 unfolding upFrom

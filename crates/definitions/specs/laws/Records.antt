@@ -1,29 +1,113 @@
--- Laws about records laid out flat in a lent buffer: they are read back as they were written, whatever stands
--- after them. Nodes, combinations, metastates and arcs are all kept so.
-use mathlib.Core.Path.{_≡_, refl, ap, _∙_}
+-- Laws about records laid out flat: the records of lists joined are those lists, whatever stands after them,
+-- and records joined are the text that they were taken from. Lines, nodes, combinations, metastates and arcs
+-- are all kept so.
+use mathlib.Core.Path.{_≡_, refl, sym, ap, _∙_}
 use mathlib.Core.List.{List, [], _∷_, _++_, map, append-assoc}
-use Prim.Native.Nat.{ℕ, _-_, _*_}
-use native.Mathlib.Nat.{mul-suc}
+use mathlib.Core.Bool.{Bool}
+use Prim.Native.Nat.{ℕ, zero, suc, _+_, _-_, _*_, _≤_}
+use native.Mathlib.Nat.{mul-zero, mul-suc}
 use native.Mathlib.Omega.{arith}
-use lib.ListN.{length, length-append}
-use lib.Seq.{take-at, drop-at}
-use Rattle.definitions.specs.Lists.{concatMap, records, cleared, padded}
+use lib.Dec.{T, eqb, eqb→eq, eqb-refl}
+use lib.ListN.{length, take, drop, length-append, length-drop, length-map}
+use lib.Seq.{take-at, drop-at, take-add, length-take-le}
+use Rattle.definitions.specs.Lists.{all, concatMap, records, cleared, padded}
 use Rattle.definitions.specs.Arcs.{Arc, arcSize, arcWords, arcOf, arcsIn}
+use Rattle.definitions.specs.laws.Lists.{all-cons}
+
+-- ---- lists joined, and records of a list
+
+abbrev pub joined : List (List ℕ) → List ℕ
+joined lists = concatMap (λ (l : List ℕ). l) lists
+
+-- whether all have `size` elements
+abbrev pub allOf : (size : ℕ) → List (List ℕ) → Bool
+allOf size lists = all (λ l. eqb (length l) size) lists
+
+pub concatMap-joined : {A : Type 0} (f : A → List ℕ) (l : List A) → concatMap f l ≡ joined (map f l)
+unfolding concatMap
+concatMap-joined f [] = refl
+concatMap-joined f (x ∷ l) = ap (λ (r : List ℕ). f x ++ r) (concatMap-joined f l)
+
+module _ (size : ℕ) where
+  pub sized-parts : (l : List ℕ) (lists : List (List ℕ)) → T (allOf size (l ∷ lists))
+      → (length l ≡ size) × T (allOf size lists)
+  sized-parts l lists h =
+      let (first, others) = all-cons (λ (l : List ℕ). eqb (length l) size) l lists .0 h in
+      (eqb→eq (length l) size first, others)
+
+  pub sized-more : (l : List ℕ) (lists : List (List ℕ)) → length l ≡ size → T (allOf size lists)
+      → T (allOf size (l ∷ lists))
+  sized-more l lists e h =
+      all-cons (λ (l : List ℕ). eqb (length l) size) l lists .1 (rw e (eqb-refl size), h)
+
+  pub joined-length : (lists : List (List ℕ)) → T (allOf size lists)
+      → length (joined lists) ≡ size * length lists
+  unfolding concatMap
+  joined-length [] h = sym (mul-zero size)
+  joined-length (l ∷ lists) h =
+      let (first, others) = sized-parts l lists h in
+      length-append l (joined lists)
+      ∙ omega (arith, joined-length lists others, mul-suc size (length lists))
+
+  -- the records of lists joined are those lists
+  pub records-joined : (lists : List (List ℕ)) (rest : List ℕ) → T (allOf size lists)
+      → records size (length lists) (joined lists ++ rest) ≡ lists
+  unfolding records concatMap
+  records-joined [] rest h = refl
+  records-joined (l ∷ lists) rest h =
+      let (first, others) = sized-parts l lists h in
+      let after : List ℕ = joined lists ++ rest in
+      let next = records-joined lists rest others in
+      rw (append-assoc, take-at l after size, drop-at l after size) (ap (λ (r : List (List ℕ)). l ∷ r) next)
+
+  -- ---- the records of a text
+
+  pub records-length : (count : ℕ) (text : List ℕ) → length (records size count text) ≡ count
+  unfolding records
+  records-length zero text = refl
+  records-length (suc count) text = ap suc (records-length count (drop size text))
+
+  -- a text with room for the records
+  room : (count : ℕ) (text : List ℕ) → size * suc count ≤ length text
+      → (size ≤ length text) × (size * count ≤ length (drop size text))
+  room count text h = rw length-drop (omega (arith, mul-suc size count))
+
+  pub records-sized : (count : ℕ) (text : List ℕ) → size * count ≤ length text
+      → T (allOf size (records size count text))
+  unfolding records all
+  records-sized zero text h = tt
+  records-sized (suc count) text h =
+      let (first, others) = room count text h in
+      let rest : List ℕ = drop size text in
+      let next = records-sized count rest others in
+      sized-more (take size text) (records size count rest) (length-take-le size text first) next
+
+  -- joined, they are the text up to their end
+  pub joined-records : (count : ℕ) (text : List ℕ) → size * count ≤ length text
+      → joined (records size count text) ≡ take (size * count) text
+  unfolding records concatMap
+  joined-records zero text h = rw mul-zero
+  joined-records (suc count) text h =
+      let more : size * suc count ≡ size + size * count = omega (arith, mul-suc size count) in
+      rw (more, take-add, joined-records count (drop size text) (room count text h .1))
+
+-- ---- elements written as records of one size
 
 module _ {A : Type 0} (words : A → List ℕ) (size : ℕ) (sized : (x : A) → length (words x) ≡ size) where
+  flat-sized : (xs : List A) → T (allOf size (map words xs))
+  unfolding all
+  flat-sized [] = tt
+  flat-sized (x ∷ xs) = sized-more size (words x) (map words xs) (sized x) (flat-sized xs)
+
   pub flat-length : (xs : List A) → length (concatMap words xs) ≡ size * length xs
-  unfolding concatMap
-  flat-length [] = omega arith
-  flat-length (x ∷ xs) = simp (length-append, mul-suc) (omega (arith, sized x, flat-length xs))
+  flat-length xs =
+      ap length (concatMap-joined words xs) ∙ joined-length size (map words xs) (flat-sized xs) ∙ rw length-map
 
   pub flat-records : (xs : List A) (rest : List ℕ)
       → records size (length xs) (concatMap words xs ++ rest) ≡ map words xs
-  unfolding concatMap records
-  flat-records [] rest = refl
-  flat-records (x ∷ xs) rest =
-      let back : List ℕ = concatMap words xs ++ rest in
-      rw (append-assoc, take-at (words x) back size (sized x), drop-at (words x) back size (sized x))
-      (ap (λ (l : List (List ℕ)). words x ∷ l) (flat-records xs rest))
+  flat-records xs rest =
+      rw (concatMap-joined words xs, ← length-map xs words)
+      (records-joined size (map words xs) rest (flat-sized xs))
 
 -- the arcs in a buffer are those that were written there
 arcs-back : (arcs : List Arc) → map arcOf (map arcWords arcs) ≡ arcs
