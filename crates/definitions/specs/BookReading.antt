@@ -98,16 +98,16 @@ isLineOf node (L other _) = eqb node other
 isLineOf node (R _ _ _) = false
 
 -- the number of a node's line, where the first of these lines has number `at`
-unfoldable pub nodeLineFrom : (at node : ℕ) → List BookLine → ℕ
-nodeLineFrom at node [] = at
-nodeLineFrom at node (line ∷ lines) = if isLineOf node line then at else nodeLineFrom (suc at) node lines
+unfoldable pub lineNumberFrom : (at node : ℕ) → List BookLine → ℕ
+lineNumberFrom at node [] = at
+lineNumberFrom at node (line ∷ lines) = if isLineOf node line then at else lineNumberFrom (suc at) node lines
 
 -- "then 16 at the lowest such node's line"
 unfoldable pub judgeNames : List BookLine → Outcome (List BookLine)
 judgeNames lines =
     elim (orphans (nodesOf lines) (rootsOf lines)) [
       | [] ↦ answered lines
-      | node ∷ others ↦ refuse Orphan (nodeLineFrom 1 node lines)
+      | node ∷ others ↦ refuse Orphan (lineNumberFrom 1 node lines)
     ]
 
 unfoldable pub bookKind : Lent → Kind BookLine

@@ -92,6 +92,9 @@ pub data Built : Type 0 where
 abbrev pub noMetastate : Metastate
 noMetastate = record { number = 0; matrix = [] }
 
+abbrev pub noNetwork : Network
+noNetwork = record { metastates = []; arcs = [] }
+
 module _ (book : Book) (combinations : List Combination) (room : Room) where
   unfoldable pub perform : Network → Event → Outcome Network
   perform net (plain a) = addArc room a net
@@ -105,6 +108,11 @@ module _ (book : Book) (combinations : List Combination) (room : Room) where
   performAll net [] = answered net
   performAll net (event ∷ events) = andThen (perform net event) (λ next. performAll next events)
 
+  -- one turn: of metastates 0, 1, .. as many as `turns` are expanded, so the oldest unexpanded has that place
+  unfoldable pub expand : (turns : ℕ) → Network → Outcome Network
+  expand turns net =
+      performAll net (turnEvents book combinations turns (getD (net .metastates) turns noMetastate))
+
   -- the turns from now on, with `turns` metastates expanded and at most `limit` turns to go
   unfoldable pub turnsFrom : (limit turns : ℕ) → Network → Outcome Built
   turnsFrom zero turns net =
@@ -112,14 +120,10 @@ module _ (book : Book) (combinations : List Combination) (room : Room) where
   turnsFrom (suc limit) turns net =
       elim (ltb turns (length (net .metastates))) [
         | false ↦ answered (finished turns net)
-        | true ↦
-            let q : Metastate = getD (net .metastates) turns noMetastate in
-            andThen (performAll net (turnEvents book combinations turns q))
-            (λ next. turnsFrom limit (suc turns) next)
+        | true ↦ andThen (expand turns net) (λ next. turnsFrom limit (suc turns) next)
       ]
 
   -- "First come the arcs from 0 ..", "Then each turn takes the oldest unexpanded metastate"
   unfoldable pub connect : (limit : ℕ) → Outcome Built
   connect limit =
-      andThen (performAll (record { metastates = []; arcs = [] }) (startEvents book combinations))
-      (λ net. turnsFrom limit 0 net)
+      andThen (performAll noNetwork (startEvents book combinations)) (λ net. turnsFrom limit 0 net)

@@ -14,4 +14,6 @@ pub mod Walks
 pub mod PhoneSets
 pub mod Matrices
 pub mod SevenWords
+pub mod Leaves
+pub mod Turns
 pub mod Contexts

@@ -11,7 +11,7 @@ use Rattle.definitions.specs.BookLines.{bookLine, headerIn, headerOf, ro
 use Rattle.definitions.specs.BookLines.{membersOf, nodeIn, nodesOf, rootIn, rootsOf, childrenOf}
 use Rattle.definitions.specs.BookReading.{bookFollows, withinHeader, comesBefore, bookInOrder}
 use Rattle.definitions.specs.BookReading.{childrenGreater, wideEnough, bookTests, bookComplete}
-use Rattle.definitions.specs.BookReading.{orphans, isLineOf, nodeLineFrom, judgeNames, bookKind}
+use Rattle.definitions.specs.BookReading.{orphans, isLineOf, lineNumberFrom, judgeNames, bookKind}
 use Rattle.definitions.specs.BookReading.{readBook}
 use Rattle.definitions.specs.Tables.{phonesOfClass, classSets, bookOf, nodeWords, tablesOf, noTables}
 use Rattle.definitions.specs.Tables.{tablesLeft, nodeOf, treeNode, nodeRecords, tablesBook}
@@ -31,7 +31,7 @@ use Rattle.definitions.specs.Metastates.{sameMetastate, metastateWords, 
 use Rattle.definitions.specs.Metastates.{combinationOf, phoneOf, starts, followers, modelsOf, mayEnd}
 use Rattle.definitions.specs.Connecting.{ownArcs, finalArcs, startEvents, turnEvents, arcInto}
 use Rattle.definitions.specs.Connecting.{placeFrom, addArc, addMetastate, addBoth, perform}
-use Rattle.definitions.specs.Connecting.{performAll, turnsFrom, connect}
+use Rattle.definitions.specs.Connecting.{performAll, expand, turnsFrom, connect}
 use Rattle.definitions.specs.Building.{roomIn, build, networkIn, countsIn, buffersOf, noBuffers}
 use Rattle.definitions.specs.Building.{buffersLeft}
 use Rattle.definitions.specs.Paths.{leads, accepting, withoutZeros, modelsCarried, phonesCarried}
@@ -53,7 +53,7 @@ unfolding all any select lastPasses concatMap upFrom times same records padded j
     isBlank numbersOf fieldsOf withLetter lineOf inRanges inFixedRanges lineText linesOf endsInLineFeed
     wholeLines lineTests lineRead readFrom readText bookLine headerIn headerOf rootCount isPhone
     memberIn membersOf nodeIn nodesOf rootIn rootsOf childrenOf bookFollows withinHeader comesBefore
-    bookInOrder childrenGreater wideEnough bookTests bookComplete orphans isLineOf nodeLineFrom
+    bookInOrder childrenGreater wideEnough bookTests bookComplete orphans isLineOf lineNumberFrom
     judgeNames bookKind readBook phonesOfClass classSets bookOf nodeWords tablesOf noTables tablesLeft
     nodeOf treeNode nodeRecords tablesBook headerKnown questionKnown leafKnown nodesKnown holdsOnly
     nodeTableKnown classTableKnown rootTableKnown namedOnce tablesKnown modelAt holdsAt walk leafReached
@@ -62,8 +62,8 @@ unfolding all any select lastPasses concatMap upFrom times same records padded j
     choose combinationsOf combinations combinationWords combinationRoom combine combinationSpace
     firstState lastState arcWords arcOf arcsIn sameMetastate metastateWords startsFrom followersFrom
     combinationOf phoneOf starts followers modelsOf mayEnd ownArcs finalArcs startEvents turnEvents
-    arcInto placeFrom addArc addMetastate addBoth perform performAll turnsFrom connect roomIn build
-    networkIn countsIn buffersOf noBuffers buffersLeft leads accepting withoutZeros modelsCarried
+    arcInto placeFrom addArc addMetastate addBoth perform performAll expand turnsFrom connect roomIn
+    build networkIn countsIn buffersOf noBuffers buffersLeft leads accepting withoutZeros modelsCarried
     phonesCarried partOf leaving partHanded partWords networkLine countsInLine countsOf arcInLine arcsOf
     isState networkFollows withinCounts networkInOrder networkTests networkComplete networkKind
     readNetwork arcsLeft arcKnown neverDescending networkKnown lineOfCounts lineOfArc networkText

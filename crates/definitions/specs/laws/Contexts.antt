@@ -38,13 +38,13 @@ module _ (half : ℕ) (S : List ℕ) where
   silence-before : (j : ℕ) → j < half → withSilence half S ! j ≡ 1
   unfolding withSilence sides
   silence-before j h =
-      List·getD-append (sides ++ S) sides 0 j (omega (arith, left-length))
+      List·getD-append (sides ++ S) _ 0 j (omega (arith, left-length))
       ∙ List·getD-append sides S 0 j (rw length-replicate h) ∙ getD-replicate half j 1 0 h
 
   phones-within : (j : ℕ) → j < length S → withSilence half S ! (half + j) ≡ S ! j
   unfolding withSilence sides
   phones-within j h =
-      List·getD-append (sides ++ S) sides 0 (half + j) (omega (arith, left-length))
+      List·getD-append (sides ++ S) _ 0 (half + j) (omega (arith, left-length))
       ∙ ap (λ (n : ℕ). (sides ++ S) ! (n + j)) (sym (length-replicate half 1)) ∙ getD-append-add sides S j 0
 
   silence-after : (j : ℕ) → j < half → withSilence half S ! (half + length S + j) ≡ 1

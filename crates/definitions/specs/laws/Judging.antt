@@ -63,6 +63,12 @@ module _ {A : Type 0} (line : ℕ) where
       go true rest k = rest k
       go false rest k = absurd (refused-not-answered _ (t .fault) line a refl k)
 
+-- an answer under one test says that it passed
+pub test-answered : {A : Type 0} (b : Bool) (fault : Fault) (line : ℕ) (x a : A)
+    → (if b then answered x else refuse fault line) ≡ answered a → T b × (x ≡ a)
+test-answered true fault line x a e = (tt, cc)
+test-answered false fault line x a e = absurd (refused-not-answered _ fault line a refl e)
+
 -- an answer after two steps says that each answered
 pub andThen-answered : {A B : Type 0} (o : Outcome A) (next : A → Outcome B) (b : B)
     → andThen o next ≡ answered b → (a : A) × (o ≡ answered a) × (next a ≡ answered b)
