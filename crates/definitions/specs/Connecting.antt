@@ -34,6 +34,7 @@ ownArcs state [] = []
 ownArcs state (model ∷ models) = arc state (suc state) model 0 ∷ ownArcs (suc state) models
 
 module _ (book : Book) (combinations : List Combination) where
+  -- "the arc from its last state to 1 with 0, 0", where the metastate may end
   unfoldable pub finalArcs : (place : ℕ) → Metastate → List Arc
   finalArcs place q =
       if mayEnd book combinations q then arc (lastState (book .states) place) FINAL 0 0 ∷ [] else []

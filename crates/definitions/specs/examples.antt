@@ -2,3 +2,4 @@ pub mod Everything
 pub mod Example
 pub mod Starred
 pub mod Refusals
+pub mod Meaning

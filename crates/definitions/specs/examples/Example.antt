@@ -82,7 +82,7 @@ spaceFor combinations metastates arcs =
 
 -- What an entry answers, in the document's numbers.
 pub data Result : Type 0 where
-  accepts : Result
+  accepts nothing : Result
   gives : List ℕ → Result
   finishes stops : (turns metastates arcs : ℕ) → Result
   refuses : (number line : ℕ) → Result

@@ -18,6 +18,7 @@ phones S = given (transcribe header tables S 4)
 building : Space → (turns : ℕ) → Result
 building space turns = built (build header tables space turns)
 
+-- the document's cases in its order; space and turns are the program's where a case names no others
 pub table : List Case
 table =
     gives (program input) is gives output
@@ -26,11 +27,13 @@ table =
     ∷ phones (1 ∷ 2 ∷ 2 ∷ 1 ∷ []) is gives (10 ∷ 20 ∷ 21 ∷ 10 ∷ [])
     ∷ phones [] is refuses 41 0
     ∷ phones (2 ∷ 1 ∷ []) is refuses 41 0
-    ∷ building (spaceFor 3 4 11) 4 is finishes 4 4 11
-    ∷ building (spaceFor 3 3 11) 4 is refuses 31 0
-    ∷ building (spaceFor 3 4 10) 4 is refuses 32 0
-    ∷ building (spaceFor 3 3 5) 4 is refuses 31 0
-    ∷ building (spaceFor 3 4 11) 3 is stops 3 4 9
+    ∷ building (spaceFor 512 4 2000) 512 is finishes 4 4 11
+    ∷ building (spaceFor 512 3 2000) 512 is refuses 31 0
+    ∷ building (spaceFor 512 512 11) 512 is finishes 4 4 11
+    ∷ building (spaceFor 512 512 10) 512 is refuses 32 0
+    ∷ building (spaceFor 512 3 5) 512 is refuses 31 0
+    ∷ building (spaceFor 512 512 2000) 4 is finishes 4 4 11
+    ∷ building (spaceFor 512 512 2000) 3 is stops 3 4 9
     ∷ []
 
 pub starred : Holds table
