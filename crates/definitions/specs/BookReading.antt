@@ -7,7 +7,7 @@ use lib.ListN.{length}
 use Rattle.definitions.specs.declared.Header.{Header}
 use Rattle.definitions.specs.declared.Fault.the-variants.{Backward, Orphan, Narrow}
 use Rattle.definitions.specs.Faults.{Outcome, answered, refuse, Test, _unless_}
-use Rattle.definitions.specs.Lists.{if_then_else_, select, lastPasses, concatMap, upFrom, times}
+use Rattle.definitions.specs.Lists.{if_then_else_, select, lastPasses, concatMap, upFrom, occurrences}
 use Rattle.definitions.specs.Forms.{bookForms}
 use Rattle.definitions.specs.Reading.{Kind, readText}
 use Rattle.definitions.specs.BookLines.{BookLine, H, Q, N, L, R, bookLine, headerIn, headerOf, rootCount}
@@ -88,7 +88,7 @@ bookComplete lines =
 unfoldable pub orphans : List TreeNode → (roots : List ℕ) → List ℕ
 orphans nodes roots =
     let named : List ℕ = concatMap childrenOf nodes ++ roots in
-    select (λ node. not (eqb (times node named) 1)) (upFrom 0 (length nodes))
+    select (λ node. not (eqb (occurrences node named) 1)) (upFrom 0 (length nodes))
 
 unfoldable pub isLineOf : (node : ℕ) → BookLine → Bool
 isLineOf node (H _ _ _ _ _) = false

@@ -6,7 +6,7 @@ use lib.Dec.{leb, ltb, eqb}
 use lib.ListN.{length, take, drop}
 use Rattle.definitions.specs.declared.Header.{Header}
 use Rattle.definitions.specs.declared.Node.{Node}
-use Rattle.definitions.specs.Lists.{all}
+use Rattle.definitions.specs.Lists.{every}
 use Rattle.definitions.specs.Forms.{formH}
 use Rattle.definitions.specs.Lines.{inRanges}
 use Rattle.definitions.specs.BookLines.{rootCount}
@@ -42,7 +42,7 @@ nodesKnown header at (node ∷ nodes) =
 
 -- a table of at least `count` words, 0 in every word beyond them. "Words beyond these are 0."
 unfoldable pub holdsOnly : (count : ℕ) → List ℕ → Bool
-holdsOnly count words = leb count (length words) && all (λ word. eqb word 0) (drop count words)
+holdsOnly count words = leb count (length words) && every (λ word. eqb word 0) (drop count words)
 
 unfoldable pub nodeTableKnown : Header → List ℕ → Bool
 nodeTableKnown header words =
@@ -52,13 +52,13 @@ nodeTableKnown header words =
 unfoldable pub classTableKnown : Header → List ℕ → Bool
 classTableKnown header words =
     holdsOnly (header .classes) words
-    && all (λ set. ltb set (2 ^ header .phones)) (take (header .classes) words)
+    && every (λ set. ltb set (2 ^ header .phones)) (take (header .classes) words)
 
 -- roots that are nodes
 unfoldable pub rootTableKnown : Header → List ℕ → Bool
 rootTableKnown header words =
     holdsOnly (rootCount header) words
-    && all (λ root. ltb root (header .nodes)) (take (rootCount header) words)
+    && every (λ root. ltb root (header .nodes)) (take (rootCount header) words)
 
 -- "Every node is named exactly once, as a child or as a root"
 unfoldable pub namedOnce : Book → Bool

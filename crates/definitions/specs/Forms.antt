@@ -16,40 +16,39 @@ pub record Form : Type 0 where
   pub letter : ℕ
   pub fields : List Range
 
-infix 66 _∣_
-abbrev pub _∣_ : Char → List Range → Form
-letter ∣ fields = record { letter = code letter; fields = fields }
+abbrev pub form : (letter : Char) → (fields : List Range) → Form
+form letter fields = record { letter = code letter; fields = fields }
 
 -- The letters of a tree book. Where no range is stated, "Phones, classes and states count from 1, nodes
 -- from 0", and the highest is what the largest header allows.
 -- "H | half-width n 0..3, states per phone k 1..3, phones 1..64, classes 0..255, nodes 1..4096"
 abbrev pub formH : Form
-formH = "H" ∣ 0 ‥ 3 ∷ 1 ‥ 3 ∷ 1 ‥ 64 ∷ 0 ‥ 255 ∷ 1 ‥ 4096 ∷ []
+formH = form "H" (0 ‥ 3 ∷ 1 ‥ 3 ∷ 1 ‥ 64 ∷ 0 ‥ 255 ∷ 1 ‥ 4096 ∷ [])
 
 -- "Q | class, phone"
 abbrev pub formQ : Form
-formQ = "Q" ∣ 1 ‥ 255 ∷ 1 ‥ 64 ∷ []
+formQ = form "Q" (1 ‥ 255 ∷ 1 ‥ 64 ∷ [])
 
 -- "N | node, class, position 0..2n, yes node, no node"
 abbrev pub formN : Form
-formN = "N" ∣ 0 ‥ 4095 ∷ 1 ‥ 255 ∷ 0 ‥ 6 ∷ 0 ‥ 4095 ∷ 0 ‥ 4095 ∷ []
+formN = form "N" (0 ‥ 4095 ∷ 1 ‥ 255 ∷ 0 ‥ 6 ∷ 0 ‥ 4095 ∷ 0 ‥ 4095 ∷ [])
 
 -- "L | node, model 1..65535"
 abbrev pub formL : Form
-formL = "L" ∣ 0 ‥ 4095 ∷ 1 ‥ 65535 ∷ []
+formL = form "L" (0 ‥ 4095 ∷ 1 ‥ 65535 ∷ [])
 
 -- "R | phone, state, root node"
 abbrev pub formR : Form
-formR = "R" ∣ 1 ‥ 64 ∷ 1 ‥ 3 ∷ 0 ‥ 4095 ∷ []
+formR = form "R" (1 ‥ 64 ∷ 1 ‥ 3 ∷ 0 ‥ 4095 ∷ [])
 
 -- The letters of network text.
 -- "`W` with k, metastates, arcs": "k 1..3, metastates 1..65535, arcs 1..999999"
 abbrev pub formW : Form
-formW = "W" ∣ 1 ‥ 3 ∷ 1 ‥ 65535 ∷ 1 ‥ 999999 ∷ []
+formW = form "W" (1 ‥ 3 ∷ 1 ‥ 65535 ∷ 1 ‥ 999999 ∷ [])
 
 -- "one `A` per arc with from, to, model, phone": "states below 2+k×metastates, models to 65535, phones to 64"
 abbrev pub formA : Form
-formA = "A" ∣ 0 ‥ 196606 ∷ 0 ‥ 196606 ∷ 0 ‥ 65535 ∷ 0 ‥ 64 ∷ []
+formA = form "A" (0 ‥ 196606 ∷ 0 ‥ 196606 ∷ 0 ‥ 65535 ∷ 0 ‥ 64 ∷ [])
 
 -- the letters that a tree book has, and those that network text has
 abbrev pub bookForms : List Form

@@ -7,7 +7,7 @@ use Prim.Native.Nat.{ℕ, _-_, _*_, _/_, _%_}
 use Prim.Native.Char.{code}
 use lib.Dec.{leb, ltb, eqb}
 use lib.ListN.{length, drop, replicate}
-use Rattle.definitions.specs.Lists.{if_then_else_, _!_, all, concatMap, records}
+use Rattle.definitions.specs.Lists.{if_then_else_, _!_, every, concatMap, records}
 use Rattle.definitions.specs.Numerals.{isNumeral, valueOf, numeral}
 use Rattle.definitions.specs.Forms.{Range, Form}
 
@@ -56,7 +56,7 @@ isBlank (number n) = false
 
 -- the numbers of a line's fields: each used field is a number, each other one is blank
 unfoldable pub numbersOf : List Range → List Field → Option (List ℕ)
-numbersOf [] fields = if all isBlank fields then some [] else none
+numbersOf [] fields = if every isBlank fields then some [] else none
 numbersOf (range ∷ ranges) [] = none
 numbersOf (range ∷ ranges) (blank ∷ fields) = none
 numbersOf (range ∷ ranges) (malformed ∷ fields) = none
@@ -110,4 +110,4 @@ endsInLineFeed bytes = eqb (bytes ! 31) lineFeed
 
 -- not fault 11, "length 0 or not a multiple of 32, or a 32nd byte that is no line feed"
 unfoldable pub wholeLines : List ℕ → Bool
-wholeLines text = ltb 0 (length text) && eqb (length text % 32) 0 && all endsInLineFeed (linesOf text)
+wholeLines text = ltb 0 (length text) && eqb (length text % 32) 0 && every endsInLineFeed (linesOf text)

@@ -16,13 +16,13 @@ abbrev pub _!_ : List ℕ → ℕ → ℕ
 l ! i = getD l i 0
 
 -- whether every element, or some element, passes a test
-unfoldable pub all : {A : Type 0} → (A → Bool) → List A → Bool
-all test [] = true
-all test (x ∷ l) = test x && all test l
+unfoldable pub every : {A : Type 0} → (A → Bool) → List A → Bool
+every test [] = true
+every test (x ∷ l) = test x && every test l
 
-unfoldable pub any : {A : Type 0} → (A → Bool) → List A → Bool
-any test [] = false
-any test (x ∷ l) = test x || any test l
+unfoldable pub atLeastOne : {A : Type 0} → (A → Bool) → List A → Bool
+atLeastOne test [] = false
+atLeastOne test (x ∷ l) = test x || atLeastOne test l
 
 -- the elements that pass a test, in order
 unfoldable pub select : {A : Type 0} → (A → Bool) → List A → List A
@@ -46,9 +46,9 @@ upFrom a zero = []
 upFrom a (suc count) = a ∷ upFrom (suc a) count
 
 -- how often a number stands in a list
-unfoldable pub times : ℕ → List ℕ → ℕ
-times x [] = 0
-times x (y ∷ l) = if eqb x y then suc (times x l) else times x l
+unfoldable pub occurrences : ℕ → List ℕ → ℕ
+occurrences x [] = 0
+occurrences x (y ∷ l) = if eqb x y then suc (occurrences x l) else occurrences x l
 
 -- whether two lists of numbers are the same
 unfoldable pub same : List ℕ → List ℕ → Bool

@@ -8,7 +8,7 @@ use Rattle.definitions.specs.declared.Header.{Header}
 use Rattle.definitions.specs.declared.Node.{Node}
 use Rattle.definitions.specs.declared.Fault.the-variants.{Foreign, Range}
 use Rattle.definitions.specs.Faults.{Outcome, answered, _unless_, judge}
-use Rattle.definitions.specs.Lists.{if_then_else_, _!_, all}
+use Rattle.definitions.specs.Lists.{if_then_else_, _!_, every}
 use Rattle.definitions.specs.PhoneSets.{has}
 use Rattle.definitions.specs.BookLines.{isPhone, TreeNode, question, leaf}
 use Rattle.definitions.specs.BookReading.{nodeSize}
@@ -53,11 +53,13 @@ lookupKnown header classes nodes root =
 
 -- not 13: "a context that is not 2n+1 phones in range is 13"
 unfoldable pub isContext : Header → List ℕ → Bool
-isContext header context = eqb (length context) (2 * header .half + 1) && all (isPhone (header .phones)) context
+isContext header context =
+    eqb (length context) (2 * header .half + 1) && every (isPhone (header .phones)) context
 
 -- "answers the node number of the leaf that a context reaches from a root"
-unfoldable pub lookup : Header → (classes : List ℕ) → List Node → (root : ℕ) → (context : List ℕ) → Outcome ℕ
-lookup header classes nodes root context =
+unfoldable pub leafLookup : Header → (classes : List ℕ) → List Node
+    → (root : ℕ) → (context : List ℕ) → Outcome ℕ
+leafLookup header classes nodes root context =
     judge 0
     (Foreign unless lookupKnown header classes nodes root
     ∷ Range unless isContext header context
@@ -65,8 +67,9 @@ lookup header classes nodes root context =
     (answered (leafReached (map treeNode nodes) classes context root))
 
 -- the same over the table of node words that reading leaves
-unfoldable pub lookupInTable : Header → (classes nodes : List ℕ) → (root : ℕ) → (context : List ℕ) → Outcome ℕ
-lookupInTable header classes nodes root context =
+unfoldable pub leafLookupInTable : Header → (classes nodes : List ℕ)
+    → (root : ℕ) → (context : List ℕ) → Outcome ℕ
+leafLookupInTable header classes nodes root context =
     judge 0
     (Foreign unless holdsOnly (nodeSize * header .nodes) nodes ∷ [])
-    (lookup header classes (nodeRecords header nodes) root context)
+    (leafLookup header classes (nodeRecords header nodes) root context)

@@ -6,8 +6,8 @@ use Prim.Native.Nat.{ℕ, zero, suc, _+_}
 use lib.Dec.{eqb}
 use lib.Bits.{bitAnd}
 use lib.ListN.{drop, replicate}
-use Rattle.definitions.specs.Lists.{all, padded}
-use Rattle.definitions.specs.PhoneSets.{has, one, allPhones, without}
+use Rattle.definitions.specs.Lists.{every, padded}
+use Rattle.definitions.specs.PhoneSets.{has, alone, allPhones, without}
 
 -- "A matrix has 2n+1 columns, each a set of phones"
 abbrev pub Matrix : Type 0
@@ -22,7 +22,7 @@ matrixWords m = padded matrixSize m
 
 -- "A root's matrix for phone p has all phones in every column but column n, which has p alone."
 unfoldable pub rootMatrix : (half phones p : ℕ) → Matrix
-rootMatrix half phones p = replicate half (allPhones phones) ++ (one p ∷ replicate half (allPhones phones))
+rootMatrix half phones p = replicate half (allPhones phones) ++ (alone p ∷ replicate half (allPhones phones))
 
 -- "Yes keeps in the question's column the class's members"
 unfoldable pub yesSide : (position set : ℕ) → Matrix → Matrix
@@ -38,7 +38,7 @@ noSide (suc position) set (column ∷ m) = column ∷ noSide position set m
 
 -- "A matrix is valid if no column is empty."
 unfoldable pub valid : Matrix → Bool
-valid m = all (λ column. not (eqb column 0)) m
+valid m = every (λ column. not (eqb column 0)) m
 
 -- two matrices meet column by column
 unfoldable pub meet : Matrix → Matrix → Matrix
@@ -55,8 +55,8 @@ shift phones m = drop 1 m ++ (allPhones phones ∷ [])
 unfoldable pub startCut : (half : ℕ) → Matrix → Matrix
 startCut zero m = m
 startCut (suc half) [] = []
-startCut (suc half) (column ∷ m) = bitAnd column (one 1) ∷ startCut half m
+startCut (suc half) (column ∷ m) = bitAnd column (alone 1) ∷ startCut half m
 
 -- "columns n+1..2n all hold 1": silence may stand to the right
 unfoldable pub endsHere : (half : ℕ) → Matrix → Bool
-endsHere half m = all (has 1) (drop (half + 1) m)
+endsHere half m = every (has 1) (drop (half + 1) m)

@@ -1,14 +1,14 @@
 -- Document 01, "Connecting": network text out and in, and what each leaves in its buffer.
 use mathlib.Core.List.{List, [], _∷_, _++_}
 use mathlib.Core.Bool.{Bool, true, _&&_}
-use Prim.Native.Nat.{ℕ, suc, _+_, _*_}
+use Prim.Native.Nat.{ℕ, _+_, _*_}
 use Prim.Native.Char.{code}
 use lib.Dec.{leb, ltb, eqb}
 use lib.ListN.{length}
 use Rattle.definitions.specs.declared.Counts.{Counts}
 use Rattle.definitions.specs.declared.Fault.the-variants.{Foreign, Narrow, Short}
 use Rattle.definitions.specs.Faults.{Outcome, answered, refused, Test, _unless_, judge}
-use Rattle.definitions.specs.Lists.{if_then_else_, _!_, all, lastPasses, concatMap, cleared, padded}
+use Rattle.definitions.specs.Lists.{if_then_else_, _!_, every, lastPasses, concatMap, cleared, padded}
 use Rattle.definitions.specs.Lines.{Line, lineText, inRanges}
 use Rattle.definitions.specs.Forms.{formW, formA, networkForms}
 use Rattle.definitions.specs.Reading.{Kind, readText}
@@ -108,7 +108,7 @@ unfoldable pub networkKnown : Counts → (words : List ℕ) → Bool
 networkKnown counts words =
     inRanges (formW .fields) (counts .states ∷ counts .metastates ∷ counts .arcs ∷ [])
     && holdsOnly (arcSize * counts .arcs) words
-    && all (arcKnown counts) (arcsIn (counts .arcs) words)
+    && every (arcKnown counts) (arcsIn (counts .arcs) words)
     && neverDescending (arcsIn (counts .arcs) words)
 
 -- Writing network text: 18, then 33.
@@ -125,8 +125,9 @@ networkText counts arcs = lineText (lineOfCounts counts) ++ concatMap (λ a. lin
 -- the text of lent arcs, into a buffer of so many bytes
 unfoldable pub writeNetwork : Counts → (words : List ℕ) → (size : ℕ) → Outcome (List ℕ)
 writeNetwork counts words size =
+    let text : List ℕ = networkText counts (arcsIn (counts .arcs) words) in
     judge 0
     (Foreign unless networkKnown counts words
-    ∷ Short unless leb (32 * suc (counts .arcs)) size
+    ∷ Short unless leb (length text) size
     ∷ [])
-    (answered (networkText counts (arcsIn (counts .arcs) words)))
+    (answered text)

@@ -4,7 +4,7 @@ use mathlib.Core.Bool.{Bool, true, false, not, _&&_}
 use Prim.Native.Nat.{ℕ, zero, suc, _+_, _-_, _*_, _/_, _%_}
 use Prim.Native.Char.{code}
 use lib.Dec.{leb, ltb, eqb}
-use Rattle.definitions.specs.Lists.{all}
+use Rattle.definitions.specs.Lists.{every}
 
 unfoldable pub isDigit : ℕ → Bool
 isDigit byte = leb (code "0") byte && leb byte (code "9")
@@ -13,7 +13,7 @@ isDigit byte = leb (code "0") byte && leb byte (code "9")
 unfoldable pub isNumeral : List ℕ → Bool
 isNumeral [] = false
 isNumeral (byte ∷ []) = isDigit byte
-isNumeral (byte ∷ next ∷ bytes) = isDigit byte && not (eqb byte (code "0")) && all isDigit (next ∷ bytes)
+isNumeral (byte ∷ next ∷ bytes) = isDigit byte && not (eqb byte (code "0")) && every isDigit (next ∷ bytes)
 
 -- the number that digits give, after digits that give `value`
 unfoldable pub valueOf : (value : ℕ) → List ℕ → ℕ

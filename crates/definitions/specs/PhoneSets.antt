@@ -12,9 +12,9 @@ has zero set = false
 has (suc i) set = eqb (set / 2 ^ i % 2) 1
 
 -- phone p alone
-unfoldable pub one : ℕ → ℕ
-one zero = 0
-one (suc i) = 2 ^ i
+unfoldable pub alone : ℕ → ℕ
+alone zero = 0
+alone (suc i) = 2 ^ i
 
 -- all phones, 1 to the given number
 unfoldable pub allPhones : ℕ → ℕ
@@ -27,4 +27,4 @@ without set other = set - bitAnd set other
 -- the set of the listed phones
 unfoldable pub setOf : List ℕ → ℕ
 setOf [] = 0
-setOf (p ∷ l) = bitOr (one p) (setOf l)
+setOf (p ∷ l) = bitOr (alone p) (setOf l)

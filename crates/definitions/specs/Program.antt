@@ -15,7 +15,7 @@ use Rattle.definitions.specs.Tables.{tablesLeft}
 use Rattle.definitions.specs.Combinations.{combinationSize}
 use Rattle.definitions.specs.Arcs.{arcSize}
 use Rattle.definitions.specs.Metastates.{metastateSize}
-use Rattle.definitions.specs.Connecting.{Network}
+use Rattle.definitions.specs.Connecting.{Built}
 use Rattle.definitions.specs.Building.{Space, build, networkIn, countsIn}
 use Rattle.definitions.specs.NetworkText.{networkText}
 
@@ -35,15 +35,19 @@ programSpace =
 abbrev pub programTurns : ℕ
 programTurns = 512
 
--- the text of the network built from a book read
+-- the network that is built from a book's lines, from the tables as reading left them
+unfoldable pub builtFrom : List BookLine → Outcome Built
+builtFrom lines =
+    build (headerOf lines) (tablesLeft programLent (answered lines)) programSpace programTurns
+
+unfoldable pub textOfBuilt : (states : ℕ) → Built → List ℕ
+textOfBuilt states built = networkText (countsIn states (networkIn built)) (networkIn built .arcs)
+
+-- the network's text, or the refusal of reading or building
 unfoldable pub networkOf : Outcome (List BookLine) → Outcome (List ℕ)
 networkOf reading =
     andThen reading
-    (λ lines.
-    andThen (build (headerOf lines) (tablesLeft programLent reading) programSpace programTurns)
-    (λ built.
-    let net : Network = networkIn built in
-    answered (networkText (countsIn (headerOf lines .states) net) (net .arcs))))
+    (λ lines. andThen (builtFrom lines) (λ built. answered (textOfBuilt (headerOf lines .states) built)))
 
 -- "one line `X` with number and line in its first two fields"
 unfoldable pub refusalText : Refusal → List ℕ

@@ -40,6 +40,10 @@ lineTests kind before line =
 unfoldable pub lineRead : List Form → (at : ℕ) → (bytes : List ℕ) → Outcome Line
 lineRead forms at bytes = elim (lineOf forms bytes) [ none ↦ refuse Misprint at | some line ↦ answered line ]
 
+-- the lines before, and this one
+abbrev pub withLine : {L : Type 0} → Kind L → (before : List L) → Line → List L
+withLine kind before line = before ++ (kind .view line ∷ [])
+
 -- "line by line 17 (going on), 12, ..; then 17 (ending early, line one past the last)", from line number `at`
 unfoldable pub readFrom : {L : Type 0} → Kind L
     → (at : ℕ) → (before : List L) → (lines : List (List ℕ)) → Outcome (List L)
@@ -47,9 +51,7 @@ readFrom kind at before [] = judge at (Count unless kind .complete before ∷ []
 readFrom kind at before (bytes ∷ rest) =
     judge at (Count unless not (kind .complete before) ∷ [])
     (andThen (lineRead (kind .forms) at bytes)
-    (λ line.
-    judge at (lineTests kind before line)
-    (readFrom kind (suc at) (before ++ (kind .view line ∷ [])) rest)))
+    (λ line. judge at (lineTests kind before line) (readFrom kind (suc at) (withLine kind before line) rest)))
 
 -- "11 over the whole text, with line 0; then line by line"
 unfoldable pub readText : {L : Type 0} → Kind L → (text : List ℕ) → Outcome (List L)

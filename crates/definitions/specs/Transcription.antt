@@ -7,7 +7,7 @@ use lib.ListN.{length}
 use Rattle.definitions.specs.declared.Header.{Header}
 use Rattle.definitions.specs.declared.Fault.the-variants.{Foreign, Utterance, Short}
 use Rattle.definitions.specs.Faults.{Outcome, answered, _unless_, judge}
-use Rattle.definitions.specs.Lists.{_!_, all, concatMap, upFrom}
+use Rattle.definitions.specs.Lists.{_!_, every, concatMap, upFrom}
 use Rattle.definitions.specs.BookLines.{isPhone}
 use Rattle.definitions.specs.Tables.{Book, Tables, tablesBook}
 use Rattle.definitions.specs.ForeignTables.{tablesKnown}
@@ -29,7 +29,7 @@ transcription book S =
 
 -- not 41, "a sequence empty, with a phone out of range, or not silence at both ends"
 unfoldable pub isUtterance : (phones : ℕ) → (S : List ℕ) → Bool
-isUtterance phones S = ltb 0 (length S) && all (isPhone phones) S && silentEnds S
+isUtterance phones S = ltb 0 (length S) && every (isPhone phones) S && silentEnds S
 
 -- 18, then 41, then 33: the models, into a buffer of so many words
 unfoldable pub transcribe : Header → Tables → (S : List ℕ) → (size : ℕ) → Outcome (List ℕ)

@@ -6,7 +6,7 @@ use mathlib.Core.Option.{Option, none, some}
 use Prim.Native.Nat.{ℕ, zero, suc, _+_, _-_, _*_}
 use lib.Dec.{eqb}
 use lib.ListN.{length, take, drop, replicate}
-use Rattle.definitions.specs.Lists.{if_then_else_, _!_, all, any, concatMap, upFrom}
+use Rattle.definitions.specs.Lists.{if_then_else_, _!_, every, atLeastOne, concatMap, upFrom}
 use Rattle.definitions.specs.BookLines.{BookLine, H, Q, N, L, R, headerOf, isPhone, TreeNode}
 use Rattle.definitions.specs.BookLines.{question, leaf}
 
@@ -52,7 +52,7 @@ isMemberLine class phone (L _ _) = false
 isMemberLine class phone (R _ _ _) = false
 
 unfoldable pub putInClass : List BookLine → (class phone : ℕ) → Bool
-putInClass lines class phone = any (isMemberLine class phone) lines
+putInClass lines class phone = atLeastOne (isMemberLine class phone) lines
 
 -- "At an N line go to its yes node if a Q line puts the context's phone at its position into its class,
 -- else to its no node. At an L line its model is given." The walk meets greater nodes only, so as many
@@ -92,7 +92,7 @@ modelsAlong lines contexts =
 -- range no M."
 unfoldable pub treesGive : List BookLine → (S : List ℕ) → Option (List ℕ)
 treesGive lines S =
-    if all (isPhone (headerOf lines .phones)) S
+    if every (isPhone (headerOf lines .phones)) S
     then modelsAlong lines (contexts (headerOf lines .half) S)
     else none
 

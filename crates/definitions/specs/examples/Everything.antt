@@ -1,6 +1,6 @@
 -- Opens every definition, so that closed examples compute: `unfolding everything` opens what its line names.
-use Rattle.definitions.specs.Lists.{all, any, select, lastPasses, concatMap, upFrom, times, same}
-use Rattle.definitions.specs.Lists.{records, padded}
+use Rattle.definitions.specs.Lists.{every, atLeastOne, select, lastPasses, concatMap, upFrom}
+use Rattle.definitions.specs.Lists.{occurrences, same, records, padded}
 use Rattle.definitions.specs.Faults.{judge, andThen, answerLeft}
 use Rattle.definitions.specs.Numerals.{isDigit, isNumeral, valueOf, numeralWithin, numeral}
 use Rattle.definitions.specs.Lines.{skipSpaces, digitsField, fieldOf, fieldText, formOf, isBlank}
@@ -19,8 +19,8 @@ use Rattle.definitions.specs.ForeignTables.{headerKnown, questionKnown, 
 use Rattle.definitions.specs.ForeignTables.{holdsOnly, nodeTableKnown, classTableKnown}
 use Rattle.definitions.specs.ForeignTables.{rootTableKnown, namedOnce, tablesKnown}
 use Rattle.definitions.specs.Lookup.{modelAt, holdsAt, walk, leafReached, lookupKnown, isContext}
-use Rattle.definitions.specs.Lookup.{lookup, lookupInTable}
-use Rattle.definitions.specs.PhoneSets.{has, one, allPhones, without, setOf}
+use Rattle.definitions.specs.Lookup.{leafLookup, leafLookupInTable}
+use Rattle.definitions.specs.PhoneSets.{has, alone, allPhones, without, setOf}
 use Rattle.definitions.specs.Matrices.{matrixWords, rootMatrix, yesSide, noSide, valid, meet, shift}
 use Rattle.definitions.specs.Matrices.{startCut, endsHere}
 use Rattle.definitions.specs.Combinations.{leavesBelow, insertLeaf, ascending, rootOf, leavesOf}
@@ -45,29 +45,31 @@ use Rattle.definitions.specs.TreesGive.{windows, withSilence, contexts, 
 use Rattle.definitions.specs.TreesGive.{isMemberLine, putInClass, modelBelow, modelGiven, together}
 use Rattle.definitions.specs.TreesGive.{modelsAlong, treesGive, silentEnds}
 use Rattle.definitions.specs.Transcription.{modelOf, transcription, isUtterance, transcribe}
-use Rattle.definitions.specs.Program.{networkOf, refusalText, printed, program}
+use Rattle.definitions.specs.Program.{builtFrom, textOfBuilt, networkOf, refusalText, printed}
+use Rattle.definitions.specs.Program.{program}
 
 unfoldable pub everything : Unit {0}
-unfolding all any select lastPasses concatMap upFrom times same records padded judge andThen answerLeft
-    isDigit isNumeral valueOf numeralWithin numeral skipSpaces digitsField fieldOf fieldText formOf
-    isBlank numbersOf fieldsOf withLetter lineOf inRanges inFixedRanges lineText linesOf endsInLineFeed
-    wholeLines lineTests lineRead readFrom readText bookLine headerIn headerOf rootCount isPhone
-    memberIn membersOf nodeIn nodesOf rootIn rootsOf childrenOf bookFollows withinHeader comesBefore
-    bookInOrder childrenGreater wideEnough bookTests bookComplete orphans isLineOf lineNumberFrom
-    judgeNames bookKind readBook phonesOfClass classSets bookOf nodeWords tablesOf noTables tablesLeft
-    nodeOf treeNode nodeRecords tablesBook headerKnown questionKnown leafKnown nodesKnown holdsOnly
-    nodeTableKnown classTableKnown rootTableKnown namedOnce tablesKnown modelAt holdsAt walk leafReached
-    lookupKnown isContext lookup lookupInTable has one allPhones without setOf matrixWords rootMatrix
-    yesSide noSide valid meet shift startCut endsHere leavesBelow insertLeaf ascending rootOf leavesOf
-    choose combinationsOf combinations combinationWords combinationRoom combine combinationSpace
-    firstState lastState arcWords arcOf arcsIn sameMetastate metastateWords startsFrom followersFrom
-    combinationOf phoneOf starts followers modelsOf mayEnd ownArcs finalArcs startEvents turnEvents
-    arcInto placeFrom addArc addMetastate addBoth perform performAll expand turnsFrom connect roomIn
-    build networkIn countsIn buffersOf noBuffers buffersLeft leads accepting withoutZeros modelsCarried
-    phonesCarried partOf leaving partHanded partWords networkLine countsInLine countsOf arcInLine arcsOf
-    isState networkFollows withinCounts networkInOrder networkTests networkComplete networkKind
-    readNetwork arcsLeft arcKnown neverDescending networkKnown lineOfCounts lineOfArc networkText
-    writeNetwork windows withSilence contexts rootLine nodeLine isMemberLine putInClass modelBelow
-    modelGiven together modelsAlong treesGive silentEnds modelOf transcription isUtterance transcribe
-    networkOf refusalText printed program
+unfolding every atLeastOne select lastPasses concatMap upFrom occurrences same records padded judge andThen
+    answerLeft isDigit isNumeral valueOf numeralWithin numeral skipSpaces digitsField fieldOf fieldText
+    formOf isBlank numbersOf fieldsOf withLetter lineOf inRanges inFixedRanges lineText linesOf
+    endsInLineFeed wholeLines lineTests lineRead readFrom readText bookLine headerIn headerOf rootCount
+    isPhone memberIn membersOf nodeIn nodesOf rootIn rootsOf childrenOf bookFollows withinHeader
+    comesBefore bookInOrder childrenGreater wideEnough bookTests bookComplete orphans isLineOf
+    lineNumberFrom judgeNames bookKind readBook phonesOfClass classSets bookOf nodeWords tablesOf
+    noTables tablesLeft nodeOf treeNode nodeRecords tablesBook headerKnown questionKnown leafKnown
+    nodesKnown holdsOnly nodeTableKnown classTableKnown rootTableKnown namedOnce tablesKnown modelAt
+    holdsAt walk leafReached lookupKnown isContext leafLookup leafLookupInTable has alone allPhones
+    without setOf matrixWords rootMatrix yesSide noSide valid meet shift startCut endsHere leavesBelow
+    insertLeaf ascending rootOf leavesOf choose combinationsOf combinations combinationWords
+    combinationRoom combine combinationSpace firstState lastState arcWords arcOf arcsIn sameMetastate
+    metastateWords startsFrom followersFrom combinationOf phoneOf starts followers modelsOf mayEnd
+    ownArcs finalArcs startEvents turnEvents arcInto placeFrom addArc addMetastate addBoth perform
+    performAll expand turnsFrom connect roomIn build networkIn countsIn buffersOf noBuffers buffersLeft
+    leads accepting withoutZeros modelsCarried phonesCarried partOf leaving partHanded partWords
+    networkLine countsInLine countsOf arcInLine arcsOf isState networkFollows withinCounts
+    networkInOrder networkTests networkComplete networkKind readNetwork arcsLeft arcKnown
+    neverDescending networkKnown lineOfCounts lineOfArc networkText writeNetwork windows withSilence
+    contexts rootLine nodeLine isMemberLine putInClass modelBelow modelGiven together modelsAlong
+    treesGive silentEnds modelOf transcription isUtterance transcribe builtFrom textOfBuilt networkOf
+    refusalText printed program
 everything = tt

@@ -1,6 +1,6 @@
 -- Document 01, "A whole example": its book, its network, and how the tables of cases ask about them.
 use mathlib.Core.Path.{_≡_}
-use mathlib.Core.List.{List, [], _∷_, _++_, map}
+use mathlib.Core.List.{List, [], _∷_, _++_}
 use Prim.Native.Nat.{ℕ, _-_, _*_}
 use Prim.Native.Char.{code}
 use Prim.Native.String.{String, [] as noText, _∷_ as _then_}
@@ -100,7 +100,7 @@ built (answered (finished turns net)) = finishes turns (length (net .metastates)
 built (answered (stopped turns net)) = stops turns (length (net .metastates)) (length (net .arcs))
 built (refused r) = refuses (numberOf (r .fault)) (r .line)
 
--- A table of cases: what is asked, and what the document says to it. It holds if the two columns are the same.
+-- A table of cases: what is asked, and what the document says to it. It holds row by row.
 pub record Case : Type 0 where
   pub asked : Result
   pub said : Result
@@ -110,7 +110,8 @@ abbrev pub _is_ : Result → Result → Case
 asked is said = record { asked = asked; said = said }
 
 abbrev pub Holds : List Case → Type 0
-Holds table = map (λ case. case .asked) table ≡ map (λ case. case .said) table
+Holds [] = Unit {0}
+Holds (case ∷ table) = (case .asked ≡ case .said) × Holds table
 
 -- opens all of this file, for the tables
 unfoldable pub example : Unit {0}

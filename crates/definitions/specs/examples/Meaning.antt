@@ -57,4 +57,5 @@ table =
 
 pub meaning : Holds table
 unfolding everything example linesOr models trees arcs path table
-meaning = refl
+meaning =
+    (refl, (refl, (refl, (refl, (refl, (refl, (refl, (refl, (refl, (refl, (refl, (refl, tt))))))))))))

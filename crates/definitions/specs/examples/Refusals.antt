@@ -9,7 +9,7 @@ use Rattle.definitions.specs.declared.Header.{Header}
 use Rattle.definitions.specs.declared.Counts.{Counts}
 use Rattle.definitions.specs.BookReading.{Lent, nodeSize, readBook}
 use Rattle.definitions.specs.Tables.{nodeRecords}
-use Rattle.definitions.specs.Lookup.{lookup}
+use Rattle.definitions.specs.Lookup.{leafLookup}
 use Rattle.definitions.specs.Arcs.{arcSize}
 use Rattle.definitions.specs.Building.{build}
 use Rattle.definitions.specs.NetworkText.{readNetwork, arcsLeft}
@@ -45,8 +45,9 @@ counts = record { states = 1; metastates = 4; arcs = 11 }
 arcs : List ℕ
 arcs = arcsLeft (arcSize * 11) (readNetwork (arcSize * 11) output)
 
-pub table : List Case
-table =
+-- 11, 12 and 13: the text, the line, the range
+pub lines : List Case
+lines =
     reading inputLines is accepts
     ∷ reading [] is refuses 11 0
     ∷ read (readBook lent (drop 1 input)) is refuses 11 0
@@ -57,7 +58,16 @@ table =
     ∷ line 1 "H     3     1     2     1     4" is accepts
     ∷ line 3 "L     0     0" is refuses 13 3
     ∷ line 2 "Q     1     3" is refuses 13 2
-    ∷ line 3 "R     1     1     0" is refuses 14 3
+    ∷ []
+
+pub lines-hold : Holds lines
+unfolding everything example reading line narrow fewer counts arcs lines
+lines-hold = (refl, (refl, (refl, (refl, (refl, (refl, (refl, (refl, (refl, (refl, tt))))))))))
+
+-- 14 to 17, and 20: the order, the children, the names, the counts, the tables
+pub order : List Case
+order =
+    line 3 "R     1     1     0" is refuses 14 3
     ∷ line 3 "Q     1     1" is refuses 14 3
     ∷ line 5 "L     3    20" is refuses 14 5
     ∷ line 8 "R     1     1     1" is refuses 14 8
@@ -66,17 +76,33 @@ table =
     ∷ reading (take 7 inputLines) is refuses 17 8
     ∷ reading (inputLines ++ ("?" ∷ [])) is refuses 17 9
     ∷ read (readBook narrow input) is refuses 20 1
-    -- two faults in one line: 12 before 14, 14 for the letter before 13, 13 before 14 for the numbers, 13
-    -- before 15
-    ∷ line 3 "R     1     1" is refuses 12 3
+    ∷ []
+
+pub order-hold : Holds order
+unfolding everything example reading line narrow fewer counts arcs order
+order-hold = (refl, (refl, (refl, (refl, (refl, (refl, (refl, (refl, (refl, tt)))))))))
+
+-- two faults in one line: 12 before 14, 14 for the letter before 13, 13 before 14 for the numbers, 13
+-- before 15
+pub twoFaults : List Case
+twoFaults =
+    line 3 "R     1     1" is refuses 12 3
     ∷ line 3 "R     9     1     0" is refuses 14 3
     ∷ line 5 "L     4    20" is refuses 13 5
     ∷ line 4 "N     1     2     0     1     3" is refuses 13 4
-    -- outside reading
-    ∷ given (transcribe fewer tables (1 ∷ []) 4) is refuses 18 0
+    ∷ []
+
+pub twoFaults-hold : Holds twoFaults
+unfolding everything example reading line narrow fewer counts arcs twoFaults
+twoFaults-hold = (refl, (refl, (refl, (refl, tt))))
+
+-- outside reading
+pub elsewhere : List Case
+elsewhere =
+    given (transcribe fewer tables (1 ∷ []) 4) is refuses 18 0
     ∷ built (build fewer tables (spaceFor 3 4 11) 4) is refuses 18 0
-    ∷ read (lookup header (1 ∷ []) (nodeRecords header (tables .nodes)) 4 (1 ∷ 2 ∷ 1 ∷ [])) is refuses 18 0
-    ∷ read (lookup header (1 ∷ []) (nodeRecords header (tables .nodes)) 1 (1 ∷ 2 ∷ [])) is refuses 13 0
+    ∷ read (leafLookup header (1 ∷ []) (nodeRecords header (tables .nodes)) 4 (1 ∷ 2 ∷ 1 ∷ [])) is refuses 18 0
+    ∷ read (leafLookup header (1 ∷ []) (nodeRecords header (tables .nodes)) 1 (1 ∷ 2 ∷ [])) is refuses 13 0
     ∷ built (build header tables (spaceFor 2 4 11) 4) is refuses 30 0
     ∷ built (build header tables (spaceFor 3 4 11) 5) is finishes 4 4 11
     ∷ given (transcribe header tables (1 ∷ []) 0) is refuses 33 0
@@ -85,6 +111,6 @@ table =
     ∷ gives (program (replicate 65537 0)) is gives (textOf ("X    22     0" ∷ []))
     ∷ []
 
-pub refusals : Holds table
-unfolding everything example reading line narrow fewer counts arcs table
-refusals = refl
+pub elsewhere-hold : Holds elsewhere
+unfolding everything example reading line narrow fewer counts arcs elsewhere
+elsewhere-hold = (refl, (refl, (refl, (refl, (refl, (refl, (refl, (refl, (refl, (refl, tt))))))))))

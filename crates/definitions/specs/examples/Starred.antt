@@ -38,4 +38,5 @@ table =
 
 pub starred : Holds table
 unfolding everything example phones building table
-starred = refl
+starred =
+    (refl, (refl, (refl, (refl, (refl, (refl, (refl, (refl, (refl, (refl, (refl, (refl, (refl, tt)))))))))))))

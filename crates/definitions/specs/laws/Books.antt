@@ -105,14 +105,14 @@ counted-more (first ∷ before) (H half states phones classes nodes) c f r =
 counted-more before (Q class phone) c f r =
     let parts = T-and (ltb 0 (length before)) (eqb (length (nodesOf before)) 0) .0 f in
     counted-further before (Q class phone) c (ltb→lt 0 (length before) (parts .0))
-    (λ h. let all : length (nodesOf before) ≡ headerOf before .nodes = c .counted (omega arith) in omega arith)
+    (λ h. let full : length (nodesOf before) ≡ headerOf before .nodes = c .counted (omega arith) in omega arith)
 counted-more before (N node class position yesNode noNode) c f r =
     counted-node before (N node class position yesNode noNode) c refl f
 counted-more before (L node model) c f r = counted-node before (L node model) c refl f
 counted-more before (R phone state root) c f r =
     let parts = T-and (ltb 0 (length before)) (eqb (length (nodesOf before)) (headerOf before .nodes)) .0 f in
     counted-further before (R phone state root) c (ltb→lt 0 (length before) (parts .0))
-    (λ h. let all : length (nodesOf before) ≡ headerOf before .nodes = eqb→eq _ _ (parts .1) in omega arith)
+    (λ h. let full : length (nodesOf before) ≡ headerOf before .nodes = eqb→eq _ _ (parts .1) in omega arith)
 
 -- the judgement of names keeps the lines
 names-judged : (lines answer : List BookLine) → judgeNames lines ≡ answered answer
@@ -146,11 +146,11 @@ unfolding bookComplete
 complete-orderly lines c t o =
     let parts = T-and (ltb 0 (length lines)) (eqb (length (rootsOf lines)) (rootCount (headerOf lines))) .0 t in
     let range : InRange (headerOf lines) = c .in-range (ltb→lt 0 (length lines) (parts .0)) in
-    let all : length (rootsOf lines) ≡ rootCount (headerOf lines) = eqb→eq _ _ (parts .1) in
+    let full : length (rootsOf lines) ≡ rootCount (headerOf lines) = eqb→eq _ _ (parts .1) in
     record {
       in-range = range;
-      nodes = c .counted (subst (λ n. 0 < n) (sym all) (some-root (headerOf lines) range));
-      roots = all;
+      nodes = c .counted (subst (λ n. 0 < n) (sym full) (some-root (headerOf lines) range));
+      roots = full;
       named-once = o;
     }
 

@@ -10,12 +10,12 @@ use native.Mathlib.Omega.{arith}
 use lib.Dec.{T, ltb, eqb, not-T, eqb→eq, ltb→lt, lt→ltb}
 use lib.ListN.{length, replicate, length-append, length-replicate, length-map}
 use borrow.Author.Tests.{eqb-true}
-use Rattle.definitions.specs.Lists.{if_then_else_, all, concatMap, records}
+use Rattle.definitions.specs.Lists.{if_then_else_, every, concatMap, records}
 use Rattle.definitions.specs.Numerals.{isDigit, isNumeral, valueOf, numeral}
 use Rattle.definitions.specs.Lines.{space, Field, blank, malformed, number, skipSpaces, digitsField}
 use Rattle.definitions.specs.Lines.{fieldOf, fieldText}
 use Rattle.definitions.specs.laws.Tests.{if-true, if-false}
-use Rattle.definitions.specs.laws.Lists.{all-cons}
+use Rattle.definitions.specs.laws.Lists.{every-cons}
 use Rattle.definitions.specs.laws.Records.{joined, allOf, sized-parts, concatMap-joined}
 use Rattle.definitions.specs.laws.Records.{sized-more, joined-length, records-joined}
 use Rattle.definitions.specs.laws.Numerals.{digit-range, isNumeral-digits, numeral-is, numeral-value}
@@ -32,7 +32,7 @@ skip-numeral : (bytes : List ℕ) → T (isNumeral bytes) → skipSpaces bytes �
 unfolding skipSpaces
 skip-numeral [] h = refl
 skip-numeral (b ∷ bytes) h =
-    let (first, rest) = all-cons isDigit b bytes .0 (isNumeral-digits (b ∷ bytes) h) in
+    let (first, rest) = every-cons isDigit b bytes .0 (isNumeral-digits (b ∷ bytes) h) in
     let range : (48 ≤ b) × (b ≤ 57) = digit-range b first in
     if-false (eqb b space) _ _ (not-T (eqb b space) (λ e. omega (arith, eqb→eq b space e)))
 
@@ -162,40 +162,40 @@ textOf-writes bytes l h = go (fieldOf bytes) refl h
 
 -- ---- fields one after the other
 
-texts-sized : (fields : List Field) → T (all fits fields) → T (allOf 6 (map textOf fields))
-unfolding all
+texts-sized : (fields : List Field) → T (every fits fields) → T (allOf 6 (map textOf fields))
+unfolding every
 texts-sized [] h = tt
 texts-sized (f ∷ fields) h =
-    let (fit, fitting) = all-cons fits f fields .0 h in
+    let (fit, fitting) = every-cons fits f fields .0 h in
     sized-more 6 (textOf f) (map textOf fields) (textOf-length f fit) (texts-sized fields fitting)
 
-texts-reads : (fields : List Field) → T (all fits fields) → map fieldOf (map textOf fields) ≡ fields
-unfolding all
+texts-reads : (fields : List Field) → T (every fits fields) → map fieldOf (map textOf fields) ≡ fields
+unfolding every
 texts-reads [] h = refl
 texts-reads (f ∷ fields) h =
-    let (fit, fitting) = all-cons fits f fields .0 h in
+    let (fit, fitting) = every-cons fits f fields .0 h in
     ap₂ (λ (x : Field) (r : List Field). x ∷ r) (textOf-reads f fit) (texts-reads fields fitting)
 
-pub fields-reads : (fields : List Field) (rest : List ℕ) → T (all fits fields)
+pub fields-reads : (fields : List Field) (rest : List ℕ) → T (every fits fields)
     → map fieldOf (records 6 (length fields) (concatMap textOf fields ++ rest)) ≡ fields
 fields-reads fields rest h =
     let texts : List (List ℕ) = map textOf fields in
     let apart = records-joined 6 texts rest (texts-sized fields h) in
     rw (concatMap-joined textOf fields, ← length-map fields textOf, apart) (texts-reads fields h)
 
-pub fields-length : (fields : List Field) → T (all fits fields)
+pub fields-length : (fields : List Field) → T (every fits fields)
     → length (concatMap textOf fields) ≡ 6 * length fields
 fields-length fields h =
     ap length (concatMap-joined textOf fields) ∙ joined-length 6 (map textOf fields) (texts-sized fields h)
     ∙ rw length-map
 
-pub fields-writes : (texts : List (List ℕ)) → T (allOf 6 texts) → T (all isRead (map fieldOf texts))
-    → (concatMap textOf (map fieldOf texts) ≡ joined texts) × T (all fits (map fieldOf texts))
-unfolding all concatMap
+pub fields-writes : (texts : List (List ℕ)) → T (allOf 6 texts) → T (every isRead (map fieldOf texts))
+    → (concatMap textOf (map fieldOf texts) ≡ joined texts) × T (every fits (map fieldOf texts))
+unfolding every concatMap
 fields-writes [] s h = (refl, tt)
 fields-writes (t ∷ texts) s h =
     let (size, sizes) = sized-parts 6 t texts s in
-    let (read, reads) = all-cons isRead (fieldOf t) (map fieldOf texts) .0 h in
+    let (read, reads) = every-cons isRead (fieldOf t) (map fieldOf texts) .0 h in
     let (text, fit) = textOf-writes t size read in
     let (others, fitting) = fields-writes texts sizes reads in
-    (ap₂ _++_ text others, all-cons fits (fieldOf t) (map fieldOf texts) .1 (fit, fitting))
+    (ap₂ _++_ text others, every-cons fits (fieldOf t) (map fieldOf texts) .1 (fit, fitting))

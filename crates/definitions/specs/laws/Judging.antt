@@ -10,22 +10,22 @@ use lib.ListN.{length, getD}
 use Rattle.definitions.specs.declared.Fault.{Fault}
 use Rattle.definitions.specs.declared.Fault.the-variants.{Count}
 use Rattle.definitions.specs.Faults.{Outcome, answered, refused, refuse, Test, _unless_, judge, andThen}
-use Rattle.definitions.specs.Lists.{if_then_else_, all}
+use Rattle.definitions.specs.Lists.{if_then_else_, every}
 use Rattle.definitions.specs.laws.Tests.{T-and, if-true, if-false}
 
 abbrev pub allPass : List Test → Type 0
-allPass ts = T (all (λ t. t .passes) ts)
+allPass ts = T (every (λ t. t .passes) ts)
 
 -- a test among those that pass, by its place
 abbrev pub testAt : List Test → ℕ → Test
 testAt ts i = getD ts i (Count unless true)
 
 pub passes-at : (ts : List Test) → allPass ts → (i : ℕ) → i < length ts → T (testAt ts i .passes)
-unfolding all
+unfolding every
 passes-at [] h i l = absurd (omega arith)
-passes-at (t ∷ ts) h zero l = T-and (t .passes) (all (λ t. t .passes) ts) .0 h .0
+passes-at (t ∷ ts) h zero l = T-and (t .passes) (every (λ t. t .passes) ts) .0 h .0
 passes-at (t ∷ ts) h (suc i) l =
-    passes-at ts (T-and (t .passes) (all (λ t. t .passes) ts) .0 h .1) i (omega arith)
+    passes-at ts (T-and (t .passes) (every (λ t. t .passes) ts) .0 h .1) i (omega arith)
 
 -- no outcome is both a refusal and an answer
 pub refused-not-answered : {A : Type 0} (o : Outcome A) (fault : Fault) (line : ℕ) (a : A)
@@ -35,31 +35,31 @@ refused-not-answered o fault line a p q = let z : _≡_ {A = ℕ} 0 1 = cc in om
 module _ {A : Type 0} (line : ℕ) where
   -- where all tests pass, the answer stands
   pub judge-passing : (ts : List Test) (answer : Outcome A) → allPass ts → judge line ts answer ≡ answer
-  unfolding judge all
+  unfolding judge every
   judge-passing [] answer h = refl
   judge-passing (t ∷ ts) answer h =
-      let parts : T (t .passes) × allPass ts = T-and (t .passes) (all (λ t. t .passes) ts) .0 h in
+      let parts : T (t .passes) × allPass ts = T-and (t .passes) (every (λ t. t .passes) ts) .0 h in
       if-true (t .passes) _ _ (parts .0) ∙ judge-passing ts answer (parts .1)
 
   -- where the tests before it pass, a test that fails refuses with its fault
   pub judge-failing : (ts : List Test) (t : Test) (us : List Test) (answer : Outcome A)
       → allPass ts → T (not (t .passes)) → judge line (ts ++ (t ∷ us)) answer ≡ refuse (t .fault) line
-  unfolding judge all
+  unfolding judge every
   judge-failing [] t us answer h n = if-false (t .passes) _ _ n
   judge-failing (s ∷ ts) t us answer h n =
-      let parts : T (s .passes) × allPass ts = T-and (s .passes) (all (λ t. t .passes) ts) .0 h in
+      let parts : T (s .passes) × allPass ts = T-and (s .passes) (every (λ t. t .passes) ts) .0 h in
       if-true (s .passes) _ _ (parts .0) ∙ judge-failing ts t us answer (parts .1) n
 
   -- an answer says that every test passed
   pub judge-answered : (ts : List Test) (answer : Outcome A) (a : A)
       → judge line ts answer ≡ answered a → allPass ts × (answer ≡ answered a)
-  unfolding judge all
+  unfolding judge every
   judge-answered [] answer a e = (tt, e)
   judge-answered (t ∷ ts) answer a e = go (t .passes) (λ k. judge-answered ts answer a k) e
     where
       go : (b : Bool) → (judge line ts answer ≡ answered a → allPass ts × (answer ≡ answered a))
           → (if b then judge line ts answer else refuse (t .fault) line) ≡ answered a
-          → T (b && all (λ t. t .passes) ts) × (answer ≡ answered a)
+          → T (b && every (λ t. t .passes) ts) × (answer ≡ answered a)
       go true rest k = rest k
       go false rest k = absurd (refused-not-answered _ (t .fault) line a refl k)
 

@@ -9,7 +9,7 @@ use Prim.Native.Nat.{ℕ, zero, suc, _+_, _-_, _*_, _≤_}
 use native.Mathlib.Omega.{arith}
 use lib.Dec.{T, ltb}
 use lib.ListN.{length, replicate, length-append, length-map, length-replicate, replicate-append-replicate}
-use Rattle.definitions.specs.Lists.{if_then_else_, all, concatMap}
+use Rattle.definitions.specs.Lists.{if_then_else_, every, concatMap}
 use Rattle.definitions.specs.Forms.{Range}
 use Rattle.definitions.specs.Lines.{space, Field, blank, malformed, number, fieldText, isBlank}
 use Rattle.definitions.specs.Lines.{numbersOf}
@@ -18,7 +18,7 @@ use Rattle.definitions.specs.laws.Fields.{textOf, fits, isRead}
 
 -- whether all have room in a field
 abbrev pub allFit : List ℕ → Bool
-allFit numbers = all (λ n. ltb n 1000000) numbers
+allFit numbers = every (λ n. ltb n 1000000) numbers
 
 -- what is read is not nothing
 pub none-never : {A P : Type 0} (x : A) → none ≡ some x → P
@@ -32,14 +32,14 @@ withBlanks blanks numbers = map number numbers ++ replicate blanks blank
 withBlanks-length : (k : ℕ) (numbers : List ℕ) → length (withBlanks k numbers) ≡ length numbers + k
 withBlanks-length k numbers = simp (length-append, length-map, length-replicate)
 
-withBlanks-fit : (k : ℕ) (numbers : List ℕ) → all fits (withBlanks k numbers) ≡ allFit numbers
-unfolding all
+withBlanks-fit : (k : ℕ) (numbers : List ℕ) → every fits (withBlanks k numbers) ≡ allFit numbers
+unfolding every
 withBlanks-fit zero [] = refl
 withBlanks-fit (suc k) [] = withBlanks-fit k []
 withBlanks-fit k (n ∷ numbers) = ap (λ (b : Bool). ltb n 1000000 && b) (withBlanks-fit k numbers)
 
-withBlanks-isRead : (k : ℕ) (numbers : List ℕ) → T (all isRead (withBlanks k numbers))
-unfolding all
+withBlanks-isRead : (k : ℕ) (numbers : List ℕ) → T (every isRead (withBlanks k numbers))
+unfolding every
 withBlanks-isRead zero [] = tt
 withBlanks-isRead (suc k) [] = withBlanks-isRead k []
 withBlanks-isRead k (n ∷ numbers) = withBlanks-isRead k numbers
@@ -60,10 +60,10 @@ withBlanks-text k (n ∷ numbers) =
 
 withBlanks-reads : (ranges : List Range) (k : ℕ) (numbers : List ℕ) → length numbers ≡ length ranges
     → numbersOf ranges (withBlanks k numbers) ≡ some numbers
-unfolding numbersOf all isBlank
-withBlanks-reads [] k [] e = if-true (all isBlank (replicate k blank)) _ _ (blanks k)
+unfolding numbersOf every isBlank
+withBlanks-reads [] k [] e = if-true (every isBlank (replicate k blank)) _ _ (blanks k)
   where
-    blanks : (k : ℕ) → T (all isBlank (replicate k blank))
+    blanks : (k : ℕ) → T (every isBlank (replicate k blank))
     blanks zero = tt
     blanks (suc k) = blanks k
 withBlanks-reads [] k (n ∷ numbers) e = absurd (omega arith)
@@ -71,8 +71,8 @@ withBlanks-reads (range ∷ ranges) k [] e = absurd (omega arith)
 withBlanks-reads (range ∷ ranges) k (n ∷ numbers) e =
     rw (withBlanks-reads ranges k numbers (omega arith), numbersOf)
 
-all-blank : (fields : List Field) → T (all isBlank fields) → fields ≡ replicate (length fields) blank
-unfolding all isBlank
+all-blank : (fields : List Field) → T (every isBlank fields) → fields ≡ replicate (length fields) blank
+unfolding every isBlank
 all-blank [] h = refl
 all-blank (blank ∷ fields) h = ap (λ (r : List Field). blank ∷ r) (all-blank fields h)
 all-blank (malformed ∷ fields) h = absurd h
@@ -85,7 +85,7 @@ Found ranges fields numbers = (length numbers ≡ length ranges) × (k : ℕ) ×
 withBlanks-writes : (ranges : List Range) (fields : List Field) (numbers : List ℕ)
     → numbersOf ranges fields ≡ some numbers → Found ranges fields numbers
 unfolding numbersOf
-withBlanks-writes [] fields numbers e = go (all isBlank fields) (λ h. all-blank fields h) e
+withBlanks-writes [] fields numbers e = go (every isBlank fields) (λ h. all-blank fields h) e
   where
     go : (b : Bool) → (T b → fields ≡ replicate (length fields) blank)
         → (if b then some [] else none) ≡ some numbers → Found [] fields numbers
@@ -122,11 +122,11 @@ pub lineFields-text : (numbers : List ℕ)
 unfolding lineFields
 lineFields-text numbers = withBlanks-text (5 - length numbers) numbers
 
-pub lineFields-fit : (numbers : List ℕ) → all fits (lineFields numbers) ≡ allFit numbers
+pub lineFields-fit : (numbers : List ℕ) → every fits (lineFields numbers) ≡ allFit numbers
 unfolding lineFields
 lineFields-fit numbers = withBlanks-fit (5 - length numbers) numbers
 
-pub lineFields-isRead : (numbers : List ℕ) → T (all isRead (lineFields numbers))
+pub lineFields-isRead : (numbers : List ℕ) → T (every isRead (lineFields numbers))
 unfolding lineFields
 lineFields-isRead numbers = withBlanks-isRead (5 - length numbers) numbers
 

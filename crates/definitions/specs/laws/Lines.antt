@@ -12,7 +12,7 @@ use lib.ListN.{length, take, drop, length-append, length-map, length-drop, take-
 use lib.ListN.{drop-of-length-le}
 use lib.Seq.{getD-at, take-all, drop-cons, drop-drop}
 use borrow.Author.Tests.{eqb-true}
-use Rattle.definitions.specs.Lists.{if_then_else_, _!_, all, concatMap, records}
+use Rattle.definitions.specs.Lists.{if_then_else_, _!_, every, concatMap, records}
 use Rattle.definitions.specs.Forms.{Range, Form}
 use Rattle.definitions.specs.Lines.{lineFeed, fieldOf, Line, formOf, numbersOf, fieldsOf}
 use Rattle.definitions.specs.Lines.{withLetter, lineOf, lineText, linesOf}
@@ -39,7 +39,7 @@ module _ (line : Line) (few : length (line .numbers) ≤ 5) (fit : T (allFit (li
   five : length (lineFields (line .numbers)) ≡ 5
   five = lineFields-length (line .numbers) few
 
-  all-fit : T (all fits (lineFields (line .numbers)))
+  all-fit : T (every fits (lineFields (line .numbers)))
   all-fit = rw (lineFields-fit (line .numbers)) fit
 
   front-length : length (concatMap textOf (lineFields (line .numbers))) ≡ 30
@@ -145,8 +145,8 @@ module _ (forms : List Form) (bytes : List ℕ) (size : length bytes ≡ 32) (fe
   fields-count = length-map (records 6 5 (drop 1 bytes)) fieldOf ∙ records-length 6 5 (drop 1 bytes)
 
   -- its fields, where none is malformed, are written as they stand
-  fields-bytes : T (all isRead (fieldsOf bytes))
-      → (concatMap textOf (fieldsOf bytes) ≡ take 30 (drop 1 bytes)) × T (all fits (fieldsOf bytes))
+  fields-bytes : T (every isRead (fieldsOf bytes))
+      → (concatMap textOf (fieldsOf bytes) ≡ take 30 (drop 1 bytes)) × T (every fits (fieldsOf bytes))
   unfolding fieldsOf
   fields-bytes h =
       let rest : List ℕ = drop 1 bytes in

@@ -7,21 +7,22 @@ use mathlib.Core.Bool.{Bool, _&&_, and-assoc}
 use Prim.Native.Nat.{ℕ, zero, suc, _+_}
 use lib.Dec.{T}
 use lib.ListN.{length, length-append}
-use Rattle.definitions.specs.Lists.{all, concatMap, upFrom}
+use Rattle.definitions.specs.Lists.{every, concatMap, upFrom}
 use Rattle.definitions.specs.laws.Tests.{T-and}
 
 -- ---- tests of every element
 
-pub all-cons : {A : Type 0} (test : A → Bool) (x : A) (l : List A)
-    → T (all test (x ∷ l)) ↔ (T (test x) × T (all test l))
-unfolding all
-all-cons test x l = T-and (test x) (all test l)
+pub every-cons : {A : Type 0} (test : A → Bool) (x : A) (l : List A)
+    → T (every test (x ∷ l)) ↔ (T (test x) × T (every test l))
+unfolding every
+every-cons test x l = T-and (test x) (every test l)
 
-pub all-append : {A : Type 0} (test : A → Bool) (k l : List A)
-    → all test (k ++ l) ≡ (all test k && all test l)
-unfolding all
-all-append test [] l = refl
-all-append test (x ∷ k) l = rw (all-append test k l) (sym (and-assoc (test x) (all test k) (all test l)))
+pub every-append : {A : Type 0} (test : A → Bool) (k l : List A)
+    → every test (k ++ l) ≡ (every test k && every test l)
+unfolding every
+every-append test [] l = refl
+every-append test (x ∷ k) l =
+    rw (every-append test k l) (sym (and-assoc (test x) (every test k) (every test l)))
 
 -- ---- the lists that elements give, one after the other
 

@@ -14,14 +14,14 @@ use lib.Pow.{pow-pos}
 use lib.ListN.{length, set, drop, replicate, length-append, length-drop, length-set, length-replicate}
 use lib.ListN.{getD-replicate, replicate-append-replicate, List·getD-append}
 use lib.Seq.{getD-drop, getD-at, set-at, getD-set-other, ext-getD}
-use Rattle.definitions.specs.Lists.{_!_, all}
-use Rattle.definitions.specs.PhoneSets.{has, one, allPhones, without}
+use Rattle.definitions.specs.Lists.{_!_, every}
+use Rattle.definitions.specs.PhoneSets.{has, alone, allPhones, without}
 use Rattle.definitions.specs.Matrices.{Matrix, rootMatrix, yesSide, noSide, meet, shift, startCut}
 use Rattle.definitions.specs.Matrices.{valid, endsHere}
-use Rattle.definitions.specs.laws.Tests.{all-at, all-from}
-use Rattle.definitions.specs.laws.PhoneSets.{has-and, has-without, has-one, has-all}
+use Rattle.definitions.specs.laws.Tests.{every-at, every-from}
+use Rattle.definitions.specs.laws.PhoneSets.{has-and, has-without, has-alone, has-all}
 use Rattle.definitions.specs.laws.PhoneSets.{some-member, no-member, same-members}
-use Rattle.definitions.specs.laws.PhoneSets.{one-below, all-below, and-below-left, without-below}
+use Rattle.definitions.specs.laws.PhoneSets.{alone-below, all-below, and-below-left, without-below}
 
 -- ---- the meet of two matrices
 
@@ -125,24 +125,24 @@ no-has p i s m = ap (has p) (no-column i s m) ∙ has-without p (m ! i) s
 abbrev everywhere : (half phones : ℕ) → Matrix
 everywhere half phones = replicate (half + half + 1) (allPhones phones)
 
-root-set : (half phones p : ℕ) → rootMatrix half phones p ≡ set (everywhere half phones) half (one p)
+root-set : (half phones p : ℕ) → rootMatrix half phones p ≡ set (everywhere half phones) half (alone p)
 unfolding rootMatrix
 root-set half n p =
     let side : Matrix = replicate half (allPhones n) in
     let width : half + suc half ≡ half + half + 1 = omega arith in
-    sym (set-at side (allPhones n) side (one p) half (length-replicate half (allPhones n)))
+    sym (set-at side (allPhones n) side (alone p) half (length-replicate half (allPhones n)))
     ∙ rw (replicate-append-replicate half (suc half), width)
 
-pub root-column : (half phones p : ℕ) → rootMatrix half phones p ! half ≡ one p
+pub root-column : (half phones p : ℕ) → rootMatrix half phones p ! half ≡ alone p
 unfolding rootMatrix
 root-column half n p =
     let side : Matrix = replicate half (allPhones n) in
-    getD-at side (one p) side 0 half (length-replicate half (allPhones n))
+    getD-at side (alone p) side 0 half (length-replicate half (allPhones n))
 
 pub root-other : (half phones p c : ℕ) → c < half + half + 1 → c ≢ half
     → rootMatrix half phones p ! c ≡ allPhones phones
 root-other half n p c h k =
-    rw root-set (getD-set-other (everywhere half n) half c (one p) 0 k)
+    rw root-set (getD-set-other (everywhere half n) half c (alone p) 0 k)
     ∙ getD-replicate (half + half + 1) c (allPhones n) 0 h
 
 pub root-length : (half phones p : ℕ) → length (rootMatrix half phones p) ≡ half + half + 1
@@ -150,7 +150,7 @@ root-length half n p = simp (root-set, length-set, length-replicate)
 
 -- ---- the start of a sentence: the columns left of the centre are cut
 
-pub start-column : (half : ℕ) (m : Matrix) (c : ℕ) → c < half → startCut half m ! c ≡ bitAnd (m ! c) (one 1)
+pub start-column : (half : ℕ) (m : Matrix) (c : ℕ) → c < half → startCut half m ! c ≡ bitAnd (m ! c) (alone 1)
 unfolding startCut
 start-column zero m c h = absurd (omega arith)
 start-column (suc k) [] c h = refl
@@ -173,8 +173,8 @@ start-length (suc k) (x ∷ m) = ap suc (start-length k m)
 pub start-has : (p half : ℕ) (m : Matrix) (c : ℕ) → c < half
     → has p (startCut half m ! c) ≡ (has p (m ! c) && eqb p 1)
 start-has p half m c h =
-    ap (has p) (start-column half m c h) ∙ has-and p (m ! c) (one 1)
-    ∙ ap (λ (b : Bool). has p (m ! c) && b) (has-one p 1 (omega arith))
+    ap (has p) (start-column half m c h) ∙ has-and p (m ! c) (alone 1)
+    ∙ ap (λ (b : Bool). has p (m ! c) && b) (has-alone p 1 (omega arith))
 
 -- ---- tests of every column
 
@@ -188,8 +188,8 @@ column-member s = (there, λ m. not-T (eqb s 0) (λ t. no-member (m .0) s (m .1)
 pub valid-columns : (m : Matrix) → T (valid m) ↔ ((c : ℕ) → c < length m → (p : ℕ) × T (has p (m ! c)))
 unfolding valid
 valid-columns m = (
-  λ h c k. column-member (m ! c) .0 (all-at _ m h c k),
-  λ h. all-from _ m (λ c k. column-member (m ! c) .1 (h c k)),
+  λ h c k. column-member (m ! c) .0 (every-at _ m h c k),
+  λ h. every-from _ m (λ c k. column-member (m ! c) .1 (h c k)),
 )
 
 pub ends-columns : (half : ℕ) (m : Matrix)
@@ -200,13 +200,13 @@ ends-columns half m = (each, whole)
     right : List ℕ
     right = drop (half + 1) m
 
-    each : T (all (has 1) right) → (c : ℕ) → half < c → c < length m → T (has 1 (m ! c))
+    each : T (every (has 1) right) → (c : ℕ) → half < c → c < length m → T (has 1 (m ! c))
     each h c l k =
         let place : half + 1 + (c - (half + 1)) ≡ c = omega arith in
-        rw (getD-drop, place) at (all-at (has 1) right h (c - (half + 1)) (rw length-drop (omega arith)))
+        rw (getD-drop, place) at (every-at (has 1) right h (c - (half + 1)) (rw length-drop (omega arith)))
 
-    whole : ((c : ℕ) → half < c → c < length m → T (has 1 (m ! c))) → T (all (has 1) right)
-    whole h = all-from (has 1) right λ c k.
+    whole : ((c : ℕ) → half < c → c < length m → T (has 1 (m ! c))) → T (every (has 1) right)
+    whole h = every-from (has 1) right λ c k.
         rw getD-drop (h (half + 1 + c) (omega arith) (omega (arith, length-drop (half + 1) m)))
 
 -- ---- columns below 2 ^ phones, which every operation keeps
@@ -250,13 +250,13 @@ pub start-below : (phones half : ℕ) (m : Matrix) → Below phones m → Below 
 unfolding startCut
 start-below n zero m h c = h c
 start-below n (suc k) [] h c = h c
-start-below n (suc k) (x ∷ m) h zero = and-below-left n x (one 1) (h zero)
+start-below n (suc k) (x ∷ m) h zero = and-below-left n x (alone 1) (h zero)
 start-below n (suc k) (x ∷ m) h (suc c) = start-below n k m (λ c. h (suc c)) c
 
 pub root-below : (half phones p : ℕ) → p ≤ phones → Below phones (rootMatrix half phones p)
 root-below half n p h =
     let full = replicate-below n (half + half + 1) (allPhones n) (all-below n) in
-    rw root-set (set-below n (everywhere half n) half (one p) full (one-below n p h))
+    rw root-set (set-below n (everywhere half n) half (alone p) full (alone-below n p h))
 
 -- ---- matrices with the same members are the same
 

@@ -13,10 +13,10 @@ use lib.Dec.{T, leb, ltb, eqb, leb→le, le→leb, not-T, T-not, eqb→eq}
 use lib.ListN.{length, length-append, List·getD-append}
 use lib.Seq.{append-snoc}
 use borrow.Author.Tests.{lt-ltb, le-ltb, ltb-true, ltb-false}
-use Rattle.definitions.specs.Lists.{_!_, all}
+use Rattle.definitions.specs.Lists.{_!_, every}
 use Rattle.definitions.specs.Numerals.{isDigit, isNumeral, valueOf, numeralWithin, numeral}
 use Rattle.definitions.specs.laws.Tests.{T-and}
-use Rattle.definitions.specs.laws.Lists.{all-cons, all-append}
+use Rattle.definitions.specs.laws.Lists.{every-cons, every-append}
 
 -- ---- digits, and which of them are a numeral
 
@@ -32,32 +32,32 @@ digit-is b low high = T-and (leb 48 b) (leb b 57) .1 (le→leb 48 b low, le→le
 
 -- a numeral of two digits or more has no leading 0
 numeral-parts : (b c : ℕ) (bytes : List ℕ) → T (isNumeral (b ∷ c ∷ bytes))
-    → T (isDigit b) × (b ≢ 48) × T (all isDigit (c ∷ bytes))
+    → T (isDigit b) × (b ≢ 48) × T (every isDigit (c ∷ bytes))
 unfolding isNumeral
 numeral-parts b c bytes h =
-    let (front, rest) = T-and (isDigit b && not (eqb b 48)) (all isDigit (c ∷ bytes)) .0 h in
+    let (front, rest) = T-and (isDigit b && not (eqb b 48)) (every isDigit (c ∷ bytes)) .0 h in
     let (digit, nonzero) = T-and (isDigit b) (not (eqb b 48)) .0 front in
     (digit, λ e. T-not (eqb b 48) nonzero (rw e tt), rest)
 
 -- a numeral is digits, and digits are a numeral where the first is not 0
-pub isNumeral-digits : (bytes : List ℕ) → T (isNumeral bytes) → T (all isDigit bytes)
-unfolding isNumeral all
+pub isNumeral-digits : (bytes : List ℕ) → T (isNumeral bytes) → T (every isDigit bytes)
+unfolding isNumeral every
 isNumeral-digits [] h = tt
-isNumeral-digits (b ∷ []) h = all-cons isDigit b [] .1 (h, tt)
+isNumeral-digits (b ∷ []) h = every-cons isDigit b [] .1 (h, tt)
 isNumeral-digits (b ∷ c ∷ bytes) h =
     let (first, nonzero, rest) = numeral-parts b c bytes h in
-    all-cons isDigit b (c ∷ bytes) .1 (first, rest)
+    every-cons isDigit b (c ∷ bytes) .1 (first, rest)
 
-digits-numeral : (bytes : List ℕ) → 0 < length bytes → T (all isDigit bytes) → bytes ! 0 ≢ 48
+digits-numeral : (bytes : List ℕ) → 0 < length bytes → T (every isDigit bytes) → bytes ! 0 ≢ 48
     → T (isNumeral bytes)
-unfolding isNumeral all
+unfolding isNumeral every
 digits-numeral [] l h k = absurd (omega arith)
-digits-numeral (b ∷ []) l h k = all-cons isDigit b [] .0 h .0
+digits-numeral (b ∷ []) l h k = every-cons isDigit b [] .0 h .0
 digits-numeral (b ∷ c ∷ bytes) l h k =
-    let (digit, rest) = all-cons isDigit b (c ∷ bytes) .0 h in
+    let (digit, rest) = every-cons isDigit b (c ∷ bytes) .0 h in
     let nonzero : T (not (eqb b 48)) = not-T (eqb b 48) (λ e. k (eqb→eq b 48 e)) in
     let front : T (isDigit b && not (eqb b 48)) = T-and (isDigit b) (not (eqb b 48)) .1 (digit, nonzero) in
-    T-and (isDigit b && not (eqb b 48)) (all isDigit (c ∷ bytes)) .1 (front, rest)
+    T-and (isDigit b && not (eqb b 48)) (every isDigit (c ∷ bytes)) .1 (front, rest)
 
 -- ---- how a number is written
 
@@ -116,17 +116,17 @@ numeral-more v d h k =
 
 -- ---- what is written is read
 
-digits-more : (bytes : List ℕ) (d : ℕ) → T (all isDigit bytes) → d < 10
-    → T (all isDigit (bytes ++ ((48 + d) ∷ [])))
-unfolding all
+digits-more : (bytes : List ℕ) (d : ℕ) → T (every isDigit bytes) → d < 10
+    → T (every isDigit (bytes ++ ((48 + d) ∷ [])))
+unfolding every
 digits-more bytes d h k =
     let digit : T (isDigit (48 + d)) = digit-is (48 + d) (omega arith) (omega arith) in
-    let last : T (all isDigit ((48 + d) ∷ [])) = all-cons isDigit (48 + d) [] .1 (digit, tt) in
-    rw all-append (T-and (all isDigit bytes) (all isDigit ((48 + d) ∷ [])) .1 (h, last))
+    let last : T (every isDigit ((48 + d) ∷ [])) = every-cons isDigit (48 + d) [] .1 (digit, tt) in
+    rw every-append (T-and (every isDigit bytes) (every isDigit ((48 + d) ∷ [])) .1 (h, last))
 
-pub numeral-digits : (n : ℕ) → T (all isDigit (numeral n))
-unfolding all
-numeral-digits = by-digits (λ n. T (all isDigit (numeral n)))
+pub numeral-digits : (n : ℕ) → T (every isDigit (numeral n))
+unfolding every
+numeral-digits = by-digits (λ n. T (every isDigit (numeral n)))
     (λ n h. rw numeral-short (digits-more [] n tt h))
     (λ n h ih. rw numeral-long (digits-more (numeral (n / 10)) (n % 10) ih (omega arith)))
 
@@ -160,12 +160,12 @@ numeral-value = by-digits (λ n. valueOf 0 (numeral n) ≡ n)
 -- ---- what is read is written
 
 -- digits after a number are written after its numeral
-numeral-after : (v : ℕ) (bytes : List ℕ) → 0 < v → T (all isDigit bytes)
+numeral-after : (v : ℕ) (bytes : List ℕ) → 0 < v → T (every isDigit bytes)
     → numeral (valueOf v bytes) ≡ numeral v ++ bytes
-unfolding valueOf all
+unfolding valueOf every
 numeral-after v [] h k = sym (append-nil (numeral v))
 numeral-after v (b ∷ bytes) h k =
-    let (first, rest) = all-cons isDigit b bytes .0 k in
+    let (first, rest) = every-cons isDigit b bytes .0 k in
     let range : (48 ≤ b) × (b ≤ 57) = digit-range b first in
     let byte : 48 + (b - 48) ≡ b = omega arith in
     numeral-after (v * 10 + (b - 48)) bytes (omega arith) rest
@@ -203,12 +203,12 @@ numeral-length k n = by-digits Short (λ n h k l m. rw numeral-short l) long n k
         rw (numeral-long, length-append) (omega (arith, ih (suc k) (omega arith) (omega arith)))
 
 -- a number below 10 ^ k and so many digits more
-value-within : (k v : ℕ) (bytes : List ℕ) → v < 10 ^ k → T (all isDigit bytes)
+value-within : (k v : ℕ) (bytes : List ℕ) → v < 10 ^ k → T (every isDigit bytes)
     → valueOf v bytes < 10 ^ (k + length bytes)
-unfolding valueOf all
+unfolding valueOf every
 value-within k v [] h d = rw add-zero h
 value-within k v (b ∷ bytes) h d =
-    let (first, rest) = all-cons isDigit b bytes .0 d in
+    let (first, rest) = every-cons isDigit b bytes .0 d in
     let range : (48 ≤ b) × (b ≤ 57) = digit-range b first in
     let places : k + suc (length bytes) ≡ suc k + length bytes = omega arith in
     rw places (value-within (suc k) (v * 10 + (b - 48)) bytes (omega arith) rest)

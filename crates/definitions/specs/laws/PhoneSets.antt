@@ -14,8 +14,8 @@ use borrow.Author.Tests.{lt-ltb}
 use lib.Arith.{bin-ind}
 use lib.Bits.{bitAnd, bitOr, and-comm, and-step, or-step, and-le-l, and-mask, or-lt}
 use lib.Pow.{pow-pos, pow-lt, ones-lt}
-use Rattle.definitions.specs.Lists.{all, any}
-use Rattle.definitions.specs.PhoneSets.{has, one, allPhones, without, setOf}
+use Rattle.definitions.specs.Lists.{every, atLeastOne}
+use Rattle.definitions.specs.PhoneSets.{has, alone, allPhones, without, setOf}
 use Rattle.definitions.specs.laws.Tests.{T-and}
 
 -- phone 1 is the lowest digit, each further phone is one of the half
@@ -73,23 +73,23 @@ has-none (suc zero) = refl
 has-none (suc (suc i)) = has-next i 0 ∙ has-none (suc i)
 
 -- digits and halves of one phone, and of all
-one-digits : (j : ℕ) → (one (suc (suc j)) % 2 ≡ 0) × (one (suc (suc j)) / 2 ≡ one (suc j))
-unfolding one
-one-digits j = rw pow-suc (omega arith)
+alone-digits : (j : ℕ) → (alone (suc (suc j)) % 2 ≡ 0) × (alone (suc (suc j)) / 2 ≡ alone (suc j))
+unfolding alone
+alone-digits j = rw pow-suc (omega arith)
 
 all-digits : (n : ℕ) → (allPhones (suc n) % 2 ≡ 1) × (allPhones (suc n) / 2 ≡ allPhones n)
 unfolding allPhones
 all-digits n = omega (arith, pow-pos n)
 
-pub has-one : (p q : ℕ) → 0 < q → has p (one q) ≡ eqb p q
-unfolding has one
-has-one p zero h = absurd (omega arith)
-has-one zero (suc j) h = sym (eqb·zero-suc j)
-has-one (suc zero) (suc zero) h = refl
-has-one (suc zero) (suc (suc j)) h = rw (has-first, one-digits j .0, eqb·suc-suc 0, eqb·zero-suc j)
-has-one (suc (suc i)) (suc zero) h = rw (has-next, eqb·suc-suc (suc i) 0, eqb·suc-zero) (has-none (suc i))
-has-one (suc (suc i)) (suc (suc j)) h =
-    rw (has-next, one-digits j .1, eqb·suc-suc (suc i) (suc j)) (has-one (suc i) (suc j) (omega arith))
+pub has-alone : (p q : ℕ) → 0 < q → has p (alone q) ≡ eqb p q
+unfolding has alone
+has-alone p zero h = absurd (omega arith)
+has-alone zero (suc j) h = sym (eqb·zero-suc j)
+has-alone (suc zero) (suc zero) h = refl
+has-alone (suc zero) (suc (suc j)) h = rw (has-first, alone-digits j .0, eqb·suc-suc 0, eqb·zero-suc j)
+has-alone (suc (suc i)) (suc zero) h = rw (has-next, eqb·suc-suc (suc i) 0, eqb·suc-zero) (has-none (suc i))
+has-alone (suc (suc i)) (suc (suc j)) h =
+    rw (has-next, alone-digits j .1, eqb·suc-suc (suc i) (suc j)) (has-alone (suc i) (suc j) (omega arith))
 
 pub has-all : (p phones : ℕ) → has p (allPhones phones) ≡ (ltb 0 p && leb p phones)
 unfolding has allPhones
@@ -102,22 +102,22 @@ has-all (suc i) n = up-to i n ∙ sym (rw (lt-ltb 0 (suc i) (omega arith)))
     up-to (suc i) (suc n) = rw (has-next, all-digits n .1, leb·suc-suc (suc i) n) (up-to i n)
 
 -- a list may hold 0, which is no phone: then its set has nothing for it
-pub has-listed : (i : ℕ) (l : List ℕ) → has (suc i) (setOf l) ≡ any (eqb (suc i)) l
-unfolding setOf any one
+pub has-listed : (i : ℕ) (l : List ℕ) → has (suc i) (setOf l) ≡ atLeastOne (eqb (suc i)) l
+unfolding setOf atLeastOne alone
 has-listed i [] = has-none (suc i)
-has-listed i (p ∷ l) = has-or (suc i) (one p) (setOf l) ∙ ap₂ _||_ (head p) (has-listed i l)
+has-listed i (p ∷ l) = has-or (suc i) (alone p) (setOf l) ∙ ap₂ _||_ (head p) (has-listed i l)
   where
-    head : (p : ℕ) → has (suc i) (one p) ≡ eqb (suc i) p
+    head : (p : ℕ) → has (suc i) (alone p) ≡ eqb (suc i) p
     head zero = has-none (suc i) ∙ sym (eqb·suc-zero i)
-    head (suc j) = has-one (suc i) (suc j) (omega arith)
+    head (suc j) = has-alone (suc i) (suc j) (omega arith)
 
-pub has-setOf : (p : ℕ) (l : List ℕ) → T (all (ltb 0) l) → has p (setOf l) ≡ any (eqb p) l
-unfolding has all any
+pub has-setOf : (p : ℕ) (l : List ℕ) → T (every (ltb 0) l) → has p (setOf l) ≡ atLeastOne (eqb p) l
+unfolding has every atLeastOne
 has-setOf (suc i) l h = has-listed i l
 has-setOf zero [] h = refl
 has-setOf zero (zero ∷ l) h = absurd h
 has-setOf zero (suc j ∷ l) h =
-    has-setOf zero l (T-and (ltb 0 (suc j)) (all (ltb 0) l) .0 h .1) ∙ sym (rw eqb·zero-suc)
+    has-setOf zero l (T-and (ltb 0 (suc j)) (every (ltb 0) l) .0 h .1) ∙ sym (rw eqb·zero-suc)
 
 -- ---- members
 
@@ -190,10 +190,10 @@ same-members =
 
 -- ---- how large a set's number is
 
-pub one-below : (phones q : ℕ) → q ≤ phones → one q < 2 ^ phones
-unfolding one
-one-below n zero h = pow-pos n
-one-below n (suc i) h = pow-lt h
+pub alone-below : (phones q : ℕ) → q ≤ phones → alone q < 2 ^ phones
+unfolding alone
+alone-below n zero h = pow-pos n
+alone-below n (suc i) h = pow-lt h
 
 pub all-below : (phones : ℕ) → allPhones phones < 2 ^ phones
 unfolding allPhones
@@ -206,12 +206,12 @@ pub without-below : (w a b : ℕ) → a < 2 ^ w → without a b < 2 ^ w
 unfolding without
 without-below w a b h = omega arith
 
-pub setOf-below : (phones : ℕ) (l : List ℕ) → T (all (λ p. leb p phones) l) → setOf l < 2 ^ phones
-unfolding setOf all
+pub setOf-below : (phones : ℕ) (l : List ℕ) → T (every (λ p. leb p phones) l) → setOf l < 2 ^ phones
+unfolding setOf every
 setOf-below n [] h = pow-pos n
 setOf-below n (p ∷ l) h =
-    let parts : T (leb p n) × T (all (λ p. leb p n) l) = T-and (leb p n) (all (λ p. leb p n) l) .0 h in
-    or-lt n (one p) (setOf l) (one-below n p (leb→le p n (parts .0))) (setOf-below n l (parts .1))
+    let parts : T (leb p n) × T (every (λ p. leb p n) l) = T-and (leb p n) (every (λ p. leb p n) l) .0 h in
+    or-lt n (alone p) (setOf l) (alone-below n p (leb→le p n (parts .0))) (setOf-below n l (parts .1))
 
 -- ---- what a set has and another lacks, as a mask: in words of w digits, `a & !b`
 

@@ -10,9 +10,9 @@ use native.Mathlib.Omega.{arith}
 use lib.Dec.{T, eqb, eqb→eq, eqb-refl}
 use lib.ListN.{length, take, drop, length-append, length-drop, length-map}
 use lib.Seq.{take-at, drop-at, take-add, length-take-le}
-use Rattle.definitions.specs.Lists.{all, concatMap, records, cleared, padded}
+use Rattle.definitions.specs.Lists.{every, concatMap, records, cleared, padded}
 use Rattle.definitions.specs.Arcs.{Arc, arcSize, arcWords, arcOf, arcsIn}
-use Rattle.definitions.specs.laws.Lists.{all-cons}
+use Rattle.definitions.specs.laws.Lists.{every-cons}
 
 -- ---- lists joined, and records of a list
 
@@ -21,7 +21,7 @@ joined lists = concatMap (λ (l : List ℕ). l) lists
 
 -- whether all have `size` elements
 abbrev pub allOf : (size : ℕ) → List (List ℕ) → Bool
-allOf size lists = all (λ l. eqb (length l) size) lists
+allOf size lists = every (λ l. eqb (length l) size) lists
 
 pub concatMap-joined : {A : Type 0} (f : A → List ℕ) (l : List A) → concatMap f l ≡ joined (map f l)
 unfolding concatMap
@@ -32,13 +32,13 @@ module _ (size : ℕ) where
   pub sized-parts : (l : List ℕ) (lists : List (List ℕ)) → T (allOf size (l ∷ lists))
       → (length l ≡ size) × T (allOf size lists)
   sized-parts l lists h =
-      let (first, others) = all-cons (λ (l : List ℕ). eqb (length l) size) l lists .0 h in
+      let (first, others) = every-cons (λ (l : List ℕ). eqb (length l) size) l lists .0 h in
       (eqb→eq (length l) size first, others)
 
   pub sized-more : (l : List ℕ) (lists : List (List ℕ)) → length l ≡ size → T (allOf size lists)
       → T (allOf size (l ∷ lists))
   sized-more l lists e h =
-      all-cons (λ (l : List ℕ). eqb (length l) size) l lists .1 (rw e (eqb-refl size), h)
+      every-cons (λ (l : List ℕ). eqb (length l) size) l lists .1 (rw e (eqb-refl size), h)
 
   pub joined-length : (lists : List (List ℕ)) → T (allOf size lists)
       → length (joined lists) ≡ size * length lists
@@ -74,7 +74,7 @@ module _ (size : ℕ) where
 
   pub records-sized : (count : ℕ) (text : List ℕ) → size * count ≤ length text
       → T (allOf size (records size count text))
-  unfolding records all
+  unfolding records every
   records-sized zero text h = tt
   records-sized (suc count) text h =
       let (first, others) = room count text h in
@@ -95,7 +95,7 @@ module _ (size : ℕ) where
 
 module _ {A : Type 0} (words : A → List ℕ) (size : ℕ) (sized : (x : A) → length (words x) ≡ size) where
   flat-sized : (xs : List A) → T (allOf size (map words xs))
-  unfolding all
+  unfolding every
   flat-sized [] = tt
   flat-sized (x ∷ xs) = sized-more size (words x) (map words xs) (sized x) (flat-sized xs)
 

@@ -9,7 +9,7 @@ use lib.Bits.{bitAnd}
 use lib.ListN.{length, set, take, drop, length-append, length-replicate, length-set, length-drop}
 use lib.Seq.{ext-getD, set-getD, take-append-seam, drop-append-le, take-at, drop-at}
 use Rattle.definitions.specs.Lists.{_!_, cleared, padded}
-use Rattle.definitions.specs.PhoneSets.{has, one, allPhones, without}
+use Rattle.definitions.specs.PhoneSets.{has, alone, allPhones, without}
 use Rattle.definitions.specs.Matrices.{Matrix, matrixWords, yesSide, noSide, meet, shift, startCut}
 use Rattle.definitions.specs.Matrices.{valid}
 use Rattle.definitions.specs.laws.Matrices.{meet-column, meet-length, shift-length, start-length}
@@ -43,7 +43,7 @@ zeros-start : (half : ℕ) (m : Matrix) (k : ℕ) → startCut half m ++ cleared
 unfolding startCut
 zeros-start zero m k = refl
 zeros-start (suc half) [] k = zeros-cut (suc half) k
-zeros-start (suc half) (x ∷ m) k = ap (λ (r : Matrix). bitAnd x (one 1) ∷ r) (zeros-start half m k)
+zeros-start (suc half) (x ∷ m) k = ap (λ (r : Matrix). bitAnd x (alone 1) ∷ r) (zeros-start half m k)
 
 -- ---- a matrix padded to any size
 

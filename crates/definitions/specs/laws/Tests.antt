@@ -8,7 +8,7 @@ use Prim.Native.Nat.{ℕ, zero, suc, _<_}
 use native.Mathlib.Omega.{arith}
 use lib.Dec.{T}
 use lib.ListN.{length}
-use Rattle.definitions.specs.Lists.{if_then_else_, _!_, all}
+use Rattle.definitions.specs.Lists.{if_then_else_, _!_, every}
 
 -- a test of two parts holds when both hold
 pub T-and : (a b : Bool) → T (a && b) ↔ (T a × T b)
@@ -25,14 +25,14 @@ if-false true x y h = absurd h
 if-false false x y h = refl
 
 -- a test of a list of numbers holds when it holds at every place
-pub all-at : (test : ℕ → Bool) (l : List ℕ) → T (all test l) → (c : ℕ) → c < length l → T (test (l ! c))
-unfolding all
-all-at test [] h c k = absurd (omega arith)
-all-at test (x ∷ l) h zero k = T-and (test x) (all test l) .0 h .0
-all-at test (x ∷ l) h (suc c) k = all-at test l (T-and (test x) (all test l) .0 h .1) c (omega arith)
+pub every-at : (test : ℕ → Bool) (l : List ℕ) → T (every test l) → (c : ℕ) → c < length l → T (test (l ! c))
+unfolding every
+every-at test [] h c k = absurd (omega arith)
+every-at test (x ∷ l) h zero k = T-and (test x) (every test l) .0 h .0
+every-at test (x ∷ l) h (suc c) k = every-at test l (T-and (test x) (every test l) .0 h .1) c (omega arith)
 
-pub all-from : (test : ℕ → Bool) (l : List ℕ) → ((c : ℕ) → c < length l → T (test (l ! c))) → T (all test l)
-unfolding all
-all-from test [] h = tt
-all-from test (x ∷ l) h =
-    T-and (test x) (all test l) .1 (h 0 (omega arith), all-from test l (λ c k. h (suc c) (omega arith)))
+pub every-from : (test : ℕ → Bool) (l : List ℕ) → ((c : ℕ) → c < length l → T (test (l ! c))) → T (every test l)
+unfolding every
+every-from test [] h = tt
+every-from test (x ∷ l) h =
+    T-and (test x) (every test l) .1 (h 0 (omega arith), every-from test l (λ c k. h (suc c) (omega arith)))
