@@ -1,6 +1,7 @@
 -- Document 01, "Matrices and metastates": the leaves of a tree with their matrices, and the valid
 -- combinations of leaves.
 use mathlib.Core.List.{List, [], _∷_, _++_, map}
+use mathlib.Core.Bool.{Bool}
 use Prim.Native.Nat.{ℕ, zero, suc, _+_, _-_, _*_, _/_, min}
 use lib.Dec.{leb, ltb}
 use lib.ListN.{length}
@@ -32,10 +33,13 @@ leavesBelow (suc levels) book matrix node =
     ]
 
 -- ascending by node number
+unfoldable pub isBefore : Leaf → Leaf → Bool
+isBefore l other = ltb (l .node) (other .node)
+
 unfoldable pub insertLeaf : Leaf → List Leaf → List Leaf
 insertLeaf l [] = l ∷ []
 insertLeaf l (first ∷ leaves) =
-    if ltb (l .node) (first .node) then l ∷ first ∷ leaves else first ∷ insertLeaf l leaves
+    if isBefore l first then l ∷ first ∷ leaves else first ∷ insertLeaf l leaves
 
 unfoldable pub ascending : List Leaf → List Leaf
 ascending [] = []

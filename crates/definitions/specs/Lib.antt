@@ -24,3 +24,4 @@ pub mod Transcription
 pub mod Program
 pub mod laws
 pub mod examples
+pub mod construction

@@ -23,7 +23,8 @@ use Rattle.definitions.specs.Lookup.{leafLookup, leafLookupInTable}
 use Rattle.definitions.specs.PhoneSets.{has, alone, allPhones, without, setOf}
 use Rattle.definitions.specs.Matrices.{matrixWords, rootMatrix, yesSide, noSide, valid, meet, shift}
 use Rattle.definitions.specs.Matrices.{startCut, endsHere}
-use Rattle.definitions.specs.Combinations.{leavesBelow, insertLeaf, ascending, rootOf, leavesOf}
+use Rattle.definitions.specs.Combinations.{leavesBelow, isBefore, insertLeaf, ascending, rootOf}
+use Rattle.definitions.specs.Combinations.{leavesOf}
 use Rattle.definitions.specs.Combinations.{choose, combinationsOf, combinations, combinationWords}
 use Rattle.definitions.specs.Combinations.{combinationRoom, combine, combinationSpace}
 use Rattle.definitions.specs.Arcs.{firstState, lastState, arcWords, arcOf, arcsIn}
@@ -60,7 +61,7 @@ unfolding every atLeastOne select lastPasses concatMap upFrom occurrences same r
     nodesKnown holdsOnly nodeTableKnown classTableKnown rootTableKnown namedOnce tablesKnown modelAt
     holdsAt walk leafReached lookupKnown isContext leafLookup leafLookupInTable has alone allPhones
     without setOf matrixWords rootMatrix yesSide noSide valid meet shift startCut endsHere leavesBelow
-    insertLeaf ascending rootOf leavesOf choose combinationsOf combinations combinationWords
+    isBefore insertLeaf ascending rootOf leavesOf choose combinationsOf combinations combinationWords
     combinationRoom combine combinationSpace firstState lastState arcWords arcOf arcsIn sameMetastate
     metastateWords startsFrom followersFrom combinationOf phoneOf starts followers modelsOf mayEnd
     ownArcs finalArcs startEvents turnEvents arcInto placeFrom addArc addMetastate addBoth perform

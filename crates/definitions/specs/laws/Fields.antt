@@ -16,8 +16,8 @@ use Rattle.definitions.specs.Lines.{space, Field, blank, malformed, numb
 use Rattle.definitions.specs.Lines.{fieldOf, fieldText}
 use Rattle.definitions.specs.laws.Tests.{if-true, if-false}
 use Rattle.definitions.specs.laws.Lists.{every-cons}
-use Rattle.definitions.specs.laws.Records.{joined, allOf, sized-parts, concatMap-joined}
-use Rattle.definitions.specs.laws.Records.{sized-more, joined-length, records-joined}
+use Rattle.definitions.specs.laws.Records.{joined, allOf, sized-parts, concatMap-joined, sized-more}
+use Rattle.definitions.specs.laws.Records.{joined-length, records-joined}
 use Rattle.definitions.specs.laws.Numerals.{digit-range, isNumeral-digits, numeral-is, numeral-value}
 use Rattle.definitions.specs.laws.Numerals.{numeral-writes, numeral-length, value-below}
 

@@ -3,15 +3,16 @@
 use mathlib.Core.Path.{_≡_, refl, _∙_}
 use mathlib.Core.List.{List, [], _∷_, _++_}
 use mathlib.Core.Bool.{Bool, true, false, not, _&&_}
-use Prim.Native.Nat.{ℕ, zero, suc, _<_}
+use Prim.Native.Nat.{ℕ, _<_}
 use native.Mathlib.Omega.{arith}
 use lib.Dec.{T}
 use lib.ListN.{length, getD}
 use Rattle.definitions.specs.declared.Fault.{Fault}
 use Rattle.definitions.specs.declared.Fault.the-variants.{Count}
-use Rattle.definitions.specs.Faults.{Outcome, answered, refused, refuse, Test, _unless_, judge, andThen}
 use Rattle.definitions.specs.Lists.{if_then_else_, every}
-use Rattle.definitions.specs.laws.Tests.{T-and, if-true, if-false}
+use Rattle.definitions.specs.Faults.{Outcome, answered, refused, refuse, Test, _unless_, judge}
+use Rattle.definitions.specs.Faults.{andThen}
+use Rattle.definitions.specs.laws.Tests.{T-and, every-at, if-true, if-false}
 
 abbrev pub allPass : List Test → Type 0
 allPass ts = T (every (λ t. t .passes) ts)
@@ -21,11 +22,7 @@ abbrev pub testAt : List Test → ℕ → Test
 testAt ts i = getD ts i (Count unless true)
 
 pub passes-at : (ts : List Test) → allPass ts → (i : ℕ) → i < length ts → T (testAt ts i .passes)
-unfolding every
-passes-at [] h i l = absurd (omega arith)
-passes-at (t ∷ ts) h zero l = T-and (t .passes) (every (λ t. t .passes) ts) .0 h .0
-passes-at (t ∷ ts) h (suc i) l =
-    passes-at ts (T-and (t .passes) (every (λ t. t .passes) ts) .0 h .1) i (omega arith)
+passes-at ts h = every-at (λ t. t .passes) ts _ h
 
 -- no outcome is both a refusal and an answer
 pub refused-not-answered : {A : Type 0} (o : Outcome A) (fault : Fault) (line : ℕ) (a : A)

@@ -1,21 +1,26 @@
--- Laws about the leaves of a tree: the matrix of each lies inside the matrix that its root carries.
--- So the root's matrix is where the meeting of a combination's leaves may start: it takes nothing from them.
-use mathlib.Core.Path.{_≡_, refl, sym, _∙_, subst}
-use mathlib.Core.Logic.{_≢_}
+-- Laws about the leaves of a tree: the matrix of each lies inside the matrix that its root carries, so the
+-- root's matrix is where the meeting of a combination's leaves may start; and in ascending order they are the
+-- same leaves. The choice of a combination for a window and the order of combinations use them.
+use mathlib.Core.Path.{_≡_, refl, sym, ap, _∙_, subst}
+use mathlib.Core.Logic.{_≢_, inl, inr, ⊎-elim}
 use mathlib.Core.List.{List, [], _∷_, _++_}
 use mathlib.Core.Bool.{Bool, true, false, not, _&&_}
-use Prim.Native.Nat.{ℕ, zero, suc, _-_}
-use lib.Dec.{T, ltb}
-use lib.ListN.{length}
+use Prim.Native.Nat.{ℕ, zero, suc, _-_, _≤_}
+use native.Mathlib.Omega.{arith}
 use native.Mathlib.Decide.{ℕ-discrete}
-use Rattle.definitions.specs.Lists.{if_then_else_, _!_}
-use Rattle.definitions.specs.PhoneSets.{has}
-use Rattle.definitions.specs.Matrices.{Matrix, rootMatrix, yesSide, noSide, meet}
-use Rattle.definitions.specs.BookLines.{TreeNode, question, leaf}
+use lib.Dec.{T}
+use lib.ListN.{length}
+use Rattle.definitions.specs.Lists.{if_then_else_, _!_, select}
+use Rattle.definitions.specs.BookLines.{question, leaf}
 use Rattle.definitions.specs.Tables.{Book}
 use Rattle.definitions.specs.Lookup.{nodeAt}
-use Rattle.definitions.specs.Combinations.{Leaf, leavesBelow, insertLeaf, ascending, leavesOf, rootOf}
+use Rattle.definitions.specs.PhoneSets.{has}
+use Rattle.definitions.specs.Matrices.{Matrix, rootMatrix, yesSide, noSide, meet}
+use Rattle.definitions.specs.Combinations.{Leaf, leavesBelow, isBefore, insertLeaf, ascending}
+use Rattle.definitions.specs.Combinations.{leavesOf, rootOf}
 use Rattle.definitions.specs.laws.Tests.{T-and}
+use Rattle.definitions.specs.laws.Members.{isIn, of-append, of-single}
+use Rattle.definitions.specs.laws.Walks.{by-node}
 use Rattle.definitions.specs.laws.Matrices.{meet-has, meet-length, yes-has, yes-other, yes-length}
 use Rattle.definitions.specs.laws.Matrices.{no-has, no-other, no-length, columns-same}
 
@@ -24,10 +29,10 @@ pub record Inside (a m : Matrix) : Type 0 where
   pub width : length a ≡ length m
   pub held : (c p : ℕ) → T (has p (a ! c)) → T (has p (m ! c))
 
-pub inside-self : (m : Matrix) → Inside m m
+inside-self : (m : Matrix) → Inside m m
 inside-self m = record { width = refl; held = λ c p h. h }
 
-pub inside-trans : (a b m : Matrix) → Inside a b → Inside b m → Inside a m
+inside-trans : (a b m : Matrix) → Inside a b → Inside b m → Inside a m
 inside-trans a b m i j = record { width = i .width ∙ j .width; held = λ c p h. j .held c p (i .held c p h) }
 
 -- where one column is cut and the others stay
@@ -41,11 +46,11 @@ side-inside a m position w others cut =
     at c p h (yes e) = rw e (cut p (rw e at h))
     at c p h (no e) = subst (λ (s : ℕ). T (has p s)) (others c e) h
 
-pub yes-inside : (position s : ℕ) (m : Matrix) → Inside (yesSide position s m) m
+yes-inside : (position s : ℕ) (m : Matrix) → Inside (yesSide position s m) m
 yes-inside i s m = side-inside (yesSide i s m) m i (yes-length i s m) (yes-other i s m)
     (λ p h. T-and (has p (m ! i)) (has p s) .0 (rw yes-has at h) .0)
 
-pub no-inside : (position s : ℕ) (m : Matrix) → Inside (noSide position s m) m
+no-inside : (position s : ℕ) (m : Matrix) → Inside (noSide position s m) m
 no-inside i s m = side-inside (noSide i s m) m i (no-length i s m) (no-other i s m)
     (λ p h. T-and (has p (m ! i)) (not (has p s)) .0 (rw no-has at h) .0)
 
@@ -60,63 +65,117 @@ inside-meet a m i =
     columns-same (meet m a) a (meet-length m a (sym (i .width)) ∙ sym (i .width))
     (λ c k p. meet-has p m a c ∙ both-second (has p (m ! c)) (has p (a ! c)) (i .held c p))
 
+-- ---- a step down a tree: a leaf stays, a question has two sides
+
+module _ (book : Book) (levels : ℕ) (m : Matrix) (node : ℕ) where
+  pub below-leaf : (model : ℕ) → nodeAt (book .nodes) node ≡ leaf model
+      → leavesBelow (suc levels) book m node ≡ record { node = node; matrix = m } ∷ []
+  unfolding leavesBelow
+  below-leaf model e = rw (e, leavesBelow)
+
+  pub below-question : (class position yesNode noNode : ℕ)
+      → nodeAt (book .nodes) node ≡ question class position yesNode noNode
+      → leavesBelow (suc levels) book m node
+      ≡ leavesBelow levels book (yesSide position (book .classes ! (class - 1)) m) yesNode
+      ++ leavesBelow levels book (noSide position (book .classes ! (class - 1)) m) noNode
+  unfolding leavesBelow
+  below-question class position yesNode noNode e = rw (e, leavesBelow)
+
 -- ---- the leaves below a node
 
-abbrev pub AllInside : Matrix → List Leaf → Type 0
-AllInside m [] = Unit {0}
-AllInside m (l ∷ leaves) = Inside (l .matrix) m × AllInside m leaves
+-- the matrix that the roots of a phone carry
+abbrev pub phoneMatrix : Book → (phone : ℕ) → Matrix
+phoneMatrix book phone = rootMatrix (book .half) (book .phones) phone
 
-inside-append : (m : Matrix) (k l : List Leaf) → AllInside m k → AllInside m l → AllInside m (k ++ l)
-inside-append m [] l h j = j
-inside-append m (x ∷ k) l h j = (h .0, inside-append m k l (h .1) j)
-
-inside-all : (a m : Matrix) (leaves : List Leaf) → Inside a m → AllInside a leaves → AllInside m leaves
-inside-all a m [] i h = tt
-inside-all a m (l ∷ leaves) i h = (inside-trans (l .matrix) a m (h .0) i, inside-all a m leaves i (h .1))
-
-pub below-inside : (levels : ℕ) (book : Book) (m : Matrix) (node : ℕ)
-    → AllInside m (leavesBelow levels book m node)
+below-inside : (levels : ℕ) (book : Book) (m : Matrix) (node : ℕ) (l : Leaf)
+    → isIn l (leavesBelow levels book m node) → Inside (l .matrix) m
 unfolding leavesBelow
-below-inside zero book m node = tt
-below-inside (suc levels) book m node =
-    at (nodeAt (book .nodes) node) refl (λ a child. below-inside levels book a child)
-  where
-    at : (x : TreeNode) → nodeAt (book .nodes) node ≡ x
-        → ((a : Matrix) (child : ℕ) → AllInside a (leavesBelow levels book a child))
-        → AllInside m (leavesBelow (suc levels) book m node)
-    at (leaf model) e further = rw (e, leavesBelow) (inside-self m, tt)
-    at (question class position yesNode noNode) e further =
-        let s : ℕ = book .classes ! (class - 1) in
-        let onYes : Matrix = yesSide position s m in
-        let onNo : Matrix = noSide position s m in
-        let yesLeaves : List Leaf = leavesBelow levels book onYes yesNode in
-        let noLeaves : List Leaf = leavesBelow levels book onNo noNode in
-        rw (e, leavesBelow)
-        (inside-append m yesLeaves noLeaves
-        (inside-all onYes m yesLeaves (yes-inside position s m) (further onYes yesNode))
-        (inside-all onNo m noLeaves (no-inside position s m) (further onNo noNode)))
+below-inside zero book m node l i = absurd i
+below-inside (suc levels) book m node l i =
+    by-node (book .nodes) node
+    (λ model e.
+    let same = of-single (record { node = node; matrix = m }) l (rw (e, leavesBelow) at i) in
+    subst (λ k. Inside (k .matrix) m) (sym same) (inside-self m))
+    (λ class position yesNode noNode e.
+    let s : ℕ = book .classes ! (class - 1) in
+    let onYes : Matrix = yesSide position s m in
+    let onNo : Matrix = noSide position s m in
+    let yesLeaf = below-inside levels book onYes yesNode l in
+    let noLeaf = below-inside levels book onNo noNode l in
+    ⊎-elim
+    (λ j. inside-trans (l .matrix) onYes m (yesLeaf j) (yes-inside position s m))
+    (λ j. inside-trans (l .matrix) onNo m (noLeaf j) (no-inside position s m))
+    (of-append l (leavesBelow levels book onYes yesNode) (leavesBelow levels book onNo noNode)
+    (rw (e, leavesBelow) at i)))
 
--- in ascending order they are the same leaves
-inside-insert : (m : Matrix) (l : Leaf) (leaves : List Leaf) → Inside (l .matrix) m → AllInside m leaves
-    → AllInside m (insertLeaf l leaves)
+-- ---- ascending leaves are the same leaves
+
+pub of-insert : (x l : Leaf) (leaves : List Leaf) → isIn x (insertLeaf l leaves) → isIn x (l ∷ leaves)
 unfolding insertLeaf
-inside-insert m l [] i h = (i, tt)
-inside-insert m l (first ∷ leaves) i h = go (ltb (l .node) (first .node)) (inside-insert m l leaves i (h .1))
+of-insert x l [] h = h
+of-insert x l (first ∷ leaves) h = go (isBefore l first) h (λ i. of-insert x l leaves i)
   where
-    go : (b : Bool) → AllInside m (insertLeaf l leaves)
-        → AllInside m (if b then l ∷ first ∷ leaves else first ∷ insertLeaf l leaves)
-    go true rest = (i, h)
-    go false rest = (h .0, rest)
+    go : (b : Bool) → isIn x (if b then l ∷ first ∷ leaves else first ∷ insertLeaf l leaves)
+        → (isIn x (insertLeaf l leaves) → isIn x (l ∷ leaves)) → isIn x (l ∷ first ∷ leaves)
+    go true i rest = i
+    go false (inl e) rest = inr (inl e)
+    go false (inr i) rest = ⊎-elim inl (λ j. inr (inr j)) (rest i)
 
-inside-ascending : (m : Matrix) (leaves : List Leaf) → AllInside m leaves → AllInside m (ascending leaves)
+pub of-ascending : (x : Leaf) (leaves : List Leaf) → isIn x (ascending leaves) → isIn x leaves
 unfolding ascending
-inside-ascending m [] h = tt
-inside-ascending m (l ∷ leaves) h =
-    inside-insert m l (ascending leaves) (h .0) (inside-ascending m leaves (h .1))
+of-ascending x [] h = h
+of-ascending x (l ∷ leaves) h =
+    ⊎-elim inl (λ i. inr (of-ascending x leaves i)) (of-insert x l (ascending leaves) h)
 
-pub leaves-inside : (book : Book) (phone state : ℕ)
-    → AllInside (rootMatrix (book .half) (book .phones) phone) (leavesOf book phone state)
+pub leaf-inside : (book : Book) (phone state : ℕ) (l : Leaf) → isIn l (leavesOf book phone state)
+    → Inside (l .matrix) (phoneMatrix book phone)
 unfolding leavesOf
-leaves-inside book phone state =
-    let top : Matrix = rootMatrix (book .half) (book .phones) phone in
-    inside-ascending top _ (below-inside (length (book .nodes)) book top (rootOf book phone state))
+leaf-inside book phone state l i =
+    below-inside (length (book .nodes)) book _ (rootOf book phone state) l (of-ascending l _ i)
+
+-- ---- in ascending order: where at most one leaf passes a test, its place among the others does not matter
+
+abbrev kept : Bool → Leaf → List Leaf → List Leaf
+kept b l leaves = if b then l ∷ leaves else leaves
+
+kept-length : (b : Bool) (l : Leaf) (leaves : List Leaf) → length leaves ≤ length (kept b l leaves)
+kept-length true l leaves = omega arith
+kept-length false l leaves = omega arith
+
+swapped : (a b : Bool) (x y : Leaf) (l : List Leaf) → length (kept a x (kept b y l)) ≤ 1
+    → kept b y (kept a x l) ≡ kept a x (kept b y l)
+swapped true true x y l h = absurd (omega arith)
+swapped true false x y l h = refl
+swapped false b x y l h = refl
+
+module _ (test : Leaf → Bool) where
+  select-insert : (l : Leaf) (leaves : List Leaf) → length (select test (l ∷ leaves)) ≤ 1
+      → select test (insertLeaf l leaves) ≡ select test (l ∷ leaves)
+  unfolding select insertLeaf
+  select-insert l [] h = refl
+  select-insert l (first ∷ leaves) h = go (isBefore l first) (select-insert l leaves fewer)
+    where
+      either : kept (test first) first (select test (l ∷ leaves)) ≡ select test (l ∷ first ∷ leaves)
+      either = swapped (test l) (test first) l first (select test leaves) h
+
+      fewer : length (select test (l ∷ leaves)) ≤ 1
+      fewer = omega (arith, kept-length (test first) first (select test (l ∷ leaves)), ap length either)
+
+      go : (b : Bool) → select test (insertLeaf l leaves) ≡ select test (l ∷ leaves)
+          → select test (if b then l ∷ first ∷ leaves else first ∷ insertLeaf l leaves)
+          ≡ select test (l ∷ first ∷ leaves)
+      go true rest = refl
+      go false rest = rw rest either
+
+  pub select-ascending : (leaves : List Leaf) → length (select test leaves) ≤ 1
+      → select test (ascending leaves) ≡ select test leaves
+  unfolding select ascending
+  select-ascending [] h = refl
+  select-ascending (l ∷ leaves) h = go (ap (kept (test l) l) (select-ascending leaves fewer))
+    where
+      fewer : length (select test leaves) ≤ 1
+      fewer = omega (arith, kept-length (test l) l (select test leaves))
+
+      go : select test (l ∷ ascending leaves) ≡ select test (l ∷ leaves)
+          → select test (insertLeaf l (ascending leaves)) ≡ select test (l ∷ leaves)
+      go rest = select-insert l (ascending leaves) (rw rest h) ∙ rest

@@ -4,7 +4,7 @@
 use mathlib.Core.Path.{_≡_, refl, sym, ap, _∙_}
 use mathlib.Core.List.{List, [], _∷_, _++_, map, append-assoc}
 use mathlib.Core.Bool.{Bool, true, false, _&&_}
-use mathlib.Core.Option.{Option, none, some, Option·some-ne-none}
+use mathlib.Core.Option.{Option, none, some, Option·none-ne-some}
 use Prim.Native.Nat.{ℕ, zero, suc, _+_, _-_, _*_, _≤_}
 use native.Mathlib.Omega.{arith}
 use lib.Dec.{T, ltb}
@@ -14,15 +14,12 @@ use Rattle.definitions.specs.Forms.{Range}
 use Rattle.definitions.specs.Lines.{space, Field, blank, malformed, number, fieldText, isBlank}
 use Rattle.definitions.specs.Lines.{numbersOf}
 use Rattle.definitions.specs.laws.Tests.{if-true}
+use Rattle.definitions.specs.laws.Lists.{every-replicate}
 use Rattle.definitions.specs.laws.Fields.{textOf, fits, isRead}
 
 -- whether all have room in a field
 abbrev pub allFit : List ℕ → Bool
 allFit numbers = every (λ n. ltb n 1000000) numbers
-
--- what is read is not nothing
-pub none-never : {A P : Type 0} (x : A) → none ≡ some x → P
-none-never x e = absurd (Option·some-ne-none x (sym e))
 
 -- ---- numbers, and then blanks
 
@@ -61,11 +58,8 @@ withBlanks-text k (n ∷ numbers) =
 withBlanks-reads : (ranges : List Range) (k : ℕ) (numbers : List ℕ) → length numbers ≡ length ranges
     → numbersOf ranges (withBlanks k numbers) ≡ some numbers
 unfolding numbersOf every isBlank
-withBlanks-reads [] k [] e = if-true (every isBlank (replicate k blank)) _ _ (blanks k)
-  where
-    blanks : (k : ℕ) → T (every isBlank (replicate k blank))
-    blanks zero = tt
-    blanks (suc k) = blanks k
+withBlanks-reads [] k [] e =
+    if-true (every isBlank (replicate k blank)) _ _ (every-replicate isBlank k blank tt)
 withBlanks-reads [] k (n ∷ numbers) e = absurd (omega arith)
 withBlanks-reads (range ∷ ranges) k [] e = absurd (omega arith)
 withBlanks-reads (range ∷ ranges) k (n ∷ numbers) e =
@@ -90,17 +84,17 @@ withBlanks-writes [] fields numbers e = go (every isBlank fields) (λ h. all-bla
     go : (b : Bool) → (T b → fields ≡ replicate (length fields) blank)
         → (if b then some [] else none) ≡ some numbers → Found [] fields numbers
     go true blanks k = let same : numbers ≡ [] = cc in rw same (refl, length fields, blanks tt)
-    go false blanks k = none-never numbers k
-withBlanks-writes (range ∷ ranges) [] numbers e = none-never numbers e
-withBlanks-writes (range ∷ ranges) (blank ∷ fields) numbers e = none-never numbers e
-withBlanks-writes (range ∷ ranges) (malformed ∷ fields) numbers e = none-never numbers e
+    go false blanks k = absurd (Option·none-ne-some numbers k)
+withBlanks-writes (range ∷ ranges) [] numbers e = absurd (Option·none-ne-some numbers e)
+withBlanks-writes (range ∷ ranges) (blank ∷ fields) numbers e = absurd (Option·none-ne-some numbers e)
+withBlanks-writes (range ∷ ranges) (malformed ∷ fields) numbers e = absurd (Option·none-ne-some numbers e)
 withBlanks-writes (range ∷ ranges) (number n ∷ fields) numbers e =
     go (numbersOf ranges fields) (λ rest k. withBlanks-writes ranges fields rest k) e
   where
     go : (found : Option (List ℕ)) → ((rest : List ℕ) → found ≡ some rest → Found ranges fields rest)
         → elim found [ none ↦ none | some rest ↦ some (n ∷ rest) ] ≡ some numbers
         → Found (range ∷ ranges) (number n ∷ fields) numbers
-    go none ih k = none-never numbers k
+    go none ih k = absurd (Option·none-ne-some numbers k)
     go (some rest) ih k =
         let same : numbers ≡ n ∷ rest = cc in
         let (many, j, split) = ih rest refl in

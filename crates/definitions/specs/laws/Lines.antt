@@ -4,7 +4,7 @@
 use mathlib.Core.Path.{_≡_, refl, sym, ap, _∙_}
 use mathlib.Core.List.{List, [], _∷_, _++_, append-nil}
 use mathlib.Core.Bool.{Bool, true, false}
-use mathlib.Core.Option.{Option, none, some}
+use mathlib.Core.Option.{Option, none, some, Option·none-ne-some}
 use Prim.Native.Nat.{ℕ, _*_, _/_, _%_, _≤_}
 use native.Mathlib.Omega.{arith}
 use lib.Dec.{T, eqb}
@@ -14,15 +14,15 @@ use lib.Seq.{getD-at, take-all, drop-cons, drop-drop}
 use borrow.Author.Tests.{eqb-true}
 use Rattle.definitions.specs.Lists.{if_then_else_, _!_, every, concatMap, records}
 use Rattle.definitions.specs.Forms.{Range, Form}
-use Rattle.definitions.specs.Lines.{lineFeed, fieldOf, Line, formOf, numbersOf, fieldsOf}
-use Rattle.definitions.specs.Lines.{withLetter, lineOf, lineText, linesOf}
-use Rattle.definitions.specs.laws.Records.{joined, allOf, joined-length, records-joined, records-length}
-use Rattle.definitions.specs.laws.Records.{records-sized, joined-records}
+use Rattle.definitions.specs.Lines.{lineFeed, fieldOf, Line, formOf, numbersOf, fieldsOf, withLetter}
+use Rattle.definitions.specs.Lines.{lineOf, lineText, linesOf}
+use Rattle.definitions.specs.laws.Records.{joined, allOf, joined-length, records-joined}
+use Rattle.definitions.specs.laws.Records.{records-length, records-sized, joined-records}
 use Rattle.definitions.specs.laws.Fields.{textOf, fits, isRead, fields-reads, fields-length}
 use Rattle.definitions.specs.laws.Fields.{fields-writes}
 use Rattle.definitions.specs.laws.LineFields.{allFit, lineFields, lineFields-length, lineFields-text}
 use Rattle.definitions.specs.laws.LineFields.{lineFields-fit, lineFields-isRead, lineFields-reads}
-use Rattle.definitions.specs.laws.LineFields.{lineFields-writes, none-never}
+use Rattle.definitions.specs.laws.LineFields.{lineFields-writes}
 
 -- ---- what is written is read
 
@@ -86,7 +86,7 @@ line-reads forms form numbers known many few fit =
 pub form-letter : (forms : List Form) (letter : ℕ) (form : Form) → formOf forms letter ≡ some form
     → form .letter ≡ letter
 unfolding formOf
-form-letter [] letter form e = none-never form e
+form-letter [] letter form e = absurd (Option·none-ne-some form e)
 form-letter (f ∷ forms) letter form e =
     go (eqb (f .letter) letter) refl (λ k. form-letter forms letter form k) e
   where
@@ -110,14 +110,14 @@ line-parts forms bytes line e = by-form (formOf forms (bytes ! 0)) refl
     by-numbers : (form : Form) → formOf forms (bytes ! 0) ≡ some form
         → (found : Option (List ℕ)) → numbersOf (form .fields) (fieldsOf bytes) ≡ found
         → withLetter (form .letter) found ≡ some line → Parts forms bytes line
-    by-numbers form known none n k = none-never line k
+    by-numbers form known none n k = absurd (Option·none-ne-some line k)
     by-numbers form known (some numbers) n k =
         let same : line ≡ record { letter = form .letter; numbers = numbers } = cc in
         let letter : form .letter ≡ bytes ! 0 = form-letter forms (bytes ! 0) form known in
         rw same (record { form = form; known = known; letter = letter; found = n })
 
     by-form : (found : Option Form) → formOf forms (bytes ! 0) ≡ found → Parts forms bytes line
-    by-form none unknown = none-never line (sym (line-unknown forms bytes unknown) ∙ e)
+    by-form none unknown = absurd (Option·none-ne-some line (sym (line-unknown forms bytes unknown) ∙ e))
     by-form (some form) known = by-numbers form known _ refl (sym (line-known forms bytes form known) ∙ e)
 
 -- it has as many numbers as its letter has fields, and is written as it was read

@@ -1,13 +1,15 @@
--- Laws about the list vocabulary: tests of every element, what the elements of joined lists give, counting up.
--- All other laws use them.
-use mathlib.Core.Path.{_≡_, refl, sym, ap, _∙_}
+-- Laws about the list vocabulary: tests of every element, lists that are the same, what the elements of joined
+-- lists give, counting up, buffers beyond their used words. The other laws use them.
+use mathlib.Core.Path.{_≡_, refl, sym, ap, ap₂, _∙_, subst}
 use mathlib.Core.Logic.{_↔_}
-use mathlib.Core.List.{List, [], _∷_, _++_, append-assoc, append-nil}
+use mathlib.Core.List.{List, [], _∷_, _++_, map, append-assoc, append-nil}
 use mathlib.Core.Bool.{Bool, _&&_, and-assoc}
-use Prim.Native.Nat.{ℕ, zero, suc, _+_}
-use lib.Dec.{T}
-use lib.ListN.{length, length-append}
-use Rattle.definitions.specs.Lists.{every, concatMap, upFrom}
+use Prim.Native.Nat.{ℕ, zero, suc, _+_, _-_, _≤_}
+use native.Mathlib.Omega.{arith}
+use lib.Dec.{T, eqb, eqb→eq, eqb-refl}
+use lib.Seq.{take-at}
+use lib.ListN.{length, take, drop, replicate, length-append, take-append-drop, length-replicate}
+use Rattle.definitions.specs.Lists.{every, concatMap, upFrom, same, cleared, padded}
 use Rattle.definitions.specs.laws.Tests.{T-and}
 
 -- ---- tests of every element
@@ -24,6 +26,42 @@ every-append test [] l = refl
 every-append test (x ∷ k) l =
     rw (every-append test k l) (sym (and-assoc (test x) (every test k) (every test l)))
 
+-- all elements pass, so do those of a part
+pub every-parts : {A : Type 0} (test : A → Bool) (k l : List A)
+    → T (every test (k ++ l)) ↔ (T (every test k) × T (every test l))
+every-parts test k l = rw (every-append test k l) (T-and (every test k) (every test l))
+
+pub every-split : {A : Type 0} (test : A → Bool) (i : ℕ) (l : List A) → T (every test l)
+    → T (every test (take i l)) × T (every test (drop i l))
+every-split test i l h =
+    every-parts test (take i l) (drop i l) .0 (subst (λ k. T (every test k)) (sym (take-append-drop i l)) h)
+
+pub every-replicate : {A : Type 0} (test : A → Bool) (count : ℕ) (x : A) → T (test x)
+    → T (every test (replicate count x))
+unfolding every
+every-replicate test zero x h = tt
+every-replicate test (suc count) x h =
+    every-cons test x (replicate count x) .1 (h, every-replicate test count x h)
+
+-- ---- lists that are the same
+
+pub same-lists : (k l : List ℕ) → T (same k l) → k ≡ l
+unfolding same
+same-lists [] [] h = refl
+same-lists [] (y ∷ l) h = absurd h
+same-lists (x ∷ k) [] h = absurd h
+same-lists (x ∷ k) (y ∷ l) h =
+    let (first, rest) = T-and (eqb x y) (same k l) .0 h in
+    ap₂ (λ (z : ℕ) (m : List ℕ). z ∷ m) (eqb→eq x y first) (same-lists k l rest)
+
+pub same-self : (l : List ℕ) → T (same l l)
+unfolding same
+same-self [] = tt
+same-self (x ∷ l) = T-and (eqb x x) (same l l) .1 (eqb-refl x, same-self l)
+
+pub same-is : (k l : List ℕ) → T (same k l) ↔ (k ≡ l)
+same-is k l = (same-lists k l, λ e. rw (sym e) (same-self k))
+
 -- ---- the lists that elements give, one after the other
 
 pub concatMap-append : {A B : Type 0} (f : A → List B) (k l : List A)
@@ -33,15 +71,21 @@ concatMap-append f [] l = refl
 concatMap-append f (x ∷ k) l =
     ap (λ m. f x ++ m) (concatMap-append f k l) ∙ sym (append-assoc (f x) (concatMap f k) (concatMap f l))
 
+pub concatMap-map : {A B C : Type 0} (f : B → List C) (g : A → B) (l : List A)
+    → concatMap f (map g l) ≡ concatMap (λ x. f (g x)) l
+unfolding concatMap
+concatMap-map f g [] = refl
+concatMap-map f g (x ∷ l) = ap (λ m. f (g x) ++ m) (concatMap-map f g l)
+
 -- one element more, at the end
 pub concatMap-snoc : {A B : Type 0} (f : A → List B) (l : List A) (x : A)
     → concatMap f (l ++ (x ∷ [])) ≡ concatMap f l ++ f x
 unfolding concatMap
 concatMap-snoc f l x = concatMap-append f l (x ∷ []) ∙ ap (λ m. concatMap f l ++ m) (append-nil (f x))
 
-pub length-snoc : {A B : Type 0} (f : A → List B) (l : List A) (x : A)
+pub concatMap-snoc-length : {A B : Type 0} (f : A → List B) (l : List A) (x : A)
     → length (concatMap f (l ++ (x ∷ []))) ≡ length (concatMap f l) + length (f x)
-length-snoc f l x = ap length (concatMap-snoc f l x) ∙ length-append (concatMap f l) (f x)
+concatMap-snoc-length f l x = ap length (concatMap-snoc f l x) ∙ length-append (concatMap f l) (f x)
 
 -- ---- counting up
 
@@ -49,3 +93,13 @@ pub upFrom-length : (a count : ℕ) → length (upFrom a count) ≡ count
 unfolding upFrom
 upFrom-length a zero = refl
 upFrom-length a (suc count) = ap suc (upFrom-length (suc a) count)
+
+-- ---- a lent buffer that begins with its used words
+
+pub padded-length : (size : ℕ) (used : List ℕ) → length used ≤ size → length (padded size used) ≡ size
+unfolding padded
+padded-length size used h = simp (length-append, length-replicate) (omega arith)
+
+pub padded-take : (size count : ℕ) (used : List ℕ) → count ≡ length used → take count (padded size used) ≡ used
+unfolding padded
+padded-take size count used e = take-at used (cleared (size - length used)) count (sym e)

@@ -19,9 +19,9 @@ use Rattle.definitions.specs.PhoneSets.{has, alone, allPhones, without}
 use Rattle.definitions.specs.Matrices.{Matrix, rootMatrix, yesSide, noSide, meet, shift, startCut}
 use Rattle.definitions.specs.Matrices.{valid, endsHere}
 use Rattle.definitions.specs.laws.Tests.{every-at, every-from}
-use Rattle.definitions.specs.laws.PhoneSets.{has-and, has-without, has-alone, has-all}
-use Rattle.definitions.specs.laws.PhoneSets.{some-member, no-member, same-members}
-use Rattle.definitions.specs.laws.PhoneSets.{alone-below, all-below, and-below-left, without-below}
+use Rattle.definitions.specs.laws.PhoneSets.{has-and, has-without, has-alone, has-all, some-member}
+use Rattle.definitions.specs.laws.PhoneSets.{member-nonzero, same-members, alone-below, all-below}
+use Rattle.definitions.specs.laws.PhoneSets.{and-below-left, without-below}
 
 -- ---- the meet of two matrices
 
@@ -48,7 +48,7 @@ meet-length (x ∷ a) (y ∷ b) e = ap suc (meet-length a b (suc-inj e))
 pub shift-column : (phones : ℕ) (m : Matrix) (c : ℕ) → c + 1 < length m → shift phones m ! c ≡ m ! (c + 1)
 unfolding shift
 shift-column n m c h =
-    List·getD-append (drop 1 m) (allPhones n ∷ []) 0 c (rw length-drop (omega arith))
+    List·getD-append (drop 1 m) _ 0 c (rw length-drop (omega arith))
     ∙ getD-drop 1 m c 0 ∙ rw (add-comm 1 c)
 
 pub shift-last : (phones w : ℕ) (m : Matrix) → length m ≡ suc w → shift phones m ! w ≡ allPhones phones
@@ -179,8 +179,8 @@ start-has p half m c h =
 -- ---- tests of every column
 
 -- a column is not 0 exactly when it has a member
-column-member : (s : ℕ) → T (not (eqb s 0)) ↔ ((p : ℕ) × T (has p s))
-column-member s = (there, λ m. not-T (eqb s 0) (λ t. no-member (m .0) s (m .1) (eqb→eq s 0 t)))
+pub column-member : (s : ℕ) → T (not (eqb s 0)) ↔ ((p : ℕ) × T (has p s))
+column-member s = (there, λ m. not-T (eqb s 0) (λ t. member-nonzero (m .0) s (m .1) (eqb→eq s 0 t)))
   where
     there : T (not (eqb s 0)) → (p : ℕ) × T (has p s)
     there h = some-member s (λ e. T-not (eqb s 0) h (subst (λ (z : ℕ). T (eqb z 0)) (sym e) tt))
@@ -188,7 +188,7 @@ column-member s = (there, λ m. not-T (eqb s 0) (λ t. no-member (m .0) s (m .1)
 pub valid-columns : (m : Matrix) → T (valid m) ↔ ((c : ℕ) → c < length m → (p : ℕ) × T (has p (m ! c)))
 unfolding valid
 valid-columns m = (
-  λ h c k. column-member (m ! c) .0 (every-at _ m h c k),
+  λ h c k. column-member (m ! c) .0 (every-at _ m 0 h c k),
   λ h. every-from _ m (λ c k. column-member (m ! c) .1 (h c k)),
 )
 
@@ -203,7 +203,7 @@ ends-columns half m = (each, whole)
     each : T (every (has 1) right) → (c : ℕ) → half < c → c < length m → T (has 1 (m ! c))
     each h c l k =
         let place : half + 1 + (c - (half + 1)) ≡ c = omega arith in
-        rw (getD-drop, place) at (every-at (has 1) right h (c - (half + 1)) (rw length-drop (omega arith)))
+        rw (getD-drop, place) at (every-at (has 1) right 0 h (c - (half + 1)) (rw length-drop (omega arith)))
 
     whole : ((c : ℕ) → half < c → c < length m → T (has 1 (m ! c))) → T (every (has 1) right)
     whole h = every-from (has 1) right λ c k.

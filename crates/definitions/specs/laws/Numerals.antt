@@ -9,26 +9,24 @@ use mathlib.Core.Bool.{Bool, true, false, not, _&&_}
 use Prim.Native.Nat.{ℕ, zero, suc, _+_, _-_, _*_, _/_, _%_, _^_, _≤_, _<_}
 use native.Mathlib.Nat.{add-zero, zero-add}
 use native.Mathlib.Omega.{arith}
-use lib.Dec.{T, leb, ltb, eqb, leb→le, le→leb, not-T, T-not, eqb→eq}
+use lib.Dec.{T, ltb, eqb, not-T, T-not, eqb→eq}
 use lib.ListN.{length, length-append, List·getD-append}
 use lib.Seq.{append-snoc}
 use borrow.Author.Tests.{lt-ltb, le-ltb, ltb-true, ltb-false}
 use Rattle.definitions.specs.Lists.{_!_, every}
 use Rattle.definitions.specs.Numerals.{isDigit, isNumeral, valueOf, numeralWithin, numeral}
-use Rattle.definitions.specs.laws.Tests.{T-and}
+use Rattle.definitions.specs.laws.Tests.{T-and, between}
 use Rattle.definitions.specs.laws.Lists.{every-cons, every-append}
 
 -- ---- digits, and which of them are a numeral
 
 pub digit-range : (byte : ℕ) → T (isDigit byte) → (48 ≤ byte) × (byte ≤ 57)
 unfolding isDigit
-digit-range b h =
-    let (low, high) = T-and (leb 48 b) (leb b 57) .0 h in
-    (leb→le 48 b low, leb→le b 57 high)
+digit-range b = between 48 b 57 .0
 
 digit-is : (byte : ℕ) → 48 ≤ byte → byte ≤ 57 → T (isDigit byte)
 unfolding isDigit
-digit-is b low high = T-and (leb 48 b) (leb b 57) .1 (le→leb 48 b low, le→leb b 57 high)
+digit-is b low high = between 48 b 57 .1 (low, high)
 
 -- a numeral of two digits or more has no leading 0
 numeral-parts : (b c : ℕ) (bytes : List ℕ) → T (isNumeral (b ∷ c ∷ bytes))

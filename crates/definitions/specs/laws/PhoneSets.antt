@@ -8,12 +8,12 @@ use mathlib.Core.Bool.{Bool, true, false, not, _&&_, _||_, true≢false, false�
 use Prim.Native.Nat.{ℕ, zero, suc, _-_, _/_, _%_, _^_, _≤_, _<_, min, max}
 use native.Mathlib.Nat.{mod-eq-of-lt, pow-suc, div-div-eq-div-mul, mul-comm, div-one}
 use native.Mathlib.Omega.{arith}
-use lib.Dec.{T, leb, ltb, eqb, leb→le, ltb→lt}
-use lib.Dec.{leb·zero, leb·suc-zero, leb·suc-suc, eqb·zero-suc, eqb·suc-zero, eqb·suc-suc}
-use borrow.Author.Tests.{lt-ltb}
+use lib.Dec.{T, leb, ltb, eqb, leb→le, ltb→lt, leb·zero, leb·suc-zero, leb·suc-suc, eqb·zero-suc}
+use lib.Dec.{eqb·suc-zero, eqb·suc-suc}
 use lib.Arith.{bin-ind}
 use lib.Bits.{bitAnd, bitOr, and-comm, and-step, or-step, and-le-l, and-mask, or-lt}
 use lib.Pow.{pow-pos, pow-lt, ones-lt}
+use borrow.Author.Tests.{lt-ltb}
 use Rattle.definitions.specs.Lists.{every, atLeastOne}
 use Rattle.definitions.specs.PhoneSets.{has, alone, allPhones, without, setOf}
 use Rattle.definitions.specs.laws.Tests.{T-and}
@@ -138,8 +138,8 @@ has-below p s n l h = (ltb→lt 0 p (range .0), leb→le p n (range .1))
     range : T (ltb 0 p) × T (leb p n)
     range = T-and (ltb 0 p) (leb p n) .0 (subst T (has-all p n) in-all)
 
-pub no-member : (p s : ℕ) → T (has p s) → s ≢ 0
-no-member p s h e = subst T (ap (has p) e ∙ has-none p) h
+pub member-nonzero : (p s : ℕ) → T (has p s) → s ≢ 0
+member-nonzero p s h e = subst T (ap (has p) e ∙ has-none p) h
 
 -- a member of the half is a member, one further up
 next-member : (s p : ℕ) → T (has p (s / 2)) → (p : ℕ) × T (has p s)

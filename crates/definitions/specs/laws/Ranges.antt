@@ -1,18 +1,19 @@
 -- Laws about ranges: the numbers of a line that lies in the fixed ranges of its letter, as facts.
 -- Header ranges and the numbers of an accepted book come from here.
+use mathlib.Core.Logic.{_↔_}
 use mathlib.Core.List.{List, [], _∷_}
 use mathlib.Core.Bool.{Bool, true, false, _&&_}
 use mathlib.Core.Option.{Option, none, some}
 use Prim.Native.Nat.{ℕ, zero, suc, _≤_, _<_}
 use Prim.Native.Char.{Char, code}
 use native.Mathlib.Omega.{arith}
-use lib.Dec.{T, leb, eqb, leb→le, lit<}
+use lib.Dec.{T, leb, eqb, lit<}
 use lib.ListN.{length, getD}
 use Rattle.definitions.specs.Lists.{if_then_else_, _!_}
 use Rattle.definitions.specs.Forms.{Range, Form, _‥_, formH, formQ, formN, formL, formR, bookForms}
 use Rattle.definitions.specs.Lines.{Line, formOf, inRanges, inFixedRanges}
-use Rattle.definitions.specs.BookLines.{BookLine, H, Q, N, L, R, bookLine}
-use Rattle.definitions.specs.laws.Tests.{T-and}
+use Rattle.definitions.specs.BookLines.{BookLine, H, Q, N, L, R, bookLine, isPhone}
+use Rattle.definitions.specs.laws.Tests.{T-and, between}
 
 -- a number in a range
 pub record Within (range : Range) (n : ℕ) : Type 0 where
@@ -21,8 +22,12 @@ pub record Within (range : Range) (n : ℕ) : Type 0 where
 
 in-range : (r : Range) (n : ℕ) → T (leb (r .lowest) n && leb n (r .highest)) → Within r n
 in-range r n h =
-    let parts = T-and (leb (r .lowest) n) (leb n (r .highest)) .0 h in
-    record { low = leb→le (r .lowest) n (parts .0); high = leb→le n (r .highest) (parts .1) }
+    let (low, high) = between (r .lowest) n (r .highest) .0 h in record { low = low; high = high }
+
+-- a phone of a book
+pub phone-range : (phones p : ℕ) → T (isPhone phones p) ↔ ((1 ≤ p) × (p ≤ phones))
+unfolding isPhone
+phone-range phones p = between 1 p phones
 
 range-parts : (r : Range) (ranges : List Range) (n : ℕ) (numbers : List ℕ)
     → T (inRanges (r ∷ ranges) (n ∷ numbers)) → Within r n × T (inRanges ranges numbers)

@@ -6,12 +6,13 @@ use mathlib.Core.List.{List, [], _∷_, _++_, append-assoc}
 use Prim.Native.Nat.{ℕ, zero, suc, _-_, _≤_}
 use native.Mathlib.Omega.{arith}
 use lib.Bits.{bitAnd}
-use lib.ListN.{length, set, take, drop, length-append, length-replicate, length-set, length-drop}
-use lib.Seq.{ext-getD, set-getD, take-append-seam, drop-append-le, take-at, drop-at}
+use lib.ListN.{length, set, take, drop, length-append, length-set, length-drop}
+use lib.Seq.{ext-getD, set-getD, drop-append-le, take-at, drop-at}
 use Rattle.definitions.specs.Lists.{_!_, cleared, padded}
 use Rattle.definitions.specs.PhoneSets.{has, alone, allPhones, without}
 use Rattle.definitions.specs.Matrices.{Matrix, matrixWords, yesSide, noSide, meet, shift, startCut}
 use Rattle.definitions.specs.Matrices.{valid}
+use Rattle.definitions.specs.laws.Lists.{padded-length, padded-take}
 use Rattle.definitions.specs.laws.Matrices.{meet-column, meet-length, shift-length, start-length}
 use Rattle.definitions.specs.laws.Matrices.{yes-set, no-set}
 
@@ -48,10 +49,6 @@ zeros-start (suc half) (x ∷ m) k = ap (λ (r : Matrix). bitAnd x (alone 1) ∷
 -- ---- a matrix padded to any size
 
 module _ (size : ℕ) where
-  pub padded-length : (m : Matrix) → length m ≤ size → length (padded size m) ≡ size
-  unfolding padded
-  padded-length m h = simp (length-append, length-replicate) (omega arith)
-
   pub padded-column : (m : Matrix) (c : ℕ) → padded size m ! c ≡ m ! c
   unfolding padded
   padded-column m c = zeros-column m (size - length m) c
@@ -103,12 +100,9 @@ module _ (size : ℕ) where
   padded-start half m =
       padded-as m (startCut half m) (start-length half m) ∙ zeros-start half m (size - length m)
 
-  pub padded-take : (m : Matrix) → take (length m) (padded size m) ≡ m
-  unfolding padded
-  padded-take m = take-append-seam m (cleared (size - length m))
-
   pub padded-same : (a b : Matrix) → length a ≡ length b → padded size a ≡ padded size b → a ≡ b
-  padded-same a b e q = sym (padded-take a) ∙ ap₂ take e q ∙ padded-take b
+  padded-same a b e q =
+      sym (padded-take size (length a) a refl) ∙ ap₂ take e q ∙ padded-take size (length b) b refl
 
 -- ---- the seven words
 
@@ -151,7 +145,7 @@ words-start = padded-start 7
 -- the matrix is the words up to its width
 pub words-take : (m : Matrix) → take (length m) (matrixWords m) ≡ m
 unfolding matrixWords
-words-take = padded-take 7
+words-take m = padded-take 7 (length m) m refl
 
 pub words-valid : (m : Matrix) → valid m ≡ valid (take (length m) (matrixWords m))
 words-valid m = ap valid (sym (words-take m))

@@ -1,15 +1,16 @@
 -- Laws about tables: the book read back out of the tables that hold it is that book.
 -- So whatever a later stage computes from tables as reading left them, it computes from the lines' book.
-use mathlib.Core.Path.{_≡_, refl, sym, ap, ap₂, _∙_}
+use mathlib.Core.Path.{_≡_, refl, ap, ap₂, _∙_}
 use mathlib.Core.List.{List, [], _∷_, map}
 use Prim.Native.Nat.{ℕ, _-_}
-use lib.ListN.{length, take}
-use lib.Seq.{take-at}
+use lib.ListN.{length}
 use Rattle.definitions.specs.declared.Header.{Header}
 use Rattle.definitions.specs.Lists.{concatMap, cleared, padded}
 use Rattle.definitions.specs.BookLines.{TreeNode, question, leaf, rootCount}
 use Rattle.definitions.specs.BookReading.{Lent, nodeSize}
-use Rattle.definitions.specs.Tables.{Book, nodeWords, nodeOf, treeNode, nodeRecords, tablesOf, tablesBook}
+use Rattle.definitions.specs.Tables.{Book, nodeWords, nodeOf, treeNode, nodeRecords, tablesOf}
+use Rattle.definitions.specs.Tables.{tablesBook}
+use Rattle.definitions.specs.laws.Lists.{padded-take}
 use Rattle.definitions.specs.laws.Records.{flat-records}
 
 -- a header that states a book's counts
@@ -21,7 +22,7 @@ pub record Heads (header : Header) (book : Book) : Type 0 where
   pub classes : header .classes ≡ length (book .classes)
   pub roots : rootCount header ≡ length (book .roots)
 
-node-sized : (node : TreeNode) → length (nodeWords node) ≡ nodeSize
+pub node-sized : (node : TreeNode) → length (nodeWords node) ≡ nodeSize
 unfolding nodeWords
 node-sized (question class position yesNode noNode) = refl
 node-sized (leaf model) = refl
@@ -36,18 +37,17 @@ nodes-back [] = refl
 nodes-back (node ∷ nodes) =
     ap₂ (λ (x : TreeNode) (l : List TreeNode). x ∷ l) (node-back node) (nodes-back nodes)
 
--- the used words of a padded table
-used-words : (size count : ℕ) (used : List ℕ) → count ≡ length used → take count (padded size used) ≡ used
-unfolding padded
-used-words size count used e = take-at used (cleared (size - length used)) count (sym e)
-
-pub tables-nodes : (header : Header) (size : ℕ) (nodes : List TreeNode) → header .nodes ≡ length nodes
-    → map treeNode (nodeRecords header (padded size (concatMap nodeWords nodes))) ≡ nodes
+-- the records in a node table, and the nodes that they are
+pub tables-records : (header : Header) (size : ℕ) (nodes : List TreeNode) → header .nodes ≡ length nodes
+    → nodeRecords header (padded size (concatMap nodeWords nodes)) ≡ map nodeOf (map nodeWords nodes)
 unfolding nodeRecords padded
-tables-nodes header size nodes e =
+tables-records header size nodes e =
     let rest : List ℕ = cleared (size - length (concatMap nodeWords nodes)) in
-    let back = flat-records nodeWords nodeSize node-sized nodes rest in
-    rw e (ap (λ (l : List (List ℕ)). map treeNode (map nodeOf l)) back) ∙ nodes-back nodes
+    rw e (ap (map nodeOf) (flat-records nodeWords nodeSize node-sized nodes rest))
+
+tables-nodes : (header : Header) (size : ℕ) (nodes : List TreeNode) → header .nodes ≡ length nodes
+    → map treeNode (nodeRecords header (padded size (concatMap nodeWords nodes))) ≡ nodes
+tables-nodes header size nodes e = ap (map treeNode) (tables-records header size nodes e) ∙ nodes-back nodes
 
 pub tables-book : (header : Header) (lent : Lent) (book : Book) → Heads header book
     → tablesBook header (tablesOf lent book) ≡ book
@@ -57,6 +57,6 @@ tables-book header lent book h = λ i. record {
   states = h .states i;
   phones = h .phones i;
   nodes = tables-nodes header (lent .nodes) (book .nodes) (h .nodes) i;
-  classes = used-words (lent .classes) (header .classes) (book .classes) (h .classes) i;
-  roots = used-words (lent .roots) (rootCount header) (book .roots) (h .roots) i;
+  classes = padded-take (lent .classes) (header .classes) (book .classes) (h .classes) i;
+  roots = padded-take (lent .roots) (rootCount header) (book .roots) (h .roots) i;
 }

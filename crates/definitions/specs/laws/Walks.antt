@@ -24,6 +24,23 @@ Forward nodes =
 abbrev pub IsLeaf : List TreeNode → ℕ → Type 0
 IsLeaf nodes node = (model : ℕ) × (nodeAt nodes node ≡ leaf model)
 
+-- a node is a leaf or a question
+pub by-node : {P : Type 0} (nodes : List TreeNode) (node : ℕ)
+    → ((model : ℕ) → nodeAt nodes node ≡ leaf model → P)
+    → ((class position yesNode noNode : ℕ) → nodeAt nodes node ≡ question class position yesNode noNode → P)
+    → P
+by-node {P} nodes node at-leaf at-question = at (nodeAt nodes node) refl
+  where
+    at : (x : TreeNode) → nodeAt nodes node ≡ x → P
+    at (leaf model) e = at-leaf model e
+    at (question class position yesNode noNode) e = at-question class position yesNode noNode e
+
+-- what holds of both children holds of the one that an answer chooses
+pub either-node : (P : ℕ → Type 0) (yesNode noNode : ℕ) → P yesNode → P noNode
+    → (b : Bool) → P (if b then yesNode else noNode)
+either-node P yesNode noNode y n true = y
+either-node P yesNode noNode y n false = n
+
 module _ (nodes : List TreeNode) (classes context : List ℕ) where
   abbrev walked : (steps node : ℕ) → ℕ
   walked steps node = walk steps nodes classes context node
@@ -44,24 +61,17 @@ module _ (nodes : List TreeNode) (classes context : List ℕ) where
       → IsLeaf nodes (walked steps node)
   walk-ends forward zero node h k = absurd (omega arith)
   walk-ends forward (suc steps) node h k =
-      at (nodeAt nodes node) refl (λ child h k. walk-ends forward steps child h k)
-    where
-      at : (x : TreeNode) → nodeAt nodes node ≡ x
-          → ((child : ℕ) → child < length nodes → length nodes ≤ child + steps
-          → IsLeaf nodes (walked steps child))
-          → IsLeaf nodes (walked (suc steps) node)
-      at (leaf model) e further =
-          (model, subst (λ (n : ℕ). nodeAt nodes n ≡ leaf model) (sym (walk-leaf steps node model e)) e)
-      at (question class position yesNode noNode) e further =
-          subst (IsLeaf nodes) (sym (walk-question steps node class position yesNode noNode e))
-          (choice (holdsAt classes class position context))
-        where
-          children : Later nodes node yesNode × Later nodes node noNode
-          children = forward node class position yesNode noNode e
-
-          choice : (b : Bool) → IsLeaf nodes (walked steps (if b then yesNode else noNode))
-          choice true = further yesNode (children .0 .listed) (omega (arith, children .0 .greater))
-          choice false = further noNode (children .1 .listed) (omega (arith, children .1 .greater))
+      by-node nodes node
+      (λ model e.
+      let stays = sym (walk-leaf steps node model e) in
+      (model, subst (λ (n : ℕ). nodeAt nodes n ≡ leaf model) stays e))
+      (λ class position yesNode noNode e.
+      let (yesLater, noLater) = forward node class position yesNode noNode e in
+      subst (IsLeaf nodes) (sym (walk-question steps node class position yesNode noNode e))
+      (either-node (λ child. IsLeaf nodes (walked steps child)) yesNode noNode
+      (walk-ends forward steps yesNode (yesLater .listed) (omega (arith, yesLater .greater)))
+      (walk-ends forward steps noNode (noLater .listed) (omega (arith, noLater .greater)))
+      (holdsAt classes class position context)))
 
   pub leaf-reached : Forward nodes → (root : ℕ) → root < length nodes
       → IsLeaf nodes (leafReached nodes classes context root)

@@ -1,0 +1,214 @@
+-- Accepted books are sound. What a line that passed its tests says of its node, its root or its class's
+-- member is kept by every further line, so it holds of all nodes, roots and members of the book.
+-- What the lines say of nodes and roots (laws/ByLines.antt) and the whole of demand 3 stand on it.
+use mathlib.Core.Path.{_≡_, subst}
+use mathlib.Core.List.{List, [], _∷_, _++_}
+use mathlib.Core.Bool.{Bool, _&&_}
+use Prim.Native.Nat.{ℕ, zero, suc, _+_, _*_, _≤_, _<_}
+use native.Mathlib.Omega.{arith}
+use lib.Dec.{leb, ltb, leb→le, ltb→lt, eqb→eq}
+use lib.ListN.{length, getD}
+use Rattle.definitions.specs.declared.Header.{Header}
+use Rattle.definitions.specs.Lists.{_!_, concatMap}
+use Rattle.definitions.specs.Faults.{answered}
+use Rattle.definitions.specs.Forms.{_‥_}
+use Rattle.definitions.specs.BookLines.{BookLine, H, Q, N, L, R, headerOf, TreeNode, question, leaf}
+use Rattle.definitions.specs.BookLines.{nodesOf, nodeIn, rootsOf, rootIn, Member, membersOf, memberIn}
+use Rattle.definitions.specs.BookReading.{Lent, withinHeader, bookInOrder, childrenGreater, readBook}
+use Rattle.definitions.specs.Tables.{bookOf}
+use Rattle.definitions.specs.Lookup.{nodeAt}
+use Rattle.definitions.specs.Combinations.{rootOf}
+use Rattle.definitions.specs.laws.Tests.{T-and, T-three}
+use Rattle.definitions.specs.laws.Lists.{concatMap-snoc}
+use Rattle.definitions.specs.laws.Ranges.{Within}
+use Rattle.definitions.specs.laws.Books.{Fits, Orderly, accepted-holds, accepted-orderly}
+use Rattle.definitions.specs.laws.Walks.{Forward}
+use Rattle.definitions.specs.laws.Sound.{Sound}
+
+-- ---- what holds of every element of a list, and of its number, where the first has number `at`
+
+abbrev pub allFrom : {A : Type 0} → (ℕ → A → Type 0) → ℕ → List A → Type 0
+allFrom P at [] = Unit {0}
+allFrom P at (x ∷ l) = P at x × allFrom P (suc at) l
+
+all-append : {A : Type 0} (P : ℕ → A → Type 0) (at next : ℕ) (k l : List A) → next ≡ at + length k
+    → allFrom P at k → allFrom P next l → allFrom P at (k ++ l)
+all-append P at next [] l e h i = subst (λ n. allFrom P n l) {x = next} {y = at} (omega arith) i
+all-append P at next (x ∷ k) l e h i = (h .0, all-append P (suc at) next k l (omega arith) (h .1) i)
+
+-- one line more
+all-more : {A B : Type 0} (P : ℕ → A → Type 0) (f : B → List A) (before : List B) (line : B)
+    → allFrom P 0 (concatMap f before) → allFrom P (length (concatMap f before)) (f line)
+    → allFrom P 0 (concatMap f (before ++ (line ∷ [])))
+all-more P f before line h i =
+    rw (concatMap-snoc f before line) (all-append P 0 _ (concatMap f before) (f line) (omega arith) h i)
+
+all-at : {A : Type 0} (P : ℕ → A → Type 0) (at : ℕ) (l : List A) (d : A) → allFrom P at l
+    → (i n : ℕ) → i < length l → n ≡ at + i → P n (getD l i d)
+all-at P at [] d h i n k e = absurd (omega arith)
+all-at P at (x ∷ l) d h zero n k e = subst (λ n. P n x) {x = at} {y = n} (omega arith) (h .0)
+all-at P at (x ∷ l) d h (suc i) n k e = all-at P (suc at) l d (h .1) i n (omega arith) (omega arith)
+
+-- ---- the nodes, the roots and the members of classes of a book
+
+-- what the N line of a node says: numbers in range, and children that are greater nodes
+pub record QuestionFits (header : Header) (node class position yesNode noNode : ℕ) : Type 0 where
+  pub class-low : 1 ≤ class
+  pub class-high : class ≤ header .classes
+  pub position-high : position ≤ 2 * header .half
+  pub yes-greater : node < yesNode
+  pub yes-listed : yesNode < header .nodes
+  pub no-greater : node < noNode
+  pub no-listed : noNode < header .nodes
+
+abbrev pub NodeFits : Header → ℕ → TreeNode → Type 0
+NodeFits header node (question class position yesNode noNode) =
+    QuestionFits header node class position yesNode noNode
+NodeFits header node (leaf model) = Within (1 ‥ 65535) model
+
+abbrev pub RootFits : Header → ℕ → ℕ → Type 0
+RootFits header i root = root < header .nodes
+
+abbrev pub MemberFits : Header → ℕ → Member → Type 0
+MemberFits header i m = m .phone ≤ header .phones
+
+pub record AllFit (header : Header) (lines : List BookLine) : Type 0 where
+  pub nodes : allFrom (NodeFits header) 0 (nodesOf lines)
+  pub roots : allFrom (RootFits header) 0 (rootsOf lines)
+  pub members : allFrom (MemberFits header) 0 (membersOf lines)
+
+-- the node, the root or the member of a line that passed its tests
+question-fits : (lent : Lent) (before : List BookLine) (node class position yesNode noNode : ℕ)
+    → Fits lent before (N node class position yesNode noNode)
+    → QuestionFits (headerOf before) (length (nodesOf before)) class position yesNode noNode
+unfolding withinHeader bookInOrder childrenGreater
+question-fits lent before node class position yesNode noNode f =
+    let header : Header = headerOf before in
+    let place : node ≡ length (nodesOf before) = eqb→eq _ _ (f .in-order) in
+    let own-number : Bool = ltb node (header .nodes) in
+    let own-class : Bool = leb class (header .classes) in
+    let own-position : Bool = leb position (2 * header .half) in
+    let children = T-three (own-number && own-class && own-position)
+    (ltb yesNode (header .nodes)) (ltb noNode (header .nodes)) .0 (f .within) in
+    let own = T-three own-number own-class own-position .0 (children .0) in
+    let greater = T-and (ltb node yesNode) (ltb node noNode) .0 (f .greater) in
+    record {
+      class-low = f .ranged .low;
+      class-high = leb→le _ _ (own .1);
+      position-high = leb→le _ _ (own .2);
+      yes-greater = omega (arith, ltb→lt node yesNode (greater .0));
+      yes-listed = ltb→lt _ _ (children .1);
+      no-greater = omega (arith, ltb→lt node noNode (greater .1));
+      no-listed = ltb→lt _ _ (children .2);
+    }
+
+nodes-fit : (lent : Lent) (before : List BookLine) (line : BookLine) → Fits lent before line
+    → allFrom (NodeFits (headerOf before)) (length (nodesOf before)) (nodeIn line)
+unfolding nodeIn
+nodes-fit lent before (H half states phones classes nodes) f = tt
+nodes-fit lent before (Q class phone) f = tt
+nodes-fit lent before (N node class position yesNode noNode) f =
+    (question-fits lent before node class position yesNode noNode f, tt)
+nodes-fit lent before (L node model) f = (f .ranged, tt)
+nodes-fit lent before (R phone state root) f = tt
+
+roots-fit : (lent : Lent) (before : List BookLine) (line : BookLine) → Fits lent before line
+    → allFrom (RootFits (headerOf before)) (length (rootsOf before)) (rootIn line)
+unfolding rootIn withinHeader
+roots-fit lent before (H half states phones classes nodes) f = tt
+roots-fit lent before (Q class phone) f = tt
+roots-fit lent before (N node class position yesNode noNode) f = tt
+roots-fit lent before (L node model) f = tt
+roots-fit lent before (R phone state root) f =
+    let header : Header = headerOf before in
+    let parts = T-three (leb phone (header .phones)) (leb state (header .states)) (ltb root (header .nodes))
+    .0 (f .within) in
+    (ltb→lt _ _ (parts .2), tt)
+
+members-fit : (lent : Lent) (before : List BookLine) (line : BookLine) → Fits lent before line
+    → allFrom (MemberFits (headerOf before)) (length (membersOf before)) (memberIn line)
+unfolding memberIn withinHeader
+members-fit lent before (H half states phones classes nodes) f = tt
+members-fit lent before (Q class phone) f =
+    let header : Header = headerOf before in
+    let parts = T-and (leb class (header .classes)) (leb phone (header .phones)) .0 (f .within) in
+    (leb→le _ _ (parts .1), tt)
+members-fit lent before (N node class position yesNode noNode) f = tt
+members-fit lent before (L node model) f = tt
+members-fit lent before (R phone state root) f = tt
+
+-- so all nodes, roots and members of an accepted book fit
+pub accepted-fit : (lent : Lent) (text : List ℕ) (lines : List BookLine) → readBook lent text ≡ answered lines
+    → AllFit (headerOf lines) lines
+unfolding nodesOf nodeIn rootsOf rootIn membersOf memberIn concatMap
+accepted-fit lent text lines e =
+    accepted-holds lent (λ lines. AllFit (headerOf lines) lines)
+    (λ half states phones classes nodes f. record { nodes = tt; roots = tt; members = tt }) more text lines e
+    .holds
+  where
+    more : (before : List BookLine) (line : BookLine) → headerOf (before ++ (line ∷ [])) ≡ headerOf before
+        → AllFit (headerOf before) before → Fits lent before line
+        → AllFit (headerOf (before ++ (line ∷ []))) (before ++ (line ∷ []))
+    more before line e a f = rw e record {
+      nodes = all-more _ nodeIn before line (a .nodes) (nodes-fit lent before line f);
+      roots = all-more _ rootIn before line (a .roots) (roots-fit lent before line f);
+      members = all-more _ memberIn before line (a .members) (members-fit lent before line f);
+    }
+
+-- ---- soundness
+
+-- beyond the list stands a leaf
+question-listed : (nodes : List TreeNode) (node class position yesNode noNode : ℕ)
+    → nodeAt nodes node ≡ question class position yesNode noNode → node < length nodes
+question-listed [] node class position yesNode noNode e =
+    let z : _≡_ {A = ℕ} 0 1 = cc in omega arith
+question-listed (x ∷ nodes) zero class position yesNode noNode e = omega arith
+question-listed (x ∷ nodes) (suc node) class position yesNode noNode e =
+    let further = question-listed nodes node class position yesNode noNode e in omega arith
+
+-- beyond the list stands root 0, which is a node too
+root-listed : (header : Header) (at : ℕ) (roots : List ℕ) (i : ℕ) → 0 < header .nodes
+    → allFrom (RootFits header) at roots → roots ! i < header .nodes
+root-listed header at [] i h a = h
+root-listed header at (root ∷ roots) zero h a = a .0
+root-listed header at (root ∷ roots) (suc i) h a = root-listed header (suc at) roots i h (a .1)
+
+module _ (lent : Lent) (text : List ℕ) (lines : List BookLine)
+    (e : readBook lent text ≡ answered lines)
+  where
+    node-fits : (node : ℕ) (x : TreeNode) → nodeAt (nodesOf lines) node ≡ x → node < length (nodesOf lines)
+        → NodeFits (headerOf lines) node x
+    node-fits node x q h =
+        let all : AllFit (headerOf lines) lines = accepted-fit lent text lines e in
+        subst (NodeFits (headerOf lines) node) q
+        (all-at _ 0 (nodesOf lines) (leaf 0) (all .nodes) node node h (omega arith))
+
+    pub accepted-question : (node class position yesNode noNode : ℕ)
+        → nodeAt (nodesOf lines) node ≡ question class position yesNode noNode
+        → QuestionFits (headerOf lines) node class position yesNode noNode
+    accepted-question node class position yesNode noNode q =
+        node-fits node _ q (question-listed (nodesOf lines) node class position yesNode noNode q)
+
+    pub accepted-sound : Sound (bookOf lines)
+    unfolding bookOf rootOf
+    accepted-sound = record {
+      some-state = o .in-range .states-range .low;
+      some-phone = o .in-range .phones-range .low;
+      forward = forward;
+      position = λ node class position yesNode noNode q.
+          omega (arith, accepted-question node class position yesNode noNode q .position-high);
+      model = λ node model h q. node-fits node (leaf model) q h .low;
+      root = λ phone state.
+          rw (o .nodes) (root-listed (headerOf lines) 0 (rootsOf lines) _ (o .in-range .nodes-range .low)
+          (accepted-fit lent text lines e .roots));
+    }
+      where
+        o : Orderly lines
+        o = accepted-orderly lent text lines e
+
+        forward : Forward (nodesOf lines)
+        forward node class position yesNode noNode q =
+            let f = accepted-question node class position yesNode noNode q in (
+              record { greater = f .yes-greater; listed = rw (o .nodes) (f .yes-listed) },
+              record { greater = f .no-greater; listed = rw (o .nodes) (f .no-listed) },
+            )

@@ -1,0 +1,224 @@
+-- The tables of an accepted book are known: the test for foreign tables passes on what reading leaves, so
+-- combining never refuses it by 18. Each line passed tests that ask the same of its numbers, and the H line
+-- those that ask for wide enough tables.
+use mathlib.Core.Path.{_≡_, sym, ap, _∙_, subst}
+use mathlib.Core.Logic.{inl, inr}
+use mathlib.Core.List.{List, [], _∷_, map}
+use mathlib.Core.Bool.{Bool, true, _&&_, _||_}
+use Prim.Native.Nat.{ℕ, suc, _-_, _*_, _^_, _≤_, _<_}
+use lib.Dec.{T, leb, ltb, eqb, leb→le, le→leb, lt→ltb}
+use lib.ListN.{length, take, drop}
+use lib.Seq.{drop-at}
+use borrow.Author.Tests.{lt-ltb, le-leb}
+use Rattle.definitions.specs.declared.Fault.the-variants.{Choices}
+use Rattle.definitions.specs.declared.Header.{Header}
+use Rattle.definitions.specs.Lists.{every, select, concatMap, upFrom, padded}
+use Rattle.definitions.specs.Faults.{answered, _unless_, judge}
+use Rattle.definitions.specs.Forms.{Range, _‥_}
+use Rattle.definitions.specs.Lines.{inRanges}
+use Rattle.definitions.specs.BookLines.{BookLine, headerOf, rootCount, Member, membersOf, TreeNode}
+use Rattle.definitions.specs.BookLines.{question, leaf, nodesOf, rootsOf}
+use Rattle.definitions.specs.BookReading.{Lent, nodeSize, wideEnough, readBook}
+use Rattle.definitions.specs.Tables.{bookOf, phonesOfClass, classSets, nodeWords, nodeOf, nodeRecords}
+use Rattle.definitions.specs.Tables.{Tables, tablesOf, tablesLeft, tablesBook}
+use Rattle.definitions.specs.ForeignTables.{headerKnown, questionKnown, leafKnown, nodesKnown}
+use Rattle.definitions.specs.ForeignTables.{holdsOnly, nodeTableKnown, classTableKnown}
+use Rattle.definitions.specs.ForeignTables.{rootTableKnown, namedOnce, tablesKnown}
+use Rattle.definitions.specs.PhoneSets.{setOf}
+use Rattle.definitions.specs.Combinations.{combinations, combinationRoom, combine}
+use Rattle.definitions.specs.laws.Tests.{T-and, T-three, if-true}
+use Rattle.definitions.specs.laws.Lists.{padded-length, padded-take, every-replicate}
+use Rattle.definitions.specs.laws.Members.{isIn, of-map, every-in}
+use Rattle.definitions.specs.laws.Selected.{of-select}
+use Rattle.definitions.specs.laws.Records.{flat-length}
+use Rattle.definitions.specs.laws.Ranges.{Within}
+use Rattle.definitions.specs.laws.Tables.{Heads, node-sized, tables-records, tables-book}
+use Rattle.definitions.specs.laws.Books.{InRange, Orderly, accepted-holds, accepted-orderly}
+use Rattle.definitions.specs.laws.Books.{orderly-heads, accepted-book}
+use Rattle.definitions.specs.laws.Accepted.{allFrom, NodeFits, RootFits, MemberFits, AllFit}
+use Rattle.definitions.specs.laws.Accepted.{accepted-fit}
+use Rattle.definitions.specs.laws.PhoneSets.{setOf-below}
+
+-- ---- the header
+
+within-passes : (r : Range) (n : ℕ) → Within r n → (leb (r .lowest) n && leb n (r .highest)) ≡ true
+within-passes r n w = rw (le-leb (r .lowest) n (w .low), le-leb n (r .highest) (w .high))
+
+header-known : (header : Header) → InRange header → T (headerKnown header)
+unfolding headerKnown inRanges
+header-known header r =
+    rw (
+      within-passes (0 ‥ 3) (header .half) (r .half-range),
+      within-passes (1 ‥ 3) (header .states) (r .states-range),
+      within-passes (1 ‥ 64) (header .phones) (r .phones-range),
+      within-passes (0 ‥ 255) (header .classes) (r .classes-range),
+      within-passes (1 ‥ 4096) (header .nodes) (r .nodes-range),
+    ) tt
+
+-- ---- what holds of each element of a list with its number
+
+all-in : {A : Type 0} (P : ℕ → A → Type 0) (at : ℕ) (l : List A) → allFrom P at l → (x : A) → isIn x l
+    → (n : ℕ) × P n x
+all-in P at [] h x i = absurd i
+all-in P at (y ∷ l) h x (inl e) = (at, subst (P at) (sym e) (h .0))
+all-in P at (y ∷ l) h x (inr i) = all-in P (suc at) l (h .1) x i
+
+-- ---- padded tables
+
+-- there is nothing beyond the used words
+holds-used : (size count : ℕ) (used : List ℕ) → count ≡ length used → count ≤ size
+    → T (holdsOnly count (padded size used))
+unfolding holdsOnly padded
+holds-used size count used e w =
+    let words : List ℕ = padded size used in
+    let zero : (ℕ → Bool) = λ word. eqb word 0 in
+    T-and (leb count (length words)) (every zero (drop count words)) .1 (
+      rw (padded-length size used (subst (λ n. n ≤ size) e w)) (le→leb count size w),
+      rw (drop-at used _ count (sym e)) (every-replicate zero (size - length used) 0 tt),
+    )
+
+-- and each of these passes a test
+words-known : (size count : ℕ) (used : List ℕ) (test : ℕ → Bool) → count ≡ length used → count ≤ size
+    → ((word : ℕ) → isIn word used → T (test word))
+    → T (holdsOnly count (padded size used) && every test (take count (padded size used)))
+words-known size count used test e w h =
+    T-and (holdsOnly count (padded size used)) (every test (take count (padded size used))) .1
+    (holds-used size count used e w, rw (padded-take size count used e) (every-in test used h))
+
+-- ---- nodes: records as their lines leave them
+
+node-known : (header : Header) (at : ℕ) (node : TreeNode) → NodeFits header at node
+    → (questionKnown header at (nodeOf (nodeWords node)) || leafKnown (nodeOf (nodeWords node))) ≡ true
+unfolding questionKnown leafKnown nodeOf nodeWords
+node-known header at (question class position yesNode noNode) f =
+    rw (
+      le-leb 1 class (f .class-low),
+      le-leb class (header .classes) (f .class-high),
+      le-leb position (2 * header .half) (f .position-high),
+      lt-ltb at yesNode (f .yes-greater),
+      lt-ltb yesNode (header .nodes) (f .yes-listed),
+      lt-ltb at noNode (f .no-greater),
+      lt-ltb noNode (header .nodes) (f .no-listed),
+    )
+node-known header at (leaf model) f = rw (le-leb 1 model (f .low), le-leb model 65535 (f .high))
+
+nodes-known : (header : Header) (at : ℕ) (nodes : List TreeNode) → allFrom (NodeFits header) at nodes
+    → T (nodesKnown header at (map nodeOf (map nodeWords nodes)))
+unfolding nodesKnown
+nodes-known header at [] h = tt
+nodes-known header at (node ∷ nodes) h =
+    rw (node-known header at node (h .0)) (nodes-known header (suc at) nodes (h .1))
+
+node-table-known : (header : Header) (size : ℕ) (nodes : List TreeNode) → header .nodes ≡ length nodes
+    → nodeSize * header .nodes ≤ size → allFrom (NodeFits header) 0 nodes
+    → T (nodeTableKnown header (padded size (concatMap nodeWords nodes)))
+unfolding nodeTableKnown
+node-table-known header size nodes e w h =
+    let count : nodeSize * header .nodes ≡ length (concatMap nodeWords nodes) =
+    ap (λ (n : ℕ). nodeSize * n) e ∙ sym (flat-length nodeWords nodeSize node-sized nodes) in
+    let words : List ℕ = padded size (concatMap nodeWords nodes) in
+    T-and (holdsOnly (nodeSize * header .nodes) words) (nodesKnown header 0 (nodeRecords header words)) .1 (
+      holds-used size (nodeSize * header .nodes) (concatMap nodeWords nodes) count w,
+      rw (tables-records header size nodes e) (nodes-known header 0 nodes h),
+    )
+
+-- ---- classes: sets of phones up to the header's
+
+module _ (header : Header) (members : List Member) (fit : allFrom (MemberFits header) 0 members) where
+  class-phones : (class p : ℕ) → isIn p (phonesOfClass class members) → T (leb p (header .phones))
+  unfolding phonesOfClass
+  class-phones class p i =
+      let own : (Member → Bool) = λ m. eqb (m .class) class in
+      let (m, chosen, e) = of-map (λ (m : Member). m .phone) p (select own members) i in
+      let member : isIn m members = of-select own m members chosen .0 in
+      rw e (le→leb _ _ (all-in (MemberFits header) 0 members fit m member .1))
+
+  class-below : (class : ℕ) → setOf (phonesOfClass class members) < 2 ^ header .phones
+  class-below class =
+      setOf-below (header .phones) (phonesOfClass class members) (every-in _ _ (class-phones class))
+
+  classes-below : (set : ℕ) → isIn set (classSets (header .classes) members)
+      → T (ltb set (2 ^ header .phones))
+  unfolding classSets
+  classes-below set i =
+      let sets : (ℕ → ℕ) = λ class. setOf (phonesOfClass class members) in
+      let (class, listed, e) = of-map sets set (upFrom 1 (header .classes)) i in
+      rw e (lt→ltb _ _ (class-below class))
+
+-- ---- the tables of an accepted book
+
+accepted-wide : (lent : Lent) (text : List ℕ) (lines : List BookLine) → readBook lent text ≡ answered lines
+    → T (wideEnough lent (headerOf lines))
+unfolding headerOf
+accepted-wide lent text lines e =
+    accepted-holds lent (λ lines. T (wideEnough lent (headerOf lines)))
+    (λ half states phones classes nodes f. f .wide) (λ before line e wide f. rw e wide) text lines e .holds
+
+module _ (lent : Lent) (text : List ℕ) (lines : List BookLine) (e : readBook lent text ≡ answered lines) where
+  abbrev header : Header
+  header = headerOf lines
+
+  abbrev tables : Tables
+  tables = tablesOf lent (bookOf lines)
+
+  orderly : Orderly lines
+  orderly = accepted-orderly lent text lines e
+
+  heads : Heads header (bookOf lines)
+  heads = orderly-heads lines orderly
+
+  fit : AllFit header lines
+  fit = accepted-fit lent text lines e
+
+  widths : (nodeSize * header .nodes ≤ lent .nodes) × (header .classes ≤ lent .classes)
+      × (rootCount header ≤ lent .roots)
+  unfolding wideEnough
+  widths =
+      let (nodes, classes, roots) = T-three (leb (nodeSize * header .nodes) (lent .nodes))
+      (leb (header .classes) (lent .classes)) (leb (rootCount header) (lent .roots))
+      .0 (accepted-wide lent text lines e) in
+      (leb→le _ _ nodes, leb→le _ _ classes, leb→le _ _ roots)
+
+  known-nodes : T (nodeTableKnown header (tables .nodes))
+  unfolding tablesOf bookOf
+  known-nodes = node-table-known header (lent .nodes) (nodesOf lines) (heads .nodes) (widths .0) (fit .nodes)
+
+  known-classes : T (classTableKnown header (tables .classes))
+  unfolding classTableKnown tablesOf bookOf
+  known-classes = words-known (lent .classes) (header .classes) (bookOf lines .classes) _
+      (heads .classes) (widths .1) (classes-below header (membersOf lines) (fit .members))
+
+  known-roots : T (rootTableKnown header (tables .roots))
+  unfolding rootTableKnown tablesOf bookOf
+  known-roots = words-known (lent .roots) (rootCount header) (rootsOf lines) _
+      (heads .roots) (widths .2)
+      (λ root i. lt→ltb _ _ (all-in (RootFits header) 0 (rootsOf lines) (fit .roots) root i .1))
+
+  known-names : T (namedOnce (tablesBook header tables))
+  unfolding namedOnce bookOf
+  known-names = rw (tables-book header lent (bookOf lines) heads, orderly .named-once) tt
+
+  all-known : T (tablesKnown header tables)
+  unfolding tablesKnown
+  all-known =
+      let nodes : Bool = nodeTableKnown header (tables .nodes) in
+      let classes : Bool = classTableKnown header (tables .classes) in
+      let roots : Bool = rootTableKnown header (tables .roots) in
+      let three = T-three (headerKnown header) nodes classes .1
+      (header-known header (orderly .in-range), known-nodes, known-classes) in
+      T-three (headerKnown header && nodes && classes) roots (namedOnce (tablesBook header tables)) .1
+      (three, known-roots, known-names)
+
+  pub accepted-known : T (tablesKnown (headerOf lines) (tablesLeft lent (readBook lent text)))
+  unfolding tablesLeft
+  accepted-known = rw e all-known
+
+  -- so nothing but too many combinations is refused where an accepted book's tables are combined
+  pub accepted-not-foreign : (space : ℕ)
+      → combine (headerOf lines) (tablesLeft lent (readBook lent text)) space
+      ≡ judge 0 (Choices unless leb (length (combinations (bookOf lines))) (combinationRoom space) ∷ [])
+      (answered (combinations (bookOf lines)))
+  unfolding combine judge
+  accepted-not-foreign space =
+      if-true (tablesKnown (headerOf lines) (tablesLeft lent (readBook lent text))) _ _ accepted-known
+      ∙ rw (accepted-book lent text lines e)

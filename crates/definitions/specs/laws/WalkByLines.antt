@@ -1,0 +1,193 @@
+-- The model that the lines give to a context and a state is the one that the walk in the tables reaches.
+-- Both walks meet the same nodes: a question's class holds the context's phone when a Q line puts it there.
+-- Demand 3 replaces the lines by the tables with it.
+use mathlib.Core.Path.{_≡_, refl, sym, ap, ap₂, _∙_}
+use mathlib.Core.List.{List, [], _∷_, map}
+use mathlib.Core.Bool.{Bool, true, false, _&&_, _||_}
+use mathlib.Core.Option.{Option, some}
+use Prim.Native.Nat.{ℕ, zero, suc, _+_, _-_, _≤_, _<_}
+use native.Mathlib.Omega.{arith}
+use lib.Dec.{T, eqb, eqb→eq}
+use lib.ListN.{length}
+use Rattle.definitions.specs.Lists.{if_then_else_, _!_, every, atLeastOne, select, concatMap, upFrom}
+use Rattle.definitions.specs.Faults.{answered}
+use Rattle.definitions.specs.BookLines.{BookLine, H, Q, N, L, R, headerOf, isPhone, Member, memberIn}
+use Rattle.definitions.specs.BookLines.{membersOf, TreeNode, question, leaf, nodesOf, nodeIn}
+use Rattle.definitions.specs.BookReading.{Lent, readBook}
+use Rattle.definitions.specs.Tables.{Book, phonesOfClass, classSets, bookOf}
+use Rattle.definitions.specs.Lookup.{nodeAt, modelAt, holdsAt, walk, leafReached}
+use Rattle.definitions.specs.PhoneSets.{has}
+use Rattle.definitions.specs.TreesGive.{nodeLine, isMemberLine, putInClass, modelBelow, modelGiven}
+use Rattle.definitions.specs.Transcription.{modelOf}
+use Rattle.definitions.specs.laws.Tests.{same-tests, eq→eqb, every-at}
+use Rattle.definitions.specs.laws.Ranges.{phone-range}
+use Rattle.definitions.specs.laws.Walks.{walk-leaf, walk-question, by-node, either-node}
+use Rattle.definitions.specs.laws.Sound.{Sound}
+use Rattle.definitions.specs.laws.Accepted.{accepted-question, accepted-sound}
+use Rattle.definitions.specs.laws.ByLines.{accepted-node-line, accepted-root-line}
+use Rattle.definitions.specs.laws.PhoneSets.{has-listed}
+
+-- ---- classes
+
+eqb-swap : (m n : ℕ) → eqb m n ≡ eqb n m
+eqb-swap m n =
+    same-tests (eqb m n) (eqb n m)
+    (λ t. eq→eqb n m (sym (eqb→eq m n t))) (λ t. eq→eqb m n (sym (eqb→eq n m t)))
+
+-- a Q line puts a phone into a class when the class's phones hold it
+put-listed : (lines : List BookLine) (class phone : ℕ)
+    → putInClass lines class phone ≡ atLeastOne (eqb phone) (phonesOfClass class (membersOf lines))
+unfolding putInClass isMemberLine atLeastOne phonesOfClass membersOf memberIn concatMap select
+put-listed [] class phone = refl
+put-listed (H half states phones classes nodes ∷ lines) class phone = put-listed lines class phone
+put-listed (Q c q ∷ lines) class phone = go (eqb c class) (put-listed lines class phone)
+  where
+    rest : List Member
+    rest = select (λ m. eqb (m .class) class) (membersOf lines)
+
+    go : (b : Bool) → putInClass lines class phone ≡ atLeastOne (eqb phone) (map (λ m. m .phone) rest)
+        → (b && eqb q phone || putInClass lines class phone)
+        ≡ atLeastOne (eqb phone)
+        (map (λ m. m .phone) (if b then record { class = c; phone = q } ∷ rest else rest))
+    go true e = ap₂ _||_ (eqb-swap q phone) e
+    go false e = e
+put-listed (N node c position yesNode noNode ∷ lines) class phone = put-listed lines class phone
+put-listed (L node model ∷ lines) class phone = put-listed lines class phone
+put-listed (R p state root ∷ lines) class phone = put-listed lines class phone
+
+-- classes count from 1
+map-upFrom-at : (f : ℕ → ℕ) (a count i n : ℕ) → i < count → n ≡ a + i → map f (upFrom a count) ! i ≡ f n
+unfolding upFrom
+map-upFrom-at f a zero i n h e = absurd (omega arith)
+map-upFrom-at f a (suc count) zero n h e = ap f {x = a} {y = n} (omega arith)
+map-upFrom-at f a (suc count) (suc i) n h e = map-upFrom-at f (suc a) count i n (omega arith) (omega arith)
+
+put-in-class : (lines : List BookLine) (class phone : ℕ) → 1 ≤ class → class ≤ headerOf lines .classes
+    → 1 ≤ phone → putInClass lines class phone ≡ has phone (bookOf lines .classes ! (class - 1))
+unfolding bookOf classSets
+put-in-class lines class zero c C p = absurd (omega arith)
+put-in-class lines class (suc i) c C p =
+    let set = map-upFrom-at _ 1 (headerOf lines .classes) (class - 1) class (omega arith) (omega arith) in
+    put-listed lines class (suc i) ∙ sym (has-listed i (phonesOfClass class (membersOf lines)))
+    ∙ ap (has (suc i)) (sym set)
+
+-- ---- the walk
+
+-- a step by lines
+model-at-leaf : (lines : List BookLine) (context : List ℕ) (steps node model : ℕ)
+    → nodeLine lines node ≡ some (leaf model) → modelBelow (suc steps) lines context node ≡ some model
+unfolding modelBelow
+model-at-leaf lines context steps node model e = rw (e, modelBelow)
+
+model-at-question : (lines : List BookLine) (context : List ℕ) (steps node class position yesNode noNode : ℕ)
+    → nodeLine lines node ≡ some (question class position yesNode noNode)
+    → modelBelow (suc steps) lines context node
+    ≡ modelBelow steps lines context
+    (if putInClass lines class (context ! position) then yesNode else noNode)
+unfolding modelBelow
+model-at-question lines context steps node class position yesNode noNode e = rw (e, modelBelow)
+
+model-at : (nodes : List TreeNode) (node model : ℕ) → nodeAt nodes node ≡ leaf model
+    → modelAt nodes node ≡ model
+unfolding modelAt
+model-at nodes node model e = rw (e, modelAt)
+
+-- a line is of one node at most
+enough-lines : (lines : List BookLine) → length (nodesOf lines) ≤ length lines
+unfolding nodesOf nodeIn concatMap
+enough-lines [] = omega arith
+enough-lines (H half states phones classes nodes ∷ lines) = omega (arith, enough-lines lines)
+enough-lines (Q class phone ∷ lines) = omega (arith, enough-lines lines)
+enough-lines (N node class position yesNode noNode ∷ lines) = omega (arith, enough-lines lines)
+enough-lines (L node model ∷ lines) = omega (arith, enough-lines lines)
+enough-lines (R phone state root ∷ lines) = omega (arith, enough-lines lines)
+
+module _ (lent : Lent) (text : List ℕ) (lines : List BookLine)
+    (accepted : readBook lent text ≡ answered lines)
+    (context : List ℕ) (columns : length context ≡ headerOf lines .half + headerOf lines .half + 1)
+    (phones : T (every (isPhone (headerOf lines .phones)) context))
+  where
+    abbrev book : Book
+    book = bookOf lines
+
+    phone-at : (c : ℕ) → c < headerOf lines .half + headerOf lines .half + 1
+        → (1 ≤ context ! c) × (context ! c ≤ headerOf lines .phones)
+    phone-at c h =
+        phone-range (headerOf lines .phones) (context ! c) .0
+        (every-at (isPhone (headerOf lines .phones)) context 0 phones c (omega arith))
+
+    sound : Sound book
+    sound = accepted-sound lent text lines accepted
+
+    -- both walks answer a question alike
+    same-answer : (node class position yesNode noNode : ℕ)
+        → nodeAt (nodesOf lines) node ≡ question class position yesNode noNode
+        → putInClass lines class (context ! position) ≡ holdsAt (book .classes) class position context
+    unfolding holdsAt
+    same-answer node class position yesNode noNode e =
+        let q = accepted-question lent text lines accepted node class position yesNode noNode e in
+        put-in-class lines class (context ! position) (q .class-low) (q .class-high)
+        (phone-at position (omega (arith, q .position-high)) .0)
+
+    abbrev Alike : (steps levels node : ℕ) → Type 0
+    Alike steps levels node =
+        modelBelow steps lines context node
+        ≡ some (modelAt (nodesOf lines) (walk levels (nodesOf lines) (book .classes) context node))
+
+    line-says : (node : ℕ) (x : TreeNode) → node < length (nodesOf lines) → nodeAt (nodesOf lines) node ≡ x
+        → nodeLine lines node ≡ some x
+    line-says node x h e =
+        accepted-node-line lent text lines accepted node h ∙ ap {B = Option TreeNode} some e
+
+    alike-leaf : (steps levels node model : ℕ) → node < length (nodesOf lines)
+        → nodeAt (nodesOf lines) node ≡ leaf model → Alike (suc steps) (suc levels) node
+    alike-leaf steps levels node model h e =
+        model-at-leaf lines context steps node model (line-says node (leaf model) h e)
+        ∙ rw (
+          walk-leaf (nodesOf lines) (book .classes) context levels node model e,
+          model-at (nodesOf lines) node model e,
+        )
+
+    alike-question : (steps levels node class position yesNode noNode : ℕ) → node < length (nodesOf lines)
+        → nodeAt (nodesOf lines) node ≡ question class position yesNode noNode
+        → Alike steps levels yesNode → Alike steps levels noNode → Alike (suc steps) (suc levels) node
+    alike-question steps levels node class position yesNode noNode h e yes-side no-side =
+        model-at-question lines context steps node class position yesNode noNode (line-says node _ h e)
+        ∙ rw (
+          walk-question (nodesOf lines) (book .classes) context levels node class position yesNode noNode e,
+          same-answer node class position yesNode noNode e,
+        )
+        (either-node (Alike steps levels) yesNode noNode yes-side no-side
+        (holdsAt (book .classes) class position context))
+
+    -- so enough steps of each end at the same model
+    walks-alike : (steps levels node : ℕ) → node < length (nodesOf lines)
+        → length (nodesOf lines) ≤ node + steps → length (nodesOf lines) ≤ node + levels
+        → Alike steps levels node
+    unfolding bookOf
+    walks-alike zero levels node h k l = absurd (omega arith)
+    walks-alike (suc steps) zero node h k l = absurd (omega arith)
+    walks-alike (suc steps) (suc levels) node h k l =
+        by-node (nodesOf lines) node (λ model e. alike-leaf steps levels node model h e)
+        (λ class position yesNode noNode e.
+        let (yesLater, noLater) = sound .forward node class position yesNode noNode e in
+        alike-question steps levels node class position yesNode noNode h e
+        (walks-alike steps levels yesNode (yesLater .listed) (omega (arith, yesLater .greater))
+        (omega (arith, yesLater .greater)))
+        (walks-alike steps levels noNode (noLater .listed) (omega (arith, noLater .greater))
+        (omega (arith, noLater .greater))))
+
+pub given-by-tables : (lent : Lent) (text : List ℕ) (lines : List BookLine)
+    → readBook lent text ≡ answered lines
+    → (context : List ℕ) (state : ℕ) → length context ≡ headerOf lines .half + headerOf lines .half + 1
+    → T (every (isPhone (headerOf lines .phones)) context) → 1 ≤ state → state ≤ headerOf lines .states
+    → modelGiven lines context state ≡ some (modelOf (bookOf lines) context state)
+unfolding modelGiven modelOf leafReached bookOf
+given-by-tables lent text lines accepted context state columns phones s S =
+    let half : ℕ = headerOf lines .half in
+    let phone = phone-at lent text lines accepted context columns phones half (omega arith) in
+    let root = accepted-root-line lent text lines accepted _ state (phone .0) (phone .1) s S in
+    let listed = accepted-sound lent text lines accepted .root (context ! half) state in
+    rw (root, modelGiven)
+    (walks-alike lent text lines accepted context columns phones (length lines) (length (nodesOf lines)) _
+    listed (omega (arith, enough-lines lines)) (omega arith))
