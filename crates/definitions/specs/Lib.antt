@@ -25,3 +25,4 @@ pub mod Program
 pub mod laws
 pub mod examples
 pub mod construction
+pub mod graph
