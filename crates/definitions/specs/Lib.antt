@@ -26,3 +26,4 @@ pub mod laws
 pub mod examples
 pub mod construction
 pub mod graph
+pub mod demand

@@ -1,0 +1,17 @@
+pub mod Windows
+pub mod Chains
+pub mod TreeWindows
+pub mod Trees
+pub mod Chosen
+pub mod Choices
+pub mod ChoicesAlong
+pub mod Network
+pub mod Passages
+pub mod Sentences
+pub mod Ways
+pub mod Meaning
+pub mod Alive
+pub mod ProperNetwork
+pub mod Main
+pub mod Assembly
+pub mod Demand

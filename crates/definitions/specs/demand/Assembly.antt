@@ -1,0 +1,74 @@
+-- The parts put together for an accepted text and a finished build: the build connects the combinations of
+-- the book of the lines, the arcs that are decoded from the arc buffer are those of the network, and what
+-- the contexts reach in the tables is what the trees give by the lines.
+use mathlib.Core.Path.{_≡_}
+use mathlib.Core.Logic.{_↔_, Iff·rfl, Iff·symm, Iff·trans, Iff·and}
+use mathlib.Core.List.{List}
+use mathlib.Core.Option.{some}
+use Prim.Native.Nat.{ℕ}
+use lib.Dec.{T}
+use Rattle.definitions.specs.declared.Header.{Header}
+use Rattle.definitions.specs.Faults.{Outcome, answered}
+use Rattle.definitions.specs.BookLines.{BookLine, headerOf}
+use Rattle.definitions.specs.BookReading.{Lent, readBook}
+use Rattle.definitions.specs.Tables.{Book, bookOf, Tables, tablesLeft, tablesBook}
+use Rattle.definitions.specs.Combinations.{Combination, combinations, combine}
+use Rattle.definitions.specs.Arcs.{arcsIn}
+use Rattle.definitions.specs.Connecting.{Network, Built, finished, connect}
+use Rattle.definitions.specs.Building.{Space, roomIn, build, networkIn, countsIn, buffersOf}
+use Rattle.definitions.specs.Building.{buffersLeft}
+use Rattle.definitions.specs.Paths.{Carries}
+use Rattle.definitions.specs.TreesGive.{silentEnds, treesGive}
+use Rattle.definitions.specs.laws.Records.{arcs-read}
+use Rattle.definitions.specs.laws.Judging.{judge-answered, andThen-answered}
+use Rattle.definitions.specs.laws.Books.{accepted-book}
+use Rattle.definitions.specs.laws.Accepted.{accepted-sound}
+use Rattle.definitions.specs.laws.ModelsAlong.{given-is}
+use Rattle.definitions.specs.demand.Network.{BuiltFrom}
+use Rattle.definitions.specs.demand.Main.{book-exactly}
+
+module _ (header : Header) (tables : Tables) (space : Space) where
+  -- the combinations that are connected are those of the book in the tables
+  combined : (found : List Combination) → combine header tables (space .combinations) ≡ answered found
+      → combinations (tablesBook header tables) ≡ found
+  unfolding combine
+  combined found e = let (passed, same) = judge-answered 0 _ _ found e in cc
+
+  build-connects : (limit : ℕ) (built : Built) → build header tables space limit ≡ answered built
+      → connect (tablesBook header tables) (combinations (tablesBook header tables)) (roomIn space) limit
+      ≡ answered built
+  unfolding build
+  build-connects limit built e =
+      let choices = combine header tables (space .combinations) in
+      let (found, combines, connects) = andThen-answered choices _ built e in
+      rw (combined found combines) connects
+
+-- the arcs decoded from the buffer that a finished build leaves
+pub arcs-decoded : (book : Book) (space : Space) (states turns : ℕ) (net : Network) (answer : Outcome Built)
+    → answer ≡ answered (finished turns net)
+    → arcsIn (countsIn states net .arcs) (buffersLeft book space answer .arcs) ≡ net .arcs
+unfolding countsIn buffersLeft buffersOf networkIn
+arcs-decoded book space states turns net answer e = rw e (arcs-read (space .arcs) (net .arcs))
+
+module _ (lent : Lent) (text : List ℕ) (lines : List BookLine) (accepted : readBook lent text ≡ answered lines)
+    (space : Space) (limit turns : ℕ) (net : Network)
+    (built : build (headerOf lines) (tablesLeft lent (readBook lent text)) space limit
+    ≡ answered (finished turns net))
+  where
+    -- the tables hold the book of the lines, which is sound
+    pub built-from : BuiltFrom (bookOf lines) net
+    built-from = record {
+      sound = accepted-sound lent text lines accepted;
+      room = roomIn space;
+      limit = limit;
+      turns = turns;
+      connects =
+          rw (accepted-book lent text lines accepted) at
+          (build-connects (headerOf lines) (tablesLeft lent (readBook lent text)) space limit _ built);
+    }
+
+    pub exactly-by-lines : (M S : List ℕ) → ((places : List ℕ) × Carries (net .arcs) places M S)
+        ↔ (T (silentEnds S) × (treesGive lines S ≡ some M))
+    exactly-by-lines M S =
+        Iff·trans (book-exactly (bookOf lines) net built-from M S)
+        (Iff·and Iff·rfl (Iff·symm (given-is lent text lines accepted S M)))

@@ -1,0 +1,134 @@
+-- Exactly one leaf of a tree admits a context, and it is the leaf that the walk with the context reaches.
+-- The idea: a question's two sides admit what its matrix admits with the answer yes, and with the answer no;
+-- so the leaves that admit the context are one where the node's matrix does, and none where it does not.
+-- The combinations of a book (demand/Choices.antt) take one leaf of each tree.
+use mathlib.Core.Path.{_≡_, refl, ap, _∙_}
+use mathlib.Core.List.{List, [], _∷_, _++_, map, map-append}
+use mathlib.Core.Bool.{Bool, true, false, not, _&&_}
+use Prim.Native.Nat.{ℕ, zero, suc, _+_, _-_, _≤_, _<_}
+use native.Mathlib.Omega.{arith}
+use lib.Dec.{T}
+use lib.ListN.{length, length-map}
+use Rattle.definitions.specs.Lists.{if_then_else_, _!_, select}
+use Rattle.definitions.specs.BookLines.{TreeNode, question}
+use Rattle.definitions.specs.Tables.{Book}
+use Rattle.definitions.specs.Lookup.{nodeAt, holdsAt, walk, leafReached}
+use Rattle.definitions.specs.PhoneSets.{has}
+use Rattle.definitions.specs.Matrices.{Matrix, yesSide, noSide}
+use Rattle.definitions.specs.Combinations.{Leaf, leavesBelow, leavesOf, rootOf}
+use Rattle.definitions.specs.laws.Tests.{if-true}
+use Rattle.definitions.specs.laws.Selected.{select-append}
+use Rattle.definitions.specs.laws.Walks.{walk-leaf, walk-question, by-node}
+use Rattle.definitions.specs.laws.Sound.{columnsOf, Sound}
+use Rattle.definitions.specs.laws.Matrices.{yes-length, no-length, root-length}
+use Rattle.definitions.specs.laws.Leaves.{below-leaf, below-question, phoneMatrix, select-ascending}
+use Rattle.definitions.specs.demand.Windows.{admits}
+use Rattle.definitions.specs.demand.TreeWindows.{admits-yes, admits-no}
+
+-- ---- the leaves that admit a context
+
+abbrev pub leafAdmits : (W : List ℕ) → Leaf → Bool
+leafAdmits W l = admits (l .matrix) W
+
+-- the nodes of the leaves that admit the context
+abbrev pub leavesAdmitting : (W : List ℕ) → List Leaf → List ℕ
+leavesAdmitting W leaves = map (λ l. l .node) (select (leafAdmits W) leaves)
+
+admitting-append : (W : List ℕ) (k l : List Leaf)
+    → leavesAdmitting W (k ++ l) ≡ leavesAdmitting W k ++ leavesAdmitting W l
+admitting-append W k l =
+    ap (map (λ l. l .node)) (select-append (leafAdmits W) k l)
+    ∙ map-append (λ l. l .node) (select (leafAdmits W) k) (select (leafAdmits W) l)
+
+-- one of the two answers, where a node is reached at all
+one-answer : (a b : Bool) (f : ℕ → ℕ) (y n : ℕ)
+    → (if a && b then f y ∷ [] else []) ++ (if a && not b then f n ∷ [] else [])
+    ≡ (if a then f (if b then y else n) ∷ [] else [])
+one-answer true true f y n = refl
+one-answer true false f y n = refl
+one-answer false b f y n = refl
+
+-- ---- one leaf of a tree
+
+module _ (book : Book) (sound : Sound book) (W : List ℕ) where
+  abbrev nodes : List TreeNode
+  nodes = book .nodes
+
+  -- the leaves below a node that admit the context: one where the node's matrix does
+  abbrev OneLeaf : (levels : ℕ) → Matrix → (node : ℕ) → Type 0
+  OneLeaf levels m node =
+      leavesAdmitting W (leavesBelow levels book m node)
+      ≡ (if admits m W then walk levels nodes (book .classes) W node ∷ [] else [])
+
+  -- the one leaf at a leaf
+  at-leaf : (m : Matrix) (node : ℕ)
+      → leavesAdmitting W (record { node = node; matrix = m } ∷ []) ≡ (if admits m W then node ∷ [] else [])
+  unfolding select
+  at-leaf m node = go (admits m W)
+    where
+      go : (b : Bool)
+          → map (λ (l : Leaf). l .node) (if b then record { node = node; matrix = m } ∷ [] else [])
+          ≡ (if b then node ∷ [] else [])
+      go true = refl
+      go false = refl
+
+  -- a question has one such leaf where its two sides have
+  at-question : (levels : ℕ) (m : Matrix) (node class position yesNode noNode : ℕ)
+      → length m ≡ columnsOf book
+      → nodeAt nodes node ≡ question class position yesNode noNode
+      → OneLeaf levels (yesSide position (book .classes ! (class - 1)) m) yesNode
+      → OneLeaf levels (noSide position (book .classes ! (class - 1)) m) noNode
+      → OneLeaf (suc levels) m node
+  unfolding holdsAt
+  at-question levels m node class position yesNode noNode w e onYes onNo =
+      rw (
+        below-question book levels m node class position yesNode noNode e,
+        admitting-append,
+        onYes,
+        onNo,
+        admits-yes position s m W here,
+        admits-no position s m W here,
+        walk-question nodes (book .classes) W levels node class position yesNode noNode e,
+      )
+      (one-answer (admits m W) (has (W ! position) s) (walk levels nodes (book .classes) W) yesNode noNode)
+    where
+      s : ℕ
+      s = book .classes ! (class - 1)
+
+      here : position < length m
+      here = omega (arith, sound .position node class position yesNode noNode e)
+
+  one-below : (levels : ℕ) (m : Matrix) (node : ℕ) → length m ≡ columnsOf book
+      → node < length nodes → length nodes ≤ node + levels → OneLeaf levels m node
+  one-below zero m node w h k = absurd (omega arith)
+  one-below (suc levels) m node w h k =
+      by-node nodes node
+      (λ model e.
+      rw (below-leaf book levels m node model e, walk-leaf nodes (book .classes) W levels node model e)
+      (at-leaf m node))
+      (λ class position yesNode noNode e.
+      let (yesLater, noLater) = sound .forward node class position yesNode noNode e in
+      at-question levels m node class position yesNode noNode w e
+      (one-below levels _ yesNode (yes-length position _ m ∙ w) (yesLater .listed)
+      (omega (arith, yesLater .greater)))
+      (one-below levels _ noNode (no-length position _ m ∙ w) (noLater .listed)
+      (omega (arith, noLater .greater))))
+
+  -- exactly one leaf of a tree admits a context that its root admits
+  pub one-leaf : (phone state : ℕ) → T (admits (phoneMatrix book phone) W)
+      → leavesAdmitting W (leavesOf book phone state)
+      ≡ leafReached nodes (book .classes) W (rootOf book phone state) ∷ []
+  unfolding leavesOf leafReached
+  one-leaf phone state h = ap (map (λ l. l .node)) (select-ascending (leafAdmits W) below few) ∙ one
+    where
+      below : List Leaf
+      below = leavesBelow (length nodes) book (phoneMatrix book phone) (rootOf book phone state)
+
+      one : leavesAdmitting W below ≡ leafReached nodes (book .classes) W (rootOf book phone state) ∷ []
+      one =
+          one-below (length nodes) (phoneMatrix book phone) (rootOf book phone state)
+          (root-length (book .half) (book .phones) phone) (sound .root phone state) (omega arith)
+          ∙ if-true (admits (phoneMatrix book phone) W) _ [] h
+
+      few : length (select (leafAdmits W) below) ≤ 1
+      few = omega (arith, ap length one, length-map (select (leafAdmits W) below) (λ l. l .node))

@@ -1,0 +1,191 @@
+-- The ways through a book's metastates, as lists of combination numbers: numbers make a way exactly when each
+-- combination admits its own window of the sequence of their phones with silence around it, and that sequence
+-- begins and ends with silence. The start's cut (law 5 of Windows) makes the left end silent, the end test the
+-- right end. demand/Meaning.antt finds the one way of each sequence by it.
+use mathlib.Core.Path.{_≡_, refl, sym, ap, ap₂, _∙_, subst}
+use mathlib.Core.Logic.{_↔_, Iff·trans, Iff·and}
+use mathlib.Core.List.{List, [], _∷_, _++_, append-assoc}
+use Prim.Native.Nat.{ℕ, suc, _+_, _-_, _≤_, _<_}
+use native.Mathlib.Omega.{arith}
+use lib.Dec.{T, eqb}
+use lib.ListN.{length, take, drop, replicate, length-map, take-append-drop}
+use lib.Seq.{drop-drop}
+use Rattle.definitions.specs.Lists.{_!_, every}
+use Rattle.definitions.specs.BookLines.{isPhone}
+use Rattle.definitions.specs.Tables.{Book}
+use Rattle.definitions.specs.Matrices.{startCut}
+use Rattle.definitions.specs.Combinations.{combinations}
+use Rattle.definitions.specs.Metastates.{Metastate}
+use Rattle.definitions.specs.TreesGive.{withSilence, silentEnds}
+use Rattle.definitions.specs.laws.Tests.{T-and, T-eqb}
+use Rattle.definitions.specs.laws.Lists.{every-cons}
+use Rattle.definitions.specs.laws.Sound.{AllPhones, Sound}
+use Rattle.definitions.specs.laws.Matrices.{start-length, start-below}
+use Rattle.definitions.specs.laws.Metastates.{metastates-equal, StartOf, start-is, may-end}
+use Rattle.definitions.specs.laws.Contexts.{around-length, around-left, around-right, around-phones}
+use Rattle.definitions.specs.graph.Graph.{Way}
+use Rattle.definitions.specs.demand.Windows.{admits, start-admits, admits-valid}
+use Rattle.definitions.specs.demand.Chains.{AdmitEach}
+use Rattle.definitions.specs.demand.Chosen.{combinationAt, chosen-at}
+use Rattle.definitions.specs.demand.Network.{graphOf}
+use Rattle.definitions.specs.demand.Passages.{numbersAlong, Listed, matricesOf, phonesOf, stepOf}
+use Rattle.definitions.specs.demand.Passages.{along, lastAlong, Passage, onward-passage}
+use Rattle.definitions.specs.demand.Passages.{passage-onward}
+use Rattle.definitions.specs.demand.Sentences.{Constructed, Sentence, sentence-all, passage-sentence}
+use Rattle.definitions.specs.demand.Sentences.{sentence-passage, centres, last-phone}
+
+module _ (book : Book) where
+  -- the metastate where a sentence starts with a combination, and the metastates of a sequence of numbers
+  abbrev pub startOf : (j : ℕ) → Metastate
+  startOf j = record { number = j; matrix = startCut (book .half) (combinationAt book j .matrix) }
+
+  unfoldable pub wayOf : List ℕ → List Metastate
+  wayOf [] = []
+  wayOf (j ∷ js) = startOf j ∷ along book (startOf j) js
+
+  along-numbers : (x : Metastate) (js : List ℕ) → numbersAlong (along book x js) ≡ js
+  unfolding along
+  along-numbers x [] = refl
+  along-numbers x (j ∷ js) = ap (λ (l : List ℕ). j ∷ l) (along-numbers (stepOf book x j) js)
+
+  pub wayOf-numbers : (js : List ℕ) → numbersAlong (wayOf js) ≡ js
+  unfolding wayOf
+  wayOf-numbers [] = refl
+  wayOf-numbers (j ∷ js) = ap (λ (l : List ℕ). j ∷ l) (along-numbers (startOf j) js)
+
+  -- each combination admits its window, and the phones begin and end with silence
+  pub record Admitted (js : List ℕ) : Type 0 where
+    pub listed : Listed book js
+    pub windows : AdmitEach (matricesOf book js) (withSilence (book .half) (phonesOf book js))
+    pub silent : T (silentEnds (phonesOf book js))
+
+module _ (book : Book) (sound : Sound book) where
+  -- ---- a start metastate: its combination's windows that begin with silence
+
+  start-windows : (x : Metastate) → StartOf book (combinations book) x → (Z : List ℕ)
+      → T (admits (x .matrix) Z)
+      ↔ (T (admits (combinationAt book (x .number) .matrix) Z)
+      × (take (book .half) Z ≡ replicate (book .half) 1))
+  start-windows x s Z =
+      let room : book .half ≤ length (combinationAt book (x .number) .matrix) =
+      omega (arith, chosen-at book sound (x .number) (s .listed) .width) in
+      rw (s .cut) (start-admits (book .half) (combinationAt book (x .number) .matrix) Z room)
+
+  pub constructed-start : (x : Metastate) → StartOf book (combinations book) x → Constructed book x
+  constructed-start x s =
+      let f = chosen-at book sound (x .number) (s .listed) in
+      record {
+        listed = s .listed;
+        width = ap length (s .cut) ∙ start-length (book .half) _ ∙ f .width;
+        below = rw (s .cut) (start-below (book .phones) (book .half) _ (f .below));
+        is-valid = s .is-valid;
+        inside = λ Z h. start-windows x s Z .0 h .0;
+      }
+
+  -- ---- from a way to windows
+
+  -- a sentence from a start is the sequence of its centres with silence around it
+  silent-around : (x : Metastate) (js Z : List ℕ) → StartOf book (combinations book) x → Listed book js
+      → Sentence book x js Z
+      → Z ≡ withSilence (book .half) (phonesOf book (x .number ∷ js))
+  unfolding withSilence
+  silent-around x js Z start l s =
+      let n : ℕ = book .half in
+      let count : ℕ = suc (length js) in
+      let left : take n Z ≡ replicate n 1 = start-windows x start Z .0 (s .first) .1 in
+      let all = sentence-all book x js Z (constructed-start x start) s in
+      let middle : take count (drop n Z) ≡ phonesOf book (x .number ∷ js) =
+      centres book sound (x .number ∷ js) Z (start .listed, l) all (omega (arith, s .long)) in
+      let place : n + count ≡ length js + (n + 1) = omega arith in
+      let right : drop count (drop n Z) ≡ replicate n 1 = drop-drop count n Z ∙ rw place (s .silence) in
+      sym (take-append-drop n Z)
+      ∙ ap₂ _++_ left (sym (take-append-drop count (drop n Z)) ∙ ap₂ _++_ middle right)
+      ∙ sym (append-assoc (replicate n 1) _ _)
+
+  -- the first phone and the last
+  ends-silent : (j : ℕ) (js : List ℕ) → T (silentEnds (phonesOf book (j ∷ js)))
+      ↔ ((combinationAt book j .phone ≡ 1) × (phonesOf book (j ∷ js) ! length js ≡ 1))
+  unfolding silentEnds
+  ends-silent j js =
+      let first : ℕ = combinationAt book j .phone in
+      let last : ℕ = phonesOf book (j ∷ js) ! length js in
+      let count : suc (length (phonesOf book js)) - 1 ≡ length js =
+      omega (arith, length-map js (λ i. combinationAt book i .phone)) in
+      rw count (Iff·trans (T-and (eqb first 1) (eqb last 1)) (Iff·and (T-eqb first 1) (T-eqb last 1)))
+
+  passage-admitted : (x : Metastate) (js : List ℕ) → StartOf book (combinations book) x
+      → Passage book x js → Admitted book (x .number ∷ js)
+  passage-admitted x js s p =
+      let k = constructed-start x s in
+      let (Z, sentence) = passage-sentence book sound x js k p in
+      let all = sentence-all book x js Z k sentence in
+      let around = silent-around x js Z s (p .listed) sentence in
+      let ends = may-end book (combinations book) (lastAlong book x js) .0 (p .ends) .0 in
+      record {
+        listed = (s .listed, p .listed);
+        windows = subst (AdmitEach (matricesOf book (x .number ∷ js))) around all;
+        silent = ends-silent (x .number) js .1 (s .silence, sym (last-phone book x js) ∙ ends);
+      }
+
+  pub way-admitted : (table ws : List Metastate) → Way (graphOf book table) ws
+      → (ws ≡ wayOf book (numbersAlong ws)) × Admitted book (numbersAlong ws)
+  unfolding wayOf
+  way-admitted table [] w = absurd w
+  way-admitted table (x ∷ us) (begin, onward) =
+      let s = start-is book (combinations book) x .0 begin in
+      let (same, passage) = onward-passage book table x us onward in
+      let js : List ℕ = numbersAlong us in
+      let e : x ≡ startOf book (x .number) = metastates-equal x (startOf book (x .number)) refl (s .cut) in
+      (ap₂ _∷_ e (same ∙ ap (λ z. along book z js) e), passage-admitted x js s passage)
+
+  -- ---- from windows to a way
+
+  -- where the combination admits the sequence with silence around it, a sentence may start
+  admitted-start : (j : ℕ) (Z : List ℕ) → j < length (combinations book) → combinationAt book j .phone ≡ 1
+      → T (admits (combinationAt book j .matrix) Z) → take (book .half) Z ≡ replicate (book .half) 1
+      → StartOf book (combinations book) (startOf book j) × T (admits (startOf book j .matrix) Z)
+  admitted-start j Z l phone h left =
+      let room : book .half ≤ length (combinationAt book j .matrix) =
+      omega (arith, chosen-at book sound j l .width) in
+      let cut = start-admits (book .half) (combinationAt book j .matrix) Z room .1 (h, left) in
+      (record { listed = l; silence = phone; cut = refl; is-valid = admits-valid _ Z cut }, cut)
+
+  -- all phones of listed combinations are phones of the book
+  pub listed-phones : (js : List ℕ) → Listed book js → AllPhones book (phonesOf book js)
+  unfolding every
+  listed-phones [] l = tt
+  listed-phones (j ∷ js) l =
+      every-cons (isPhone (book .phones)) (combinationAt book j .phone) (phonesOf book js) .1
+      (chosen-at book sound j (l .0) .phone-of, listed-phones js (l .1))
+
+  admitted-sentence : (j : ℕ) (js : List ℕ) → Admitted book (j ∷ js)
+      → T (admits (startOf book j .matrix) (withSilence (book .half) (phonesOf book (j ∷ js))))
+      → Sentence book (startOf book j) js (withSilence (book .half) (phonesOf book (j ∷ js)))
+  admitted-sentence j js a h =
+      let n : ℕ = book .half in
+      let S : List ℕ = phonesOf book (j ∷ js) in
+      let count : length S ≡ suc (length js) = ap suc (length-map js (λ i. combinationAt book i .phone)) in
+      let place : n + length S ≡ length js + (n + 1) = omega arith in
+      record {
+        phones-in =
+            around-phones n S (book .phones) (sound .some-phone) (listed-phones (j ∷ js) (a .listed));
+        long = around-length n S ∙ omega arith;
+        first = h;
+        others = a .windows .1;
+        silence = rw place at (around-right n S);
+      }
+
+  pub admitted-way : (table : List Metastate) (js : List ℕ) → Admitted book js
+      → Way (graphOf book table) (wayOf book js)
+  unfolding wayOf silentEnds
+  admitted-way table [] a = absurd (a .silent)
+  admitted-way table (j ∷ js) a =
+      let Z : List ℕ = withSilence (book .half) (phonesOf book (j ∷ js)) in
+      let left = around-left (book .half) (phonesOf book (j ∷ js)) in
+      let (first, last) = ends-silent j js .0 (a .silent) in
+      let (start, begins) = admitted-start j Z (a .listed .0) first (a .windows .0) left in
+      let k = constructed-start (startOf book j) start in
+      let sentence = admitted-sentence j js a begins in
+      let passage = sentence-passage book sound (startOf book j) js Z k (a .listed .1) sentence last in
+      let begin = start-is book (combinations book) (startOf book j) .1 start in
+      (begin, passage-onward book table (startOf book j) js passage)
