@@ -3,3 +3,4 @@ pub mod Example
 pub mod Starred
 pub mod Refusals
 pub mod Meaning
+pub mod Applied
