@@ -10,7 +10,8 @@ use Rattle.definitions.specs.Faults.{Outcome, answered, refuse, Test, _u
 use Rattle.definitions.specs.Lists.{if_then_else_, select, lastPasses, concatMap, upFrom, occurrences}
 use Rattle.definitions.specs.Forms.{bookForms}
 use Rattle.definitions.specs.Reading.{Kind, readText}
-use Rattle.definitions.specs.BookLines.{BookLine, H, Q, N, L, R, bookLine, headerIn, headerOf, rootCount}
+use Rattle.definitions.specs.BookLines.{BookLine, H, Q, N, L, R, bookLine, headerIn, headerOf}
+use Rattle.definitions.specs.BookLines.{rootCount}
 use Rattle.definitions.specs.BookLines.{Member, membersOf, TreeNode, nodesOf, rootsOf, childrenOf}
 
 -- 14 for the letter. "Order: one H; Q lines ..; one N or L per node ..; one R for every phone and state"
