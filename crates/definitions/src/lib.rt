@@ -81,3 +81,10 @@ pub fn number(fault: Fault) -> u32
         Fault::State => 42,
     }
 }
+
+// A 32-bit word as a place in a slice.
+pub fn wide(word: u32) -> usize
+    ensures { λ r. ⌜ r ≡ word ⌝ }
+{
+    word as usize
+}

@@ -95,11 +95,11 @@ enough-same = by-digits Same (λ n h e f k l. within-short e n h ∙ sym (within
     long n h ih (suc e) (suc f) k l =
         within-long e n h ∙ rw (ih e f (omega arith) (omega arith)) (sym (within-long f n h))
 
-numeral-short : (n : ℕ) → n < 10 → numeral n ≡ (48 + n) ∷ []
+pub numeral-short : (n : ℕ) → n < 10 → numeral n ≡ (48 + n) ∷ []
 unfolding numeral
 numeral-short n h = within-short n n h
 
-numeral-long : (n : ℕ) → 10 ≤ n → numeral n ≡ numeral (n / 10) ++ ((48 + n % 10) ∷ [])
+pub numeral-long : (n : ℕ) → 10 ≤ n → numeral n ≡ numeral (n / 10) ++ ((48 + n % 10) ∷ [])
 unfolding numeral
 numeral-long zero h = absurd (omega arith)
 numeral-long (suc m) h =

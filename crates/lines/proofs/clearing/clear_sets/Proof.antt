@@ -1,0 +1,52 @@
+-- `lines::clearing::clear_sets` meets its contract. Invariant: all before `i` is 0, the rest is as it came.
+use Prim.Native.Nat.{_-_}
+use lib.ListN.{length}
+use borrow.Author.Needs.{needs}
+use Rattle.lines.specs.laws.Filling.{Filled, fill-start, fill-turn, fill-end}
+use Rattle.lines.proofs.clearing.clear_sets.Statement.{statement}
+use Rattle.lines.proofs.clearing.clear_sets.Tie as tie
+
+abbrev Inv-loop : tie.InvT-loop
+Inv-loop sets₀ i₀ sets i = Filled 0 sets₀ i sets
+
+abbrev μ-loop : tie.MeasureT-loop
+μ-loop sets₀ i₀ sets i = length sets₀ - i
+
+loop-holds : tie.Need-loop-holds Inv-loop μ-loop
+loop-holds c = fill-start 0 _
+
+mul-sets : tie.Need-mul-sets Inv-loop μ-loop
+mul-sets c = search needs
+
+slice-write-sets : tie.Need-slice-write-sets Inv-loop μ-loop
+slice-write-sets c = search needs
+
+add-i : tie.Need-add-i Inv-loop μ-loop
+add-i c = search needs
+
+loop-less : tie.Need-loop-less Inv-loop μ-loop
+loop-less c = search needs
+
+loop-again : tie.Need-loop-again Inv-loop μ-loop
+loop-again c = fill-turn (c .before .loop .inv) (c .loop-test .taken)
+
+same-length : tie.Need-same-length Inv-loop μ-loop
+same-length c = search needs
+
+returns : tie.Need-returns Inv-loop μ-loop
+returns c = fill-end (c .before .loop .inv) (c .loop-test .left)
+
+pub clear-sets-spec : {M : Type 1} → statement M
+clear-sets-spec =
+    tie.close
+    (tie.spec
+    Inv-loop
+    μ-loop
+    loop-holds
+    mul-sets
+    slice-write-sets
+    add-i
+    loop-less
+    loop-again
+    same-length
+    returns)

@@ -1,0 +1,71 @@
+-- `lines::forms::place_of` meets its contract. Invariant: the letter is not before `place`.
+use mathlib.Core.Path.{_≡_, ap, sym, _∙_}
+use Prim.Native.Nat.{_-_, _≤_}
+use native.Mathlib.Omega.{arith}
+use borrow.Author.Needs.{needs}
+use Rattle.definitions.specs.Lines.{formOf}
+use Rattle.lines.specs.laws.Tables.{formsBetween, letter-found, letter-passed, letter-nowhere}
+use Rattle.lines.proofs.forms.place_of.Statement.{statement}
+use Rattle.lines.proofs.forms.place_of.Tie as tie
+
+abbrev Inv-loop : tie.InvT-loop
+Inv-loop letter end place₀ place =
+    (end ≤ 7) × (formOf (formsBetween place₀ end) letter ≡ formOf (formsBetween place end) letter)
+
+abbrev μ-loop : tie.MeasureT-loop
+μ-loop letter end place₀ place = end - place
+
+block-of-requires : tie.Need-block-of-requires Inv-loop μ-loop
+block-of-requires c κs = search needs
+
+loop-holds : tie.Need-loop-holds Inv-loop μ-loop
+loop-holds c = search needs
+
+array-read-if1 : tie.Need-array-read-if1 Inv-loop μ-loop
+array-read-if1 c = search needs
+
+returns : tie.Need-returns Inv-loop μ-loop
+returns c =
+    let a = c .before .before .before .before .args in
+    let tables = c .before .before .before .block-of .ensures .tables in
+    let inv = c .before .before .loop .inv in (
+      omega arith,
+      letter-found _ _ _ (c .before .loop-test .taken) (inv .0) (c .if1 .taken) ∙ sym (inv .1)
+          ∙ sym (ap (λ f. formOf f (a .letter)) tables),
+    )
+
+add-place : tie.Need-add-place Inv-loop μ-loop
+add-place c = search needs
+
+loop-less : tie.Need-loop-less Inv-loop μ-loop
+loop-less c = search needs
+
+loop-again : tie.Need-loop-again Inv-loop μ-loop
+loop-again c =
+    let inv = c .before .before .loop .inv in
+    (inv .0, inv .1 ∙ letter-passed _ _ _ (c .before .loop-test .taken) (inv .0) (c .if1 .left))
+
+returns-2 : tie.Need-returns-2 Inv-loop μ-loop
+returns-2 c =
+    let a = c .before .before .before .args in
+    let tables = c .before .before .block-of .ensures .tables in
+    let inv = c .before .loop .inv in (
+      omega arith,
+      letter-nowhere _ _ _ (c .loop-test .left) ∙ sym (inv .1)
+          ∙ sym (ap (λ f. formOf f (a .letter)) tables),
+    )
+
+pub place-of-spec : {M : Type 1} → statement M
+place-of-spec =
+    tie.close
+    (tie.spec
+    Inv-loop
+    μ-loop
+    block-of-requires
+    loop-holds
+    array-read-if1
+    returns
+    add-place
+    loop-less
+    loop-again
+    returns-2)

@@ -1,0 +1,5 @@
+pub mod Rows
+pub mod Places
+pub mod Entries
+pub mod Writing
+pub mod laws

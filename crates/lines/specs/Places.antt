@@ -1,0 +1,30 @@
+-- The tables of all letters in one list, as the code holds them: a place in it stands for a letter.
+use mathlib.Core.List.{List, [], _∷_, _++_}
+use mathlib.Core.Option.{Option, none, some}
+use Prim.Native.Nat.{ℕ, zero, suc}
+use lib.ListN.{getD}
+use Rattle.definitions.specs.Forms.{Range, Form, _‥_, bookForms, networkForms}
+
+-- the tables of all letters
+abbrev pub allForms : List Form
+allForms = bookForms ++ networkForms
+
+unfoldable pub formIn : List Form → (place : ℕ) → Option Form
+formIn [] place = none
+formIn (form ∷ forms) zero = some form
+formIn (form ∷ forms) (suc place) = formIn forms place
+
+-- the table of the letter at a place; none beyond them
+abbrev pub formAt : (place : ℕ) → Option Form
+formAt place = formIn allForms place
+
+unfoldable pub rangesOf : Option Form → List Range
+rangesOf none = []
+rangesOf (some form) = form .fields
+
+-- the ranges of its used fields
+abbrev pub rangesAt : (place : ℕ) → List Range
+rangesAt place = rangesOf (formAt place)
+
+abbrev pub rangeAt : (place field : ℕ) → Range
+rangeAt place field = getD (rangesAt place) field (0 ‥ 0)

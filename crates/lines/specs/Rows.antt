@@ -1,0 +1,49 @@
+-- What a row of the code means: the line of document 01 that it holds, and what the parser and the writer answer.
+use mathlib.Core.List.{List, [], _∷_, _++_}
+use mathlib.Core.Bool.{Bool, true, false, _&&_}
+use mathlib.Core.Option.{Option, none, some}
+use Prim.Native.Nat.{ℕ}
+use lib.Dec.{leb}
+use lib.ListN.{length, take, drop}
+use Rattle.definitions.specs.Lists.{if_then_else_, every, padded}
+use Rattle.definitions.specs.Forms.{Form, bookForms, networkForms}
+use Rattle.definitions.specs.Lines.{Line, lineText, Field, blank, malformed, number}
+use Rattle.lines.specs.declared.Letters.{Letters}
+use Rattle.lines.specs.declared.Letters.the-variants.{Book, Network}
+use Rattle.lines.specs.declared.Field as declared
+use Rattle.lines.specs.declared.Field.the-variants.{Blank, Malformed, Number}
+use Rattle.lines.specs.declared.Row.{Row}
+use Rattle.lines.specs.declared.Parsed.{Parsed}
+
+-- the tables of a kind of text
+abbrev pub formsOf : Letters → List Form
+formsOf Book = bookForms
+formsOf Network = networkForms
+
+-- a field as the code answers it, as a field of document 01
+unfoldable pub fieldIn : declared.Field → Field
+fieldIn Blank = blank
+fieldIn Malformed = malformed
+fieldIn (Number n) = number n
+
+-- the line that a row holds
+unfoldable pub lineIn : Row → Line
+lineIn row = record { letter = row .letter; numbers = take (row .used) (row .numbers) }
+
+-- a line as a row: five numbers, 0 in the fields that it does not use
+unfoldable pub rowOf : Line → Row
+rowOf line =
+    record { letter = line .letter; used = length (line .numbers); numbers = padded 5 (line .numbers) }
+
+-- what the parser answers
+unfoldable pub parsedOf : Option Line → Parsed
+parsedOf none = record { formed = false; row = rowOf (record { letter = 0; numbers = [] }) }
+parsedOf (some line) = record { formed = true; row = rowOf line }
+
+-- a line that has 32 bytes when it is written: five fields or fewer, each number of at most six digits
+unfoldable pub writable : Row → Bool
+writable row = leb (row .used) 5 && every (λ n. leb n 999999) (lineIn row .numbers)
+
+-- what writing leaves in a buffer: the line before the rest of it, or the buffer as it was
+unfoldable pub written : Row → List ℕ → List ℕ
+written row bytes = lineText (lineIn row) ++ drop 32 bytes

@@ -1,0 +1,9 @@
+pub mod Filling
+pub mod Tables
+pub mod Fields
+pub mod Ranges
+pub mod Parsing
+pub mod Rows
+pub mod Texts
+pub mod Writing
+pub mod WrittenLines

@@ -1,0 +1,34 @@
+// Lent buffers set to 0: "every word of every output buffer 0".
+ghost use mathlib.Core.Path.{_≡_};
+ghost use lib.ListN.{length};
+ghost use Rattle.definitions.specs.Lists.{cleared};
+
+pub fn clear_bytes(bytes: &mut [u8])
+    ensures { λ r. ⌜ now (bytes .exit) ≡ cleared (length (now (bytes .entry))) ⌝ }
+{
+    let mut i = 0;
+    while i < bytes.len() {
+        bytes[i] = 0;
+        i += 1;
+    }
+}
+
+pub fn clear_words(words: &mut [u32])
+    ensures { λ r. ⌜ now (words .exit) ≡ cleared (length (now (words .entry))) ⌝ }
+{
+    let mut i = 0;
+    while i < words.len() {
+        words[i] = 0;
+        i += 1;
+    }
+}
+
+pub fn clear_sets(sets: &mut [u64])
+    ensures { λ r. ⌜ now (sets .exit) ≡ cleared (length (now (sets .entry))) ⌝ }
+{
+    let mut i = 0;
+    while i < sets.len() {
+        sets[i] = 0;
+        i += 1;
+    }
+}

@@ -1,0 +1,35 @@
+// The line of 32 bytes that tree books and network text share: read by the table of its letter, and written; and the
+// clearing of lent buffers.
+pub mod clearing;
+mod fields;
+mod forms;
+pub mod parsing;
+pub mod ranges;
+pub mod texts;
+pub mod writing;
+
+// The letters that a kind of text has.
+pub enum Letters {
+    Book,
+    Network,
+}
+
+// A line's letter and the numbers in its used fields, which come first; the other numbers are 0.
+pub struct Row {
+    pub letter: u8,
+    pub used: usize,
+    pub numbers: [u32; 5],
+}
+
+// A row, where the line is well formed; else it is fault 12, and the row is all 0.
+pub struct Parsed {
+    pub formed: bool,
+    pub row: Row,
+}
+
+// One field of six bytes.
+enum Field {
+    Blank,
+    Malformed,
+    Number(u32),
+}
