@@ -10,87 +10,86 @@ ghost use Rattle.lines.specs.Places.{formAt, rangesAt, rangeAt};
 ghost use Rattle.lines.specs.Rows.{formsOf};
 ghost use Rattle.lines.specs.laws.Tables.{Placed};
 
+// The fixed range of a field: lowest and highest.
+struct Range(u32, u32);
+
+const UNUSED: Range = Range(0, 0);
+
+// A letter, how many fields it uses, and their ranges, which come first.
+struct Form {
+    letter: u8,
+    used: usize,
+    ranges: [Range; 5],
+}
+
 // The letters of a tree book, then those of network text.
-const LETTERS: [u8; 7] = [b'H', b'Q', b'N', b'L', b'R', b'W', b'A'];
-
-// How many fields a letter uses; they come first.
-const USED: [usize; 7] = [5, 2, 5, 2, 3, 3, 4];
-
-// Five entries a letter, 0 for the fields that it does not use.
-const LOWEST: [u32; 35] = [
-    0,
-    1,
-    1,
-    0,
-    1,
-    1,
-    1,
-    0,
-    0,
-    0,
-    0,
-    1,
-    0,
-    0,
-    0,
-    0,
-    1,
-    0,
-    0,
-    0,
-    1,
-    1,
-    0,
-    0,
-    0,
-    1,
-    1,
-    1,
-    0,
-    0,
-    0,
-    0,
-    0,
-    0,
-    0,
-];
-
-const HIGHEST: [u32; 35] = [
-    3,
-    3,
-    64,
-    255,
-    4096,
-    255,
-    64,
-    0,
-    0,
-    0,
-    4095,
-    255,
-    6,
-    4095,
-    4095,
-    4095,
-    65535,
-    0,
-    0,
-    0,
-    64,
-    3,
-    4095,
-    0,
-    0,
-    3,
-    65535,
-    999999,
-    0,
-    0,
-    196606,
-    196606,
-    65535,
-    64,
-    0,
+const FORMS: [Form; 7] = [
+    // half-width, states per phone, phones, classes, nodes
+    Form {
+        letter: b'H',
+        used: 5,
+        ranges: [
+            Range(0, 3),
+            Range(1, 3),
+            Range(1, 64),
+            Range(0, 255),
+            Range(1, 4096),
+        ],
+    },
+    // class, phone
+    Form {
+        letter: b'Q',
+        used: 2,
+        ranges: [Range(1, 255), Range(1, 64), UNUSED, UNUSED, UNUSED],
+    },
+    // node, class, position, yes node, no node
+    Form {
+        letter: b'N',
+        used: 5,
+        ranges: [
+            Range(0, 4095),
+            Range(1, 255),
+            Range(0, 6),
+            Range(0, 4095),
+            Range(0, 4095),
+        ],
+    },
+    // node, model
+    Form {
+        letter: b'L',
+        used: 2,
+        ranges: [Range(0, 4095), Range(1, 65535), UNUSED, UNUSED, UNUSED],
+    },
+    // phone, state, root node
+    Form {
+        letter: b'R',
+        used: 3,
+        ranges: [Range(1, 64), Range(1, 3), Range(0, 4095), UNUSED, UNUSED],
+    },
+    // states per phone, metastates, arcs
+    Form {
+        letter: b'W',
+        used: 3,
+        ranges: [
+            Range(1, 3),
+            Range(1, 65535),
+            Range(1, 999999),
+            UNUSED,
+            UNUSED,
+        ],
+    },
+    // from, to, model, phone
+    Form {
+        letter: b'A',
+        used: 4,
+        ranges: [
+            Range(0, 196606),
+            Range(0, 196606),
+            Range(0, 65535),
+            Range(0, 64),
+            UNUSED,
+        ],
+    },
 ];
 
 // Where the letters of a kind of text begin and end among all letters.
@@ -117,7 +116,8 @@ pub fn place_of(letters: Letters, letter: u8) -> usize
     let end = block.end;
     let mut place = block.from;
     while place < end {
-        if LETTERS[place] == letter {
+        let form = FORMS[place];
+        if form.letter == letter {
             return place;
         }
         place += 1;
@@ -130,7 +130,8 @@ pub fn used_at(place: usize) -> usize
     requires { ⌜ place < 7 ⌝ }
     ensures { λ r. ⌜ r ≡ length (rangesAt place) ⌝ }
 {
-    USED[place]
+    let form = FORMS[place];
+    form.used
 }
 
 // Whether a number lies in the fixed range of a used field of the letter at a place.
@@ -138,9 +139,10 @@ pub fn in_range(place: usize, field: usize, n: u32) -> bool
     requires { ⌜ (place < 7) × (field < length (rangesAt place)) ⌝ }
     ensures { λ r. ⌜ r ≡ (leb (rangeAt place field .lowest) n && leb n (rangeAt place field .highest)) ⌝ }
 {
-    let at = place * 5 + field;
-    if n < LOWEST[at] {
+    let form = FORMS[place];
+    let range = form.ranges[field];
+    if n < range.0 {
         return false;
     }
-    n <= HIGHEST[at]
+    n <= range.1
 }

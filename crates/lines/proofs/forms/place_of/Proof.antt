@@ -21,16 +21,20 @@ block-of-requires c κs = search needs
 loop-holds : tie.Need-loop-holds Inv-loop μ-loop
 loop-holds c = search needs
 
-array-read-if1 : tie.Need-array-read-if1 Inv-loop μ-loop
-array-read-if1 c = search needs
+mul-form : tie.Need-mul-form Inv-loop μ-loop
+mul-form c = search needs
+
+array-copy-out-form : tie.Need-array-copy-out-form Inv-loop μ-loop
+array-copy-out-form c = search needs
 
 returns : tie.Need-returns Inv-loop μ-loop
 returns c =
-    let a = c .before .before .before .before .args in
-    let tables = c .before .before .before .block-of .ensures .tables in
-    let inv = c .before .before .loop .inv in (
+    let turn = c .before .before .before in
+    let a = turn .before .before .before .args in
+    let tables = turn .before .before .block-of .ensures .tables in
+    let inv = turn .before .loop .inv in (
       omega arith,
-      letter-found _ _ _ (c .before .loop-test .taken) (inv .0) (c .if1 .taken) ∙ sym (inv .1)
+      letter-found _ _ _ (turn .loop-test .taken) (inv .0) (c .if1 .taken) ∙ sym (inv .1)
           ∙ sym (ap (λ f. formOf f (a .letter)) tables),
     )
 
@@ -42,8 +46,9 @@ loop-less c = search needs
 
 loop-again : tie.Need-loop-again Inv-loop μ-loop
 loop-again c =
-    let inv = c .before .before .loop .inv in
-    (inv .0, inv .1 ∙ letter-passed _ _ _ (c .before .loop-test .taken) (inv .0) (c .if1 .left))
+    let turn = c .before .before .before in
+    let inv = turn .before .loop .inv in
+    (inv .0, inv .1 ∙ letter-passed _ _ _ (turn .loop-test .taken) (inv .0) (c .if1 .left))
 
 returns-2 : tie.Need-returns-2 Inv-loop μ-loop
 returns-2 c =
@@ -63,7 +68,8 @@ place-of-spec =
     μ-loop
     block-of-requires
     loop-holds
-    array-read-if1
+    mul-form
+    array-copy-out-form
     returns
     add-place
     loop-less

@@ -1,0 +1,62 @@
+-- `known::root_table_known` meets its contract. The header's ranges keep the number of roots small.
+-- Assumes nothing.
+use mathlib.Core.Path.{sym, _∙_}
+use native.Mathlib.Omega.{arith}
+use borrow.Author.Needs.{needs}
+use Rattle.tables.specs.laws.Known.{failed, held}
+use Rattle.tables.specs.laws.TablesKnown.{holds-taken, root-count, roots-few, roots-refused}
+use Rattle.tables.specs.laws.TablesKnown.{roots-judged}
+use Rattle.tables.proofs.known.root_table_known.Statement.{statement}
+use Rattle.tables.proofs.known.root_table_known.Tie as tie
+
+wide-requires : tie.Need-wide-requires
+wide-requires c κs = search needs
+
+wide-requires-2 : tie.Need-wide-requires-2
+wide-requires-2 c κs = search needs
+
+mul-roots : tie.Need-mul-roots
+mul-roots c =
+    let start = c .before .before .before in
+    let count = root-count (start .args .header) (c .before .wide .ensures) (c .wide2 .ensures) in
+    let few = roots-few (start .args .header) (start .pre) in
+    record { fits = omega (arith, count, few) }
+
+holds-only-requires : tie.Need-holds-only-requires
+holds-only-requires c κs = search needs
+
+returns : tie.Need-returns
+returns c =
+    let called = c .before in
+    let second = called .before in
+    roots-refused _ _ (root-count _ (second .before .wide .ensures) (second .wide2 .ensures))
+    (failed (called .holds-only .ensures) (c .if1 .taken))
+
+slice-aggregate-all-below : tie.Need-slice-aggregate-all-below
+slice-aggregate-all-below c =
+    let passed = c .before in
+    holds-taken _ _ (held (passed .before .holds-only .ensures) (passed .if1 .left))
+
+all-below-requires : tie.Need-all-below-requires
+all-below-requires c κs = search needs
+
+returns-2 : tie.Need-returns-2
+returns-2 c =
+    let passed = c .before .before in
+    let second = passed .before .before in
+    c .all-below .ensures
+    ∙ sym (roots-judged _ _ (root-count _ (second .before .wide .ensures) (second .wide2 .ensures))
+    (held (passed .before .holds-only .ensures) (passed .if1 .left)))
+
+pub root-table-known-spec : {M : Type 1} → statement M
+root-table-known-spec =
+    tie.close
+    (tie.spec
+    wide-requires
+    wide-requires-2
+    mul-roots
+    holds-only-requires
+    returns
+    slice-aggregate-all-below
+    all-below-requires
+    returns-2)

@@ -1,0 +1,6 @@
+pub mod Records
+pub mod Naming
+pub mod Known
+pub mod TablesKnown
+pub mod NamingTables
+pub mod Foreign

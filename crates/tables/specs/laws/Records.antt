@@ -1,0 +1,56 @@
+-- Laws about the records of nodes: the words of each in the table of nodes, and the records from a node on.
+use mathlib.Core.Path.{_≡_}
+use mathlib.Core.List.{List, [], _∷_, map}
+use Prim.Native.Nat.{ℕ, suc, _+_, _-_, _*_, _≤_, _<_}
+use native.Mathlib.Nat.{add-zero, sub-zero}
+use native.Mathlib.Omega.{arith}
+use lib.Dec.{lit<}
+use lib.ListN.{take, drop}
+use lib.Seq.{getD-take, getD-drop, drop-drop}
+use Rattle.definitions.specs.declared.Header.{Header}
+use Rattle.definitions.specs.declared.Node.{Node}
+use Rattle.definitions.specs.Lists.{_!_, records}
+use Rattle.definitions.specs.BookReading.{nodeSize}
+use Rattle.definitions.specs.Tables.{nodeOf, nodeRecords}
+
+-- five words from a place on are a record
+pub record-at : (words : List ℕ) (at : ℕ) {kind value position yesNode noNode : ℕ}
+    → kind ≡ words ! at → value ≡ words ! (at + 1) → position ≡ words ! (at + 2)
+    → yesNode ≡ words ! (at + 3) → noNode ≡ words ! (at + 4)
+    → record { kind = kind; value = value; position = position; yes = yesNode; no = noNode }
+    ≡ nodeOf (drop at words)
+unfolding nodeOf
+record-at words at a b c d e = rw (a, b, c, d, e) (simp (getD-drop, add-zero))
+
+-- more words after its own change no record
+node-of-first : (words : List ℕ) → nodeOf (take nodeSize words) ≡ nodeOf words
+unfolding nodeOf
+node-of-first words =
+    rw (
+      getD-take nodeSize words 0 0 (lit< tt),
+      getD-take nodeSize words 1 0 (lit< tt),
+      getD-take nodeSize words 2 0 (lit< tt),
+      getD-take nodeSize words 3 0 (lit< tt),
+      getD-take nodeSize words 4 0 (lit< tt),
+    )
+
+-- the records from a node on
+abbrev pub recordsFrom : (nodes at : ℕ) → (words : List ℕ) → List Node
+recordsFrom nodes at words = map nodeOf (records nodeSize (nodes - at) (drop (nodeSize * at) words))
+
+pub records-start : (header : Header) (words : List ℕ)
+    → nodeRecords header words ≡ recordsFrom (header .nodes) 0 words
+unfolding nodeRecords
+records-start header words = rw sub-zero
+
+pub records-next : (nodes at : ℕ) (words : List ℕ) → at < nodes
+    → recordsFrom nodes at words ≡ nodeOf (drop (nodeSize * at) words) ∷ recordsFrom nodes (at + 1) words
+unfolding records
+records-next nodes at words h =
+    let left : nodes - at ≡ suc (nodes - (at + 1)) = omega arith in
+    let place : nodeSize * at + nodeSize ≡ nodeSize * (at + 1) = omega arith in
+    rw (left, drop-drop nodeSize (nodeSize * at) words, place, node-of-first (drop (nodeSize * at) words))
+
+pub records-end : (nodes at : ℕ) (words : List ℕ) → nodes ≤ at → recordsFrom nodes at words ≡ []
+unfolding records
+records-end nodes at words h = let left : nodes - at ≡ 0 = omega arith in rw left

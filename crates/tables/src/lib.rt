@@ -1,0 +1,6 @@
+// The tables that reading leaves, as other entries are lent them: their records, how often nodes are named,
+// and the test for foreign tables (18).
+pub mod foreign;
+mod known;
+pub mod naming;
+pub mod records;
