@@ -1,11 +1,11 @@
 -- What a row of the code means: the line of document 01 that it holds, and what the parser and the writer answer.
-use mathlib.Core.List.{List, [], _∷_, _++_}
+use mathlib.Core.List.{List, [], _++_}
 use mathlib.Core.Bool.{Bool, true, false, _&&_}
 use mathlib.Core.Option.{Option, none, some}
 use Prim.Native.Nat.{ℕ}
 use lib.Dec.{leb}
 use lib.ListN.{length, take, drop}
-use Rattle.definitions.specs.Lists.{if_then_else_, every, padded}
+use Rattle.definitions.specs.Lists.{every, padded}
 use Rattle.definitions.specs.Forms.{Form, bookForms, networkForms}
 use Rattle.definitions.specs.Lines.{Line, lineText, Field, blank, malformed, number}
 use Rattle.lines.specs.declared.Letters.{Letters}

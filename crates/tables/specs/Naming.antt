@@ -5,7 +5,6 @@ use Prim.Native.Nat.{ℕ, suc}
 use lib.Dec.{ltb, eqb}
 use lib.ListN.{length, set}
 use Rattle.definitions.specs.Lists.{if_then_else_, _!_, upFrom, occurrences}
-use Rattle.definitions.specs.Tables.{Tables}
 
 -- how often each of the nodes 0, 1, .. is named in a list of names
 unfoldable pub countsOf : (nodes : ℕ) → (names : List ℕ) → List ℕ
@@ -27,7 +26,3 @@ namedAll counts (node ∷ names) = namedAll (namedAgain counts node) names
 unfoldable pub firstMisnamed : (counts : List ℕ) → ℕ
 firstMisnamed [] = 0
 firstMisnamed (count ∷ counts) = if eqb count 1 then suc (firstMisnamed counts) else 0
-
--- three lent slices as tables
-abbrev pub lentTables : (nodes classes roots : List ℕ) → Tables
-lentTables nodes classes roots = record { nodes = nodes; classes = classes; roots = roots }

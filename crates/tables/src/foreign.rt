@@ -21,7 +21,8 @@ ghost use Rattle.definitions.specs.ForeignTables.{namedOnce, tablesKnown};
 ghost use Rattle.definitions.specs.Lists.{concatMap};
 ghost use Rattle.definitions.specs.Lookup.{lookupKnown};
 ghost use Rattle.definitions.specs.Tables.{nodeRecords, tablesBook, treeNode};
-ghost use Rattle.tables.specs.Naming.{lentTables, namedAll};
+ghost use Rattle.tables.specs.Lending.{lentTables};
+ghost use Rattle.tables.specs.Naming.{namedAll};
 
 // Counts the children that a record names.
 fn name_children(counts: &mut [u32], node: Node)

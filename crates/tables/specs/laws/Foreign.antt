@@ -14,7 +14,7 @@ use Rattle.definitions.specs.ForeignTables.{headerKnown, nodesKnown, holdsOnly,
 use Rattle.definitions.specs.ForeignTables.{classTableKnown, rootTableKnown, namedOnce, tablesKnown}
 use Rattle.definitions.specs.Lookup.{lookupKnown}
 use Rattle.definitions.specs.laws.Records.{records-length}
-use Rattle.tables.specs.Naming.{lentTables}
+use Rattle.tables.specs.Lending.{lentTables}
 
 module _ (header : Header) (nodes classes roots : List ℕ) where
   pub tables-header : headerKnown header ≡ false → false ≡ tablesKnown header (lentTables nodes classes roots)

@@ -17,7 +17,8 @@ use Rattle.definitions.specs.BookReading.{nodeSize}
 use Rattle.definitions.specs.Tables.{nodeOf, treeNode, nodeRecords, tablesBook}
 use Rattle.definitions.specs.ForeignTables.{headerKnown, namedOnce}
 use Rattle.definitions.specs.laws.Records.{records-length}
-use Rattle.tables.specs.Naming.{countsOf, namedAgain, namedAll, firstMisnamed, lentTables}
+use Rattle.tables.specs.Lending.{lentTables}
+use Rattle.tables.specs.Naming.{countsOf, namedAgain, namedAll, firstMisnamed}
 use Rattle.tables.specs.laws.Records.{recordsFrom, records-start, records-next, records-end}
 use Rattle.tables.specs.laws.Known.{header-ranges}
 use Rattle.tables.specs.laws.TablesKnown.{roots-few}

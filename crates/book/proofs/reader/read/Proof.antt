@@ -1,0 +1,75 @@
+use borrow.Author.Needs.{needs}
+use Rattle.book.specs.laws.Answering.{tables-clear, accepted-returns, refused-returns}
+use Rattle.book.proofs.reader.read.Statement.{statement}
+use Rattle.book.proofs.reader.read.Tie as tie
+
+clear-tables-requires : tie.Need-clear-tables-requires
+clear-tables-requires c κs = search needs
+
+read-lines-requires : tie.Need-read-lines-requires
+read-lines-requires c κs =
+    let cleared = c .before .before .before .before .before .before .before .before .before .clear-tables .ensures in
+    tables-clear cleared
+
+enum-known-answer : tie.Need-enum-known-answer
+enum-known-answer c = search needs
+
+same-length : tie.Need-same-length
+same-length c = search needs
+
+same-length-2 : tie.Need-same-length-2
+same-length-2 c = search needs
+
+same-length-3 : tie.Need-same-length-3
+same-length-3 c = search needs
+
+returns : tie.Need-returns
+returns c =
+    let read = c .before .before .before .before .before .before .before .before .before in
+    let cleared = read .before .before .before .before .before .before .before .before .before .before .clear-tables .ensures in
+    accepted-returns cleared
+    (read .read-lines .ensures .0) (read .read-lines .ensures .1) _ (c .before .answer .given .1)
+
+enum-known-answer-2 : tie.Need-enum-known-answer-2
+enum-known-answer-2 c = search needs
+
+clear-tables-requires-2 : tie.Need-clear-tables-requires-2
+clear-tables-requires-2 c κs = search needs
+
+same-length-4 : tie.Need-same-length-4
+same-length-4 c = search needs
+
+same-length-5 : tie.Need-same-length-5
+same-length-5 c = search needs
+
+same-length-6 : tie.Need-same-length-6
+same-length-6 c = search needs
+
+returns-2 : tie.Need-returns-2
+returns-2 c =
+    let again = c .before .before .before .before .before .before in
+    let read = again .before .before .before .before .before .before .before .before .before .before .before .before .before in
+    let cleared = read .before .before .before .before .before .before .before .before .before .before .clear-tables .ensures in
+    let last = again .clear-tables2 .ensures in
+    refused-returns cleared
+    (read .read-lines .ensures .0) (read .read-lines .ensures .1) _
+    (again .before .before .before .before .before .answer2 .given .1)
+    last
+
+pub read-spec : {M : Type 1} → statement M
+read-spec =
+    tie.close
+    (tie.spec
+    clear-tables-requires
+    read-lines-requires
+    enum-known-answer
+    same-length
+    same-length-2
+    same-length-3
+    returns
+    enum-known-answer-2
+    clear-tables-requires-2
+    same-length-4
+    same-length-5
+    same-length-6
+    returns-2)

@@ -1,0 +1,151 @@
+use Prim.Native.Nat.{_-_, _/_, _≤_}
+use mathlib.Core.Path.{_≡_, refl}
+use native.Mathlib.Omega.{arith}
+use lib.ListN.{length}
+use borrow.Author.Needs.{needs}
+use Rattle.tables.specs.Lending.{lengthsOf}
+use Rattle.book.specs.laws.Reading.{Turn, first-turn, next-bytes, turn-ready, turn-next}
+use Rattle.book.specs.laws.Reading.{torn-returns, stop-returns, end-returns, turn-endable, turn-lengths}
+use Rattle.tables.specs.laws.Known.{failed, held}
+use Rattle.book.proofs.reader.read_lines.Statement.{statement}
+use Rattle.book.proofs.reader.read_lines.Tie as tie
+
+abbrev Inv-loop : tie.InvT-loop
+Inv-loop text nodes₀ classes₀ roots₀ counts₀ state₀ i₀ nodes classes roots counts state i =
+    (length nodes ≡ length nodes₀) × (length classes ≡ length classes₀) × (length roots ≡ length roots₀)
+    × (length counts ≡ 4096) × (i ≤ length text / 32)
+    × Turn (lengthsOf nodes₀ classes₀ roots₀) text i state nodes classes roots counts
+
+abbrev μ-loop : tie.MeasureT-loop
+μ-loop text nodes₀ classes₀ roots₀ counts₀ state₀ i₀ nodes classes roots counts state i = length text / 32 - i
+
+whole-lines-requires : tie.Need-whole-lines-requires Inv-loop μ-loop
+whole-lines-requires c κs = search needs
+
+returns : tie.Need-returns Inv-loop μ-loop
+returns c = torn-returns _ _ _ _ (failed (c .before .whole-lines .ensures) (c .if1 .taken))
+
+no-lines-requires : tie.Need-no-lines-requires Inv-loop μ-loop
+no-lines-requires c κs = search needs
+
+loop-holds : tie.Need-loop-holds Inv-loop μ-loop
+loop-holds c =
+    let whole = held (c .before .before .whole-lines .ensures) (c .before .if1 .left) in
+    (refl, refl, refl, refl, omega arith, first-turn _ _ _ _ _ whole (c .no-lines .ensures) (c .before .before .before .before .before .before .before .pre))
+
+mul-from : tie.Need-mul-from Inv-loop μ-loop
+mul-from c = search needs
+
+add-end : tie.Need-add-end Inv-loop μ-loop
+add-end c = search needs
+
+sub-take-line : tie.Need-sub-take-line Inv-loop μ-loop
+sub-take-line c = search needs
+
+part-take-line-start : tie.Need-part-take-line-start Inv-loop μ-loop
+part-take-line-start c = search needs
+
+part-take-line-end : tie.Need-part-take-line-end Inv-loop μ-loop
+part-take-line-end c = search needs
+
+slice-aggregate-take-line : tie.Need-slice-aggregate-take-line Inv-loop μ-loop
+slice-aggregate-take-line c = search needs
+
+take-line-requires : tie.Need-take-line-requires Inv-loop μ-loop
+take-line-requires c κs =
+    let at = c .before .before .before .before .before .before .loop in
+    turn-ready (at .inv .5) _ (next-bytes _ (at .i)) (c .before .before .before .before .before .loop-test .taken) (omega arith)
+
+enum-known-step : tie.Need-enum-known-step Inv-loop μ-loop
+enum-known-step c = search needs
+
+enum-known-step-2 : tie.Need-enum-known-step-2 Inv-loop μ-loop
+enum-known-step-2 c = search needs
+
+add-t31 : tie.Need-add-t31 Inv-loop μ-loop
+add-t31 c = search needs
+
+same-length : tie.Need-same-length Inv-loop μ-loop
+same-length c = search needs
+
+same-length-2 : tie.Need-same-length-2 Inv-loop μ-loop
+same-length-2 c = search needs
+
+same-length-3 : tie.Need-same-length-3 Inv-loop μ-loop
+same-length-3 c = search needs
+
+returns-2 : tie.Need-returns-2 Inv-loop μ-loop
+returns-2 c =
+    let taken = c .before .before .before .before .before .before .before .before .before .before .take-line .ensures in
+    let inside = c .before .before .before .before .before .before .before .before .before .before .before .before .before .before .before .before in
+    let at = inside .before .loop in
+    stop-returns (at .inv .5) _ _ _ _ _ _ (next-bytes _ (at .i)) (inside .loop-test .taken) (taken .0)
+    (c .before .step2 .given .1) (taken .1 .0) (taken .1 .1 .0) (taken .1 .1 .1 .0)
+
+add-i : tie.Need-add-i Inv-loop μ-loop
+add-i c = omega (arith, c .before .before .before .before .before .before .before .before .before .before .before .before .before .before .before .before .loop-test .taken, c .before .before .before .before .before .before .before .before .before .before .before .before .before .before .before .before .before .before .before .before .before .before .before .before .before .good)
+
+loop-less : tie.Need-loop-less Inv-loop μ-loop
+loop-less c = search needs
+
+loop-again : tie.Need-loop-again Inv-loop μ-loop
+loop-again c =
+    let taken = c .before .before .before .before .before .before .before .before .before .before .take-line .ensures in
+    let inside = c .before .before .before .before .before .before .before .before .before .before .before .before .before .before .before .before in
+    let at = inside .before .loop in
+    let turn = turn-next (at .inv .5) _ _ _ _ _ _ _ (next-bytes _ (at .i)) (inside .loop-test .taken) (taken .0)
+    (c .before .step .given .1) (taken .1 .0) (taken .1 .1 .0) (taken .1 .1 .1 .0) (taken .1 .1 .1 .1) in
+    let (nodes, classes, roots, counts) = turn-lengths turn in
+    (nodes, classes, roots, counts, turn .taking .within, turn)
+
+slice-aggregate-finish : tie.Need-slice-aggregate-finish Inv-loop μ-loop
+slice-aggregate-finish c = search needs
+
+finish-requires : tie.Need-finish-requires Inv-loop μ-loop
+finish-requires c κs = turn-endable (c .before .before .loop .inv .5) (omega arith)
+
+same-length-4 : tie.Need-same-length-4 Inv-loop μ-loop
+same-length-4 c = search needs
+
+same-length-5 : tie.Need-same-length-5 Inv-loop μ-loop
+same-length-5 c = search needs
+
+same-length-6 : tie.Need-same-length-6 Inv-loop μ-loop
+same-length-6 c = search needs
+
+returns-3 : tie.Need-returns-3 Inv-loop μ-loop
+returns-3 c = end-returns (c .before .before .before .loop .inv .5) _ (c .before .before .loop-test .left) (c .finish .ensures)
+
+pub read-lines-spec : {M : Type 1} → statement M
+read-lines-spec =
+    tie.close
+    (tie.spec
+    Inv-loop
+    μ-loop
+    whole-lines-requires
+    returns
+    no-lines-requires
+    loop-holds
+    mul-from
+    add-end
+    sub-take-line
+    part-take-line-start
+    part-take-line-end
+    slice-aggregate-take-line
+    take-line-requires
+    enum-known-step
+    enum-known-step-2
+    add-t31
+    same-length
+    same-length-2
+    same-length-3
+    returns-2
+    add-i
+    loop-less
+    loop-again
+    slice-aggregate-finish
+    finish-requires
+    same-length-4
+    same-length-5
+    same-length-6
+    returns-3)

@@ -1,0 +1,62 @@
+-- `taking::finish` meets its contract, by what is missing or misnamed.
+use mathlib.Core.Path.{sym}
+use native.Mathlib.Omega.{arith}
+use lib.Seq.{length-take-le}
+use borrow.Author.Needs.{needs}
+use Rattle.book.specs.laws.Judged.{passes, fails}
+use Rattle.book.specs.laws.Taking.{finish-early, finish-orphan, finish-fine}
+use Rattle.book.proofs.taking.finish.Statement.{statement}
+use Rattle.book.proofs.taking.finish.Tie as tie
+
+complete-requires : tie.Need-complete-requires
+complete-requires c κs = search needs
+
+add-t9 : tie.Need-add-t9
+add-t9 c = search needs
+
+returns : tie.Need-returns
+returns c = finish-early _ _ (fails (c .before .before .complete .ensures) (c .before .if1 .taken))
+
+wide-requires : tie.Need-wide-requires
+wide-requires c κs = search needs
+
+slice-aggregate-first-misnamed : tie.Need-slice-aggregate-first-misnamed
+slice-aggregate-first-misnamed c = sym (length-take-le _ _ (omega arith))
+
+first-misnamed-requires : tie.Need-first-misnamed-requires
+first-misnamed-requires c κs = search needs
+
+add-t14 : tie.Need-add-t14
+add-t14 c =
+    let start = c .before .before .before .before .before .before .before .before in
+    omega (arith, start .pre .last-node (omega arith))
+
+returns-2 : tie.Need-returns-2
+returns-2 c =
+    let found = c .before .before in
+    let whole = found .before .before .before in
+    let all = passes (whole .before .complete .ensures) (whole .if1 .left) in
+    let node = rw (found .before .before .wide .ensures) at (found .first-misnamed .ensures) in
+    finish-orphan _ _ _ all node (omega arith)
+
+returns-3 : tie.Need-returns-3
+returns-3 c =
+    let found = c .before .before in
+    let whole = found .before .before .before in
+    let all = passes (whole .before .complete .ensures) (whole .if1 .left) in
+    let node = rw (found .before .before .wide .ensures) at (found .first-misnamed .ensures) in
+    finish-fine _ _ _ all node (omega arith)
+
+pub finish-spec : {M : Type 1} → statement M
+finish-spec =
+    tie.close
+    (tie.spec
+    complete-requires
+    add-t9
+    returns
+    wide-requires
+    slice-aggregate-first-misnamed
+    first-misnamed-requires
+    add-t14
+    returns-2
+    returns-3)

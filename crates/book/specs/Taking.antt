@@ -1,0 +1,59 @@
+-- What the steps of reading can rely on, and what they leave in each table.
+use mathlib.Core.Path.{_≡_}
+use mathlib.Core.List.{List}
+use Prim.Native.Nat.{ℕ, _+_, _≤_, _<_}
+use lib.ListN.{length}
+use Rattle.definitions.specs.Faults.{answered}
+use Rattle.definitions.specs.Lists.{cleared}
+use Rattle.definitions.specs.BookLines.{BookLine}
+use Rattle.definitions.specs.BookReading.{Lent, readBook}
+use Rattle.definitions.specs.Tables.{bookOf, tablesOf}
+use Rattle.tables.specs.Lending.{lengthsOf, lentTables}
+use Rattle.book.specs.declared.State.{State}
+use Rattle.book.specs.declared.Step.{Step}
+use Rattle.book.specs.declared.Step.the-variants.{Next}
+use Rattle.book.specs.States.{HasStates, Countable}
+use Rattle.book.specs.Storing.{HasRoom, nodesAfter, classesAfter, rootsAfter, countsAfter}
+use Rattle.book.specs.Steps.{lineTaken, stepOf, whereTaken}
+
+-- tables after they were cleared
+pub record ClearedFrom (nodes classes roots nodes′ classes′ roots′ : List ℕ) : Type 0 where
+  pub nodes-clear : nodes′ ≡ cleared (length nodes)
+  pub classes-clear : classes′ ≡ cleared (length classes)
+  pub roots-clear : roots′ ≡ cleared (length roots)
+
+-- tables that are cleared as they stand
+abbrev pub Cleared : (nodes classes roots : List ℕ) → Type 0
+Cleared nodes classes roots = ClearedFrom nodes classes roots nodes classes roots
+
+-- tables after reading: of the lent lengths, and holding the book if it is accepted
+pub record Read (lent : Lent) (text nodes classes roots : List ℕ) : Type 0 where
+  pub lengths : lengthsOf nodes classes roots ≡ lent
+  pub book : (lines : List BookLine) → readBook lent text ≡ answered lines
+      → lentTables nodes classes roots ≡ tablesOf lent (bookOf lines)
+
+-- a state in which a line can be taken: its counts do not overflow, and a line that passes has room
+pub record Ready (lent : Lent) (s : State) (bytes : List ℕ) : Type 0 where
+  pub states : HasStates s
+  pub counts : Countable s
+  pub room : (next : State) → stepOf lent s bytes ≡ Next next
+      → HasRoom (s .roots) (lent .nodes) (lent .classes) (lent .roots) (lineTaken bytes)
+
+-- a state after which can be judged: each node has a count, and the lines' numbers do not overflow
+pub record Endable (s : State) (counts : List ℕ) : Type 0 where
+  pub counted : s .nodes ≤ length counts
+  pub lines : s .lines < 18446744073709551615
+  pub last-node : 0 < s .nodes → s .first + s .nodes ≤ 18446744073709551615
+
+-- each table after a line of these bytes, where this became of it
+abbrev pub nodesTaken : Step → (bytes table : List ℕ) → List ℕ
+nodesTaken step bytes table = whereTaken step table (nodesAfter (lineTaken bytes) table)
+
+abbrev pub classesTaken : Step → (bytes table : List ℕ) → List ℕ
+classesTaken step bytes table = whereTaken step table (classesAfter (lineTaken bytes) table)
+
+abbrev pub rootsTaken : (roots : ℕ) → Step → (bytes table : List ℕ) → List ℕ
+rootsTaken roots step bytes table = whereTaken step table (rootsAfter roots (lineTaken bytes) table)
+
+abbrev pub countsTaken : Step → (bytes counts : List ℕ) → List ℕ
+countsTaken step bytes counts = whereTaken step counts (countsAfter (lineTaken bytes) counts)

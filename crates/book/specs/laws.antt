@@ -1,0 +1,14 @@
+pub mod Numbers
+pub mod Rows
+pub mod Judged
+pub mod Putting
+pub mod Taking
+pub mod States
+pub mod Steps
+pub mod NodeLines
+pub mod Keeping
+pub mod Readying
+pub mod Stored
+pub mod Finishing
+pub mod Reading
+pub mod Answering

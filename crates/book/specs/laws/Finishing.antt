@@ -1,0 +1,92 @@
+-- Laws about what follows the last line: the state and the counts of names give the answer of document 01.
+-- The idea: the first count that is not 1 is that of the first orphan, and the node lines stand together, so
+-- that node's line is as far from the first node's line.
+use mathlib.Core.Path.{_≡_, refl, sym}
+use mathlib.Core.List.{List, [], _∷_}
+use Prim.Native.Nat.{ℕ, suc, _+_, _≤_, _<_}
+use native.Mathlib.Numerals.{add-one}
+use native.Mathlib.Omega.{arith}
+use lib.Dec.{ltb}
+use lib.ListN.{length, take}
+use borrow.Author.Tests.{ltb-true, ltb-false}
+use Rattle.definitions.specs.declared.Fault.the-variants.{Orphan, Count}
+use Rattle.definitions.specs.Lists.{if_then_else_, concatMap}
+use Rattle.definitions.specs.Faults.{answered, refuse, judge}
+use Rattle.definitions.specs.Reading.{readFrom}
+use Rattle.definitions.specs.BookLines.{BookLine, headerOf, TreeNode, nodesOf, rootsOf}
+use Rattle.definitions.specs.BookReading.{Lent, bookKind, bookComplete, judgeNames, lineNumberFrom}
+use Rattle.definitions.specs.laws.Tests.{by-test}
+use Rattle.definitions.specs.laws.Judging.{refused-not-answered}
+use Rattle.definitions.specs.laws.Books.{names-judged}
+use Rattle.tables.specs.Naming.{firstMisnamed}
+use Rattle.tables.specs.laws.Naming.{orphan-least, orphans-none, orphans-some}
+use Rattle.book.specs.declared.Reading.{Reading}
+use Rattle.book.specs.declared.Reading.the-variants.{Accepted, Refused}
+use Rattle.book.specs.States.{stateOf, completeIn, firstNodeFrom}
+use Rattle.book.specs.Answers.{readingOf}
+use Rattle.book.specs.Steps.{finishOf}
+use Rattle.book.specs.Storing.{namesOf, countsStored}
+use Rattle.book.specs.laws.Keeping.{Kept}
+
+-- every node has its count
+counted-all : (lent : Lent) (before : List BookLine) → Kept lent before → length (nodesOf before) ≤ 4096
+unfolding nodesOf concatMap
+counted-all lent [] k = omega arith
+counted-all lent (first ∷ before) k = omega (arith, k .nodes, k .in-range (omega arith) .nodes-range .high)
+
+-- the answer where the lines are complete, by the lowest node that is not named once
+abbrev judgedBy : (before : List BookLine) → (node : ℕ) → Reading
+judgedBy before node =
+    if ltb node (length (nodesOf before))
+    then Refused (record { fault = Orphan; line = firstNodeFrom 1 before + node })
+    else Accepted (headerOf before)
+
+finish-names : (lent : Lent) (before : List BookLine) → Kept lent before
+    → judgedBy before (firstMisnamed (take (length (nodesOf before)) (countsStored before)))
+    ≡ readingOf (judgeNames before)
+unfolding countsStored namesOf judgeNames readingOf
+finish-names lent before k =
+    by-test (ltb node (length nodes)) (λ e. rw e (some-orphan (ltb-true node (length nodes) e)))
+    (λ e. rw e (no-orphan (ltb-false node (length nodes) e)))
+  where
+    nodes : List TreeNode
+    nodes = nodesOf before
+
+    roots : List ℕ
+    roots = rootsOf before
+
+    node : ℕ
+    node = firstMisnamed (take (length nodes) (countsStored before))
+
+    room : length nodes ≤ 4096
+    room = counted-all lent before k
+
+    some-orphan : node < length nodes
+        → Refused (record { fault = Orphan; line = firstNodeFrom 1 before + node })
+        ≡ readingOf (judgeNames before)
+    some-orphan h =
+        let judged : judgeNames before ≡ refuse Orphan (lineNumberFrom 1 node before) =
+        rw (orphans-some nodes roots 4096 room h, judgeNames) in
+        rw (judged, k .node-lines node h)
+
+    no-orphan : length nodes ≤ node → Accepted (headerOf before) ≡ readingOf (judgeNames before)
+    no-orphan h =
+        let last : node ≡ length nodes = omega (arith, orphan-least nodes roots 4096 room) in
+        let judged : judgeNames before ≡ answered before =
+        rw (orphans-none nodes roots 4096 room last, judgeNames) in
+        rw judged
+
+pub finish-state : (lent : Lent) (before : List BookLine) → Kept lent before
+    → finishOf (stateOf before) (countsStored before)
+    ≡ readingOf (readFrom (bookKind lent) (suc (length before)) before [])
+unfolding finishOf stateOf completeIn readFrom judge bookKind bookComplete readingOf
+finish-state lent before k =
+    by-test (bookComplete before) (λ e. rw e (finish-names lent before k)) (λ e. rw (e, add-one))
+
+-- what is accepted after the last line is the lines
+pub finish-accepted : (lent : Lent) (before answer : List BookLine) (at : ℕ)
+    → readFrom (bookKind lent) at before [] ≡ answered answer → answer ≡ before
+unfolding readFrom judge bookKind
+finish-accepted lent before answer at h =
+    by-test (bookComplete before) (λ e. sym (names-judged before answer (rw e at h) .0))
+    (λ e. absurd (refused-not-answered _ Count at answer refl (rw e at h)))

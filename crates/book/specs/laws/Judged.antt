@@ -1,0 +1,32 @@
+-- Laws about a line's tests: that the code asked and passed or failed, what a line that is no header fits, and
+-- what stands before a root.
+use mathlib.Core.Path.{_≡_, sym, _∙_}
+use mathlib.Core.Bool.{Bool, true, false, not}
+use Prim.Native.Nat.{ℕ, _<_}
+use native.Mathlib.Omega.{arith}
+use borrow.Author.Tests.{le-leb, not-true, not-false}
+use lib.Dec.{T, ltb, eqb, ltb→lt}
+use Rattle.definitions.specs.BookLines.{R, noHeader, rootCount}
+use Rattle.definitions.specs.BookReading.{Lent, wideEnough}
+use Rattle.definitions.specs.laws.Tests.{T-and}
+use Rattle.book.specs.declared.State.{State}
+use Rattle.book.specs.States.{followsIn}
+
+-- an answer that is a test's, and what its negation says of the test
+pub passes : {answer test : Bool} → answer ≡ test → not answer ≡ false → test ≡ true
+passes {answer = answer} e h = sym e ∙ not-false answer h
+
+pub fails : {answer test : Bool} → answer ≡ test → not answer ≡ true → test ≡ false
+fails {answer = answer} e h = sym e ∙ not-true answer h
+
+pub no-header-fits : (lent : Lent) → wideEnough lent noHeader ≡ true
+unfolding wideEnough rootCount
+no-header-fits lent =
+    rw (le-leb 0 (lent .nodes) (omega arith), le-leb 0 (lent .classes) (omega arith))
+    (le-leb 0 (lent .roots) (omega arith))
+
+pub root-after-header : (s : State) (phone state root : ℕ) → T (followsIn s (R phone state root))
+    → 0 < s .lines
+unfolding followsIn
+root-after-header s phone state root h =
+    ltb→lt 0 (s .lines) (T-and (ltb 0 (s .lines)) (eqb (s .nodes) (s .header .nodes)) .0 h .0)

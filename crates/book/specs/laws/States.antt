@@ -1,0 +1,169 @@
+-- Laws about the state: the tests that are put by it are those of document 01 after the lines taken so far,
+-- and after one more line it is again what is kept of the lines.
+use mathlib.Core.Path.{_≡_, refl, sym, ap, _∙_}
+use mathlib.Core.List.{List, [], _∷_, _++_, append-nil}
+use mathlib.Core.Bool.{Bool, false, _&&_}
+use Prim.Native.Nat.{ℕ, suc, _+_, _<_}
+use native.Mathlib.Omega.{arith}
+use lib.Dec.{T, ltb, eqb, eqb→eq, ltb→lt}
+use lib.ListN.{length, length-append}
+use borrow.Author.Tests.{ne-eqb}
+use Rattle.definitions.specs.Lists.{if_then_else_, lastPasses, concatMap}
+use Rattle.definitions.specs.Lines.{Line}
+use Rattle.definitions.specs.Reading.{lineTests}
+use Rattle.definitions.specs.BookLines.{BookLine, H, Q, N, L, R, bookLine, headerOf}
+use Rattle.definitions.specs.BookLines.{Member, membersOf, memberIn}
+use Rattle.definitions.specs.BookLines.{TreeNode, nodesOf, nodeIn, rootsOf, rootIn}
+use Rattle.definitions.specs.BookReading.{Lent, bookKind, bookFollows, comesBefore, bookInOrder}
+use Rattle.definitions.specs.BookReading.{bookComplete}
+use Rattle.definitions.specs.laws.Tests.{T-and}
+use Rattle.definitions.specs.laws.Lists.{concatMap-snoc, concatMap-snoc-length}
+use Rattle.book.specs.declared.State.{State}
+use Rattle.book.specs.declared.Last.the-variants as last
+use Rattle.book.specs.States.{lastOf, firstNodeFrom, stateOf, followsIn, afterLastMember, inOrderIn}
+use Rattle.book.specs.States.{testsIn, completeIn, withNode, nextState}
+
+-- ---- the tests
+
+pub follows-state : (before : List BookLine) (line : BookLine)
+    → followsIn (stateOf before) line ≡ bookFollows before line
+unfolding followsIn stateOf bookFollows
+follows-state before (H half states phones classes nodes) = refl
+follows-state before (Q class phone) = refl
+follows-state before (N node class position yesNode noNode) = refl
+follows-state before (L node model) = refl
+follows-state before (R phone state root) = refl
+
+last-state : (members : List Member) (m : Member)
+    → afterLastMember (lastOf members) m ≡ lastPasses (λ l. comesBefore l m) members
+unfolding lastOf afterLastMember lastPasses
+last-state [] m = refl
+last-state (a ∷ []) m = refl
+last-state (a ∷ b ∷ members) m = last-state (b ∷ members) m
+
+pub order-state : (before : List BookLine) (line : BookLine)
+    → inOrderIn (stateOf before) line ≡ bookInOrder before line
+unfolding inOrderIn stateOf bookInOrder
+order-state before (H half states phones classes nodes) = refl
+order-state before (Q class phone) = last-state (membersOf before) (record { class = class; phone = phone })
+order-state before (N node class position yesNode noNode) = refl
+order-state before (L node model) = refl
+order-state before (R phone state root) = refl
+
+pub tests-state : (lent : Lent) (before : List BookLine) (line : Line)
+    → testsIn lent (stateOf before) line ≡ lineTests (bookKind lent) before line
+unfolding testsIn lineTests bookKind stateOf
+tests-state lent before line = rw (follows-state before (bookLine line), order-state before (bookLine line))
+
+pub complete-state : (before : List BookLine) → completeIn (stateOf before) ≡ bookComplete before
+unfolding completeIn stateOf bookComplete
+complete-state before = refl
+
+-- ---- the state after one more line
+
+last-snoc : (members : List Member) (m : Member)
+    → lastOf (members ++ (m ∷ [])) ≡ last.Member (m .class) (m .phone)
+unfolding lastOf
+last-snoc [] m = refl
+last-snoc (a ∷ []) m = refl
+last-snoc (a ∷ b ∷ members) m = last-snoc (b ∷ members) m
+
+-- the header stays after the first line
+pub header-more : (before : List BookLine) (line : BookLine) → 0 < length before
+    → headerOf (before ++ (line ∷ [])) ≡ headerOf before
+unfolding headerOf
+header-more [] line h = absurd (omega arith)
+header-more (first ∷ before) line h = refl
+
+-- the first node's line, where one more line has no node
+pub first-other : (at : ℕ) (before : List BookLine) (line : BookLine) → nodeIn line ≡ []
+    → firstNodeFrom at (before ++ (line ∷ [])) ≡ firstNodeFrom at before
+unfolding firstNodeFrom
+first-other at [] line e = rw e
+first-other at (x ∷ before) line e = rw (first-other (suc at) before line e)
+
+-- the first node's line, where one more line has a node
+pub first-node : (at : ℕ) (before : List BookLine) (line : BookLine) → eqb (length (nodeIn line)) 0 ≡ false
+    → firstNodeFrom at (before ++ (line ∷ []))
+    ≡ (if eqb (length (nodesOf before)) 0 then length before + at else firstNodeFrom at before)
+unfolding firstNodeFrom nodesOf concatMap
+first-node at [] line e = let start : 0 + at ≡ at = omega arith in rw (e, start)
+first-node at (x ∷ before) line e = go (nodeIn x) (first-node (suc at) before line e)
+  where
+    go : (nodes : List TreeNode)
+        → firstNodeFrom (suc at) (before ++ (line ∷ []))
+        ≡ (if eqb (length (nodesOf before)) 0 then length before + suc at else firstNodeFrom (suc at) before)
+        → (if eqb (length nodes) 0 then firstNodeFrom (suc at) (before ++ (line ∷ [])) else at)
+        ≡ (if eqb (length (nodes ++ nodesOf before)) 0 then suc (length before) + at else
+        (if eqb (length nodes) 0 then firstNodeFrom (suc at) before else at))
+    go [] rest =
+        let moved : length before + suc at ≡ suc (length before) + at = omega arith in
+        rest ∙ rw moved
+    go (node ∷ nodes) rest =
+        rw (
+          ne-eqb (suc (length nodes)) 0 (λ e. omega arith),
+          ne-eqb (suc (length (nodes ++ nodesOf before))) 0 (λ e. omega arith),
+        )
+
+-- states with the same fields
+same-state : {s t : State} → s .lines ≡ t .lines → s .header ≡ t .header → s .last ≡ t .last
+    → s .nodes ≡ t .nodes → s .first ≡ t .first → s .roots ≡ t .roots → s ≡ t
+same-state a b c d e f =
+    λ i. record { lines = a i; header = b i; last = c i; nodes = d i; first = e i; roots = f i }
+
+-- what one more line adds to the counts and to the last Q line
+module _ (before : List BookLine) (line : BookLine) where
+  lines-more : length before + 1 ≡ length (before ++ (line ∷ []))
+  lines-more = sym (length-append before (line ∷ []))
+
+  last-same : memberIn line ≡ [] → lastOf (membersOf before) ≡ lastOf (membersOf (before ++ (line ∷ [])))
+  unfolding membersOf
+  last-same e = rw (concatMap-snoc memberIn before line, e, append-nil (concatMap memberIn before))
+
+  count-more : {A : Type 0} (f : BookLine → List A) (more : ℕ) → length (f line) ≡ more
+      → length (concatMap f before) + more ≡ length (concatMap f (before ++ (line ∷ [])))
+  count-more f more e = sym (concatMap-snoc-length f before line ∙ rw e)
+
+  count-same : {A : Type 0} (f : BookLine → List A) → length (f line) ≡ 0
+      → length (concatMap f before) ≡ length (concatMap f (before ++ (line ∷ [])))
+  count-same f e = omega (arith, count-more f 0 e)
+
+  node-state : 0 < length before → memberIn line ≡ [] → length (nodeIn line) ≡ 1 → length (rootIn line) ≡ 0
+      → withNode (stateOf before) ≡ stateOf (before ++ (line ∷ []))
+  unfolding withNode stateOf nodesOf rootsOf
+  node-state started m n r =
+      same-state lines-more (sym (header-more before line started)) (last-same m) (count-more nodeIn 1 n)
+      (sym (first-node 1 before line (rw n))) (count-same rootIn r)
+
+-- a line other than H is never the first
+pub node-started : (before : List BookLine) → T (ltb (length (nodesOf before)) (headerOf before .nodes))
+    → 0 < length before
+unfolding headerOf nodesOf concatMap
+node-started [] t = absurd t
+node-started (x ∷ before) t = omega arith
+
+pub test-started : (before : List BookLine) (b : Bool) → T (ltb 0 (length before) && b) → 0 < length before
+test-started before b t = ltb→lt 0 (length before) (T-and (ltb 0 (length before)) b .0 t .0)
+
+pub next-state : (before : List BookLine) (line : BookLine) → T (bookFollows before line)
+    → nextState (stateOf before) line ≡ stateOf (before ++ (line ∷ []))
+unfolding nextState stateOf bookFollows headerOf lastOf firstNodeFrom
+    membersOf memberIn nodesOf nodeIn rootsOf rootIn concatMap
+next-state [] (H half states phones classes nodes) f = refl
+next-state (x ∷ before) (H half states phones classes nodes) f =
+    absurd (omega (arith, eqb→eq (suc (length before)) 0 f))
+next-state before (Q class phone) f =
+    let line : BookLine = Q class phone in
+    let newest : lastOf (membersOf (before ++ (line ∷ []))) ≡ last.Member class phone =
+    ap lastOf (concatMap-snoc memberIn before line) ∙ last-snoc (membersOf before) _ in
+    same-state (lines-more before line) (sym (header-more before line (test-started before _ f))) (sym newest)
+    (count-same before line nodeIn refl) (sym (first-other 1 before line refl))
+    (count-same before line rootIn refl)
+next-state before (N node class position yesNode noNode) f =
+    node-state before (N node class position yesNode noNode) (node-started before f) refl refl refl
+next-state before (L node model) f = node-state before (L node model) (node-started before f) refl refl refl
+next-state before (R phone state root) f =
+    let line : BookLine = R phone state root in
+    same-state (lines-more before line) (sym (header-more before line (test-started before _ f)))
+    (last-same before line refl) (count-same before line nodeIn refl)
+    (sym (first-other 1 before line refl)) (count-more before line rootIn 1 refl)

@@ -1,0 +1,433 @@
+-- Laws about what is stored: each line that is taken brings the tables and the counts of names from what the
+-- lines before it leave to what the lines with it leave. The idea: a line adds to one of the lists of nodes,
+-- members and roots at its end, and a table is such a list with zeros after it.
+use mathlib.Core.Path.{_≡_, refl, sym, ap, ap₂, _∙_}
+use mathlib.Core.Logic.{_≢_}
+use mathlib.Core.List.{List, [], _∷_, _++_, map, append-assoc, append-nil, map-append}
+use mathlib.Core.Bool.{Bool, true, false, not, or-assoc}
+use Prim.Native.Nat.{ℕ, zero, suc, _+_, _-_, _*_, _≤_, _<_}
+use native.Mathlib.Nat.{zero-sub, sub-zero, mul-le-mul}
+use native.Mathlib.Decide.{ℕ-discrete}
+use native.Mathlib.Numerals.{add-one}
+use native.Mathlib.Omega.{arith}
+use lib.Bits.{bitOr, or-zero-r}
+use lib.Dec.{T, leb, ltb, eqb, leb→le, ltb→lt, eqb→eq}
+use lib.ListN.{length, take, drop, set, replicate, length-append, length-map, length-set, length-replicate}
+use lib.ListN.{replicate-append-replicate, List·getD-append}
+use lib.Seq.{take-append-seam, drop-append-add, append-snoc, set-split, set-append-left, ext-getD}
+use lib.Seq.{getD-set-same, getD-set-other}
+use borrow.Author.Tests.{eq-eqb, ne-eqb}
+use Rattle.definitions.specs.declared.Header.{Header}
+use Rattle.definitions.specs.Lists.{_!_, concatMap, select, upFrom, cleared, padded}
+use Rattle.definitions.specs.PhoneSets.{has, alone, setOf}
+use Rattle.definitions.specs.BookLines.{BookLine, H, Q, N, L, R, noHeader, headerIn, headerOf, rootCount}
+use Rattle.definitions.specs.BookLines.{Member, membersOf, memberIn, TreeNode, question, leaf, nodesOf, nodeIn}
+use Rattle.definitions.specs.BookLines.{rootsOf, rootIn, childrenOf}
+use Rattle.definitions.specs.BookReading.{Lent, nodeSize, wideEnough, bookFollows, bookInOrder, withinHeader}
+use Rattle.definitions.specs.BookReading.{bookComplete}
+use Rattle.definitions.specs.Tables.{nodeWords, phonesOfClass, classSets}
+use Rattle.definitions.specs.laws.Tests.{T-and, T-three, eq→eqb}
+use Rattle.definitions.specs.laws.Lists.{concatMap-snoc, padded-length, upFrom-length}
+use Rattle.definitions.specs.laws.Selected.{select-here, select-past, select-append}
+use Rattle.definitions.specs.laws.PhoneSets.{has-or, same-members}
+use Rattle.definitions.specs.laws.Records.{flat-length}
+use Rattle.definitions.specs.laws.Tables.{node-sized}
+use Rattle.definitions.specs.laws.Books.{Fits}
+use Rattle.tables.specs.Naming.{countsOf}
+use Rattle.tables.specs.laws.Naming.{counts-none, counts-length, counts-named, children-length}
+use Rattle.book.specs.Storing.{putAt, nodesAfter, classesAfter, rootsAfter, namesIn, countsAfter}
+use Rattle.book.specs.Storing.{nodesStored, classesStored, rootsStored, namesOf, countsStored}
+use Rattle.book.specs.laws.Keeping.{Kept}
+
+-- ---- a lent table: its used words, then zeros
+
+drop-replicate : (n m x : ℕ) → drop n (replicate m x) ≡ replicate (m - n) x
+drop-replicate zero m x = rw sub-zero
+drop-replicate (suc n) zero x = rw zero-sub
+drop-replicate (suc n) (suc m) x =
+    let fewer : suc m - suc n ≡ m - n = omega arith in rw fewer (drop-replicate n m x)
+
+-- words that stand right after the used ones are used too
+put-after : (size : ℕ) (used words : List ℕ)
+    → putAt (length used) words (padded size used) ≡ padded size (used ++ words)
+unfolding putAt padded
+put-after size used words =
+    let rest : List ℕ = cleared (size - length used) in
+    let fewer : (size - length used) - length words ≡ size - (length used + length words) = omega arith in
+    rw (take-append-seam used rest, drop-append-add used rest, drop-replicate, length-append, fewer)
+
+set-after : (size : ℕ) (used : List ℕ) (x : ℕ) → length used < size
+    → set (padded size used) (length used) x ≡ padded size (used ++ (x ∷ []))
+unfolding putAt
+set-after size used x h =
+    let table : List ℕ = padded size used in
+    let room : length used < length table = omega (arith, padded-length size used (omega arith)) in
+    let rest : List ℕ = drop (suc (length used)) table in
+    rw (set-split table (length used) x room, ← append-snoc (take (length used) table) x rest, ← add-one)
+    (put-after size used (x ∷ []))
+
+-- a used word read, or changed
+padded-at : (size : ℕ) (used : List ℕ) (i : ℕ) → i < length used → padded size used ! i ≡ used ! i
+unfolding padded
+padded-at size used i h = List·getD-append used (cleared (size - length used)) 0 i h
+
+padded-set : (size : ℕ) (used : List ℕ) (i x : ℕ) → i < length used
+    → set (padded size used) i x ≡ padded size (set used i x)
+unfolding padded
+padded-set size used i x h = rw length-set (set-append-left used (cleared (size - length used)) i x h)
+
+padded-zeros : (size count : ℕ) → count ≤ size → padded size (cleared count) ≡ cleared size
+unfolding padded
+padded-zeros size count h =
+    rw (length-replicate, replicate-append-replicate)
+    (ap (λ (k : ℕ). cleared k) {x = count + (size - count)} {y = size} (omega arith))
+
+-- ---- what each of the numbers counted up gives
+
+upFrom-at : (f : ℕ → ℕ) (a count i : ℕ) → i < count → map f (upFrom a count) ! i ≡ f (a + i)
+unfolding upFrom
+upFrom-at f a zero i h = absurd (omega arith)
+upFrom-at f a (suc count) zero h = ap f (omega arith)
+upFrom-at f a (suc count) (suc i) h = upFrom-at f (suc a) count i (omega arith) ∙ ap f (omega arith)
+
+upFrom-sized : (f : ℕ → ℕ) (a count : ℕ) → length (map f (upFrom a count)) ≡ count
+upFrom-sized f a count = length-map (upFrom a count) f ∙ upFrom-length a count
+
+-- two functions that agree but at one number
+upFrom-set : (f g : ℕ → ℕ) (a count i : ℕ) → i < count → ((k : ℕ) → k ≢ a + i → f k ≡ g k)
+    → set (map f (upFrom a count)) i (g (a + i)) ≡ map g (upFrom a count)
+upFrom-set f g a count i h agree =
+    ext-getD 0 (set before i (g (a + i))) (map g (upFrom a count))
+    (length-set before i (g (a + i)) ∙ size ∙ sym (upFrom-sized g a count))
+    (λ j l. at j (omega (arith, length-set before i (g (a + i)), size)) (ℕ-discrete j i))
+  where
+    before : List ℕ
+    before = map f (upFrom a count)
+
+    size : length before ≡ count
+    size = upFrom-sized f a count
+
+    at : (j : ℕ) → j < count → Dec (j ≡ i) → set before i (g (a + i)) ! j ≡ map g (upFrom a count) ! j
+    at j l (yes e) =
+        rw (e, getD-set-same before i (g (a + i)) 0 (omega (arith, size)), upFrom-at g a count i h)
+    at j l (no n) =
+        rw (getD-set-other before i j (g (a + i)) 0 n, upFrom-at f a count j l, upFrom-at g a count j l)
+        (agree (a + j) (λ e. n (omega arith)))
+
+upFrom-zeros : (f : ℕ → ℕ) (a count : ℕ) → ((k : ℕ) → f k ≡ 0) → map f (upFrom a count) ≡ cleared count
+unfolding upFrom
+upFrom-zeros f a zero h = refl
+upFrom-zeros f a (suc count) h =
+    ap₂ (λ (x : ℕ) (l : List ℕ). x ∷ l) (h a) (upFrom-zeros f (suc a) count h)
+
+-- ---- what a line adds
+
+nodes-more : (before : List BookLine) (line : BookLine)
+    → nodesOf (before ++ (line ∷ [])) ≡ nodesOf before ++ nodeIn line
+unfolding nodesOf
+nodes-more before line = concatMap-snoc nodeIn before line
+
+members-more : (before : List BookLine) (line : BookLine)
+    → membersOf (before ++ (line ∷ [])) ≡ membersOf before ++ memberIn line
+unfolding membersOf
+members-more before line = concatMap-snoc memberIn before line
+
+roots-more : (before : List BookLine) (line : BookLine)
+    → rootsOf (before ++ (line ∷ [])) ≡ rootsOf before ++ rootIn line
+unfolding rootsOf
+roots-more before line = concatMap-snoc rootIn before line
+
+-- only an H line brings a header
+header-kept : (before : List BookLine) (line : BookLine) → headerIn line ≡ noHeader
+    → headerOf (before ++ (line ∷ [])) ≡ headerOf before
+unfolding headerOf
+header-kept [] line e = e
+header-kept (first ∷ before) line e = refl
+
+-- ---- room in the tables
+
+record Roomy (lent : Lent) (header : Header) : Type 0 where
+  nodes : nodeSize * header .nodes ≤ lent .nodes
+  classes : header .classes ≤ lent .classes
+  roots : rootCount header ≤ lent .roots
+
+roomy : (lent : Lent) (header : Header) → T (wideEnough lent header) → Roomy lent header
+unfolding wideEnough
+roomy lent header h =
+    let (nodes, classes, roots) =
+    T-three (leb (nodeSize * header .nodes) (lent .nodes)) (leb (header .classes) (lent .classes))
+    (leb (rootCount header) (lent .roots)) .0 h in
+    record { nodes = leb→le _ _ nodes; classes = leb→le _ _ classes; roots = leb→le _ _ roots }
+
+not-both : (b : Bool) → T (not b) → T b → ⊥
+not-both true h k = h
+not-both false h k = k
+
+-- where a root may follow, not all are there
+open-roots : (lent : Lent) (before : List BookLine) (phone state root : ℕ) → Kept lent before
+    → T (not (bookComplete before)) → T (bookFollows before (R phone state root))
+    → length (rootsOf before) < rootCount (headerOf before)
+unfolding bookFollows bookComplete
+open-roots lent before phone state root k c h =
+    let some-line : Bool = ltb 0 (length before) in
+    let (started, full) = T-and some-line (eqb (length (nodesOf before)) (headerOf before .nodes)) .0 h in
+    let all-roots : Bool = eqb (length (rootsOf before)) (rootCount (headerOf before)) in
+    let fewer : length (rootsOf before) ≢ rootCount (headerOf before) = (λ e.
+    not-both (bookComplete before) c (T-and some-line all-roots .1 (started, eq→eqb _ _ e))) in
+    omega (arith, k .roots)
+
+-- ---- the table of nodes
+
+node-put : (lent : Lent) (before : List BookLine) (node : TreeNode)
+    → putAt (nodeSize * length (nodesOf before)) (nodeWords node) (nodesStored lent before)
+    ≡ padded (lent .nodes) (concatMap nodeWords (nodesOf before ++ (node ∷ [])))
+unfolding nodesStored
+node-put lent before node =
+    rw (
+      concatMap-snoc nodeWords (nodesOf before) node,
+      ← flat-length nodeWords nodeSize node-sized (nodesOf before),
+    )
+    (put-after (lent .nodes) (concatMap nodeWords (nodesOf before)) (nodeWords node))
+
+pub nodes-stored : (lent : Lent) (before : List BookLine) (line : BookLine) → Kept lent before
+    → T (not (bookComplete before)) → Fits lent before line
+    → nodesAfter line (nodesStored lent before) ≡ nodesStored lent (before ++ (line ∷ []))
+unfolding nodesAfter nodesStored nodeIn bookInOrder
+nodes-stored lent before (H half states phones classes nodes) k c f = rw (nodes-more, append-nil)
+nodes-stored lent before (Q class phone) k c f = rw (nodes-more, append-nil)
+nodes-stored lent before (N node class position yesNode noNode) k c f =
+    rw (nodes-more, eqb→eq node (length (nodesOf before)) (f .in-order))
+    (node-put lent before (question class position yesNode noNode))
+nodes-stored lent before (L node model) k c f =
+    rw (nodes-more, eqb→eq node (length (nodesOf before)) (f .in-order)) (node-put lent before (leaf model))
+nodes-stored lent before (R phone state root) k c f = rw (nodes-more, append-nil)
+
+-- ---- the table of roots
+
+pub roots-stored : (lent : Lent) (before : List BookLine) (line : BookLine) → Kept lent before
+    → T (not (bookComplete before)) → Fits lent before line
+    → rootsAfter (length (rootsOf before)) line (rootsStored lent before)
+    ≡ rootsStored lent (before ++ (line ∷ []))
+unfolding rootsAfter rootsStored rootIn
+roots-stored lent before (H half states phones classes nodes) k c f = rw (roots-more, append-nil)
+roots-stored lent before (Q class phone) k c f = rw (roots-more, append-nil)
+roots-stored lent before (N node class position yesNode noNode) k c f = rw (roots-more, append-nil)
+roots-stored lent before (L node model) k c f = rw (roots-more, append-nil)
+roots-stored lent before (R phone state root) k c f =
+    let fewer = open-roots lent before phone state root k c (f .follows) in
+    rw roots-more
+    (set-after (lent .roots) (rootsOf before) root
+    (omega (arith, fewer, roomy lent (headerOf before) (k .wide) .roots)))
+
+-- ---- the table of classes
+
+or-joined : (a b c : ℕ) → bitOr a (bitOr b c) ≡ bitOr (bitOr a b) c
+or-joined a b c = same-members (bitOr a (bitOr b c)) (bitOr (bitOr a b) c)
+    (λ p. simp has-or (sym (or-assoc (has p a) (has p b) (has p c))))
+
+-- one phone more
+setOf-snoc : (l : List ℕ) (p : ℕ) → setOf (l ++ (p ∷ [])) ≡ bitOr (setOf l) (alone p)
+unfolding setOf
+setOf-snoc [] p = or-zero-r (alone p)
+setOf-snoc (q ∷ l) p = ap (bitOr (alone q)) (setOf-snoc l p) ∙ or-joined (alone q) (setOf l) (alone p)
+
+module _ (members : List Member) (m : Member) where
+  class-joined : (class : ℕ)
+      → phonesOfClass class (members ++ (m ∷ []))
+      ≡ phonesOfClass class members ++ phonesOfClass class (m ∷ [])
+  unfolding phonesOfClass
+  class-joined class =
+      let test : Member → Bool = λ n. eqb (n .class) class in
+      rw (select-append test members (m ∷ []), map-append)
+
+  class-more : setOf (phonesOfClass (m .class) (members ++ (m ∷ [])))
+      ≡ bitOr (setOf (phonesOfClass (m .class) members)) (alone (m .phone))
+  unfolding phonesOfClass select
+  class-more =
+      let test : Member → Bool = λ n. eqb (n .class) (m .class) in
+      rw (class-joined, select-here test m [] (eq-eqb (m .class) (m .class) refl))
+      (setOf-snoc (phonesOfClass (m .class) members) (m .phone))
+
+  class-same : (class : ℕ) → class ≢ m .class
+      → setOf (phonesOfClass class members) ≡ setOf (phonesOfClass class (members ++ (m ∷ [])))
+  unfolding phonesOfClass select
+  class-same class n =
+      let test : Member → Bool = λ n. eqb (n .class) class in
+      rw (class-joined, select-past test m [] (ne-eqb (m .class) class (λ e. n (sym e))), append-nil)
+
+-- before the first member all classes are empty
+no-members : (classes : ℕ) → classSets classes [] ≡ cleared classes
+unfolding classSets phonesOfClass select setOf
+no-members classes = upFrom-zeros (λ class. 0) 1 classes (λ k. refl)
+
+-- a member more in the set of its class
+class-put : (size classes : ℕ) (members : List Member) (m : Member) → 1 ≤ m .class → m .class ≤ classes
+    → (let table : List ℕ = padded size (classSets classes members) in
+    set table (m .class - 1) (bitOr (table ! (m .class - 1)) (alone (m .phone))))
+    ≡ padded size (classSets classes (members ++ (m ∷ [])))
+unfolding classSets
+class-put size classes members m low high =
+    padded-set size sets i (bitOr (padded size sets ! i) (alone (m .phone))) used
+    ∙ ap (padded size) (ap (set sets i) word ∙ upFrom-set old new 1 classes i below others)
+  where
+    old : ℕ → ℕ
+    old class = setOf (phonesOfClass class members)
+
+    new : ℕ → ℕ
+    new class = setOf (phonesOfClass class (members ++ (m ∷ [])))
+
+    sets : List ℕ
+    sets = map old (upFrom 1 classes)
+
+    i : ℕ
+    i = m .class - 1
+
+    place : 1 + i ≡ m .class
+    place = omega arith
+
+    below : i < classes
+    below = omega arith
+
+    used : i < length sets
+    used = omega (arith, upFrom-sized old 1 classes)
+
+    word : bitOr (padded size sets ! i) (alone (m .phone)) ≡ new (1 + i)
+    word =
+        ap (λ (set : ℕ). bitOr set (alone (m .phone)))
+        (padded-at size sets i used ∙ upFrom-at old 1 classes i below ∙ ap old place)
+        ∙ sym (class-more members m)
+        ∙ ap new (sym place)
+
+    others : (class : ℕ) → class ≢ 1 + i → old class ≡ new class
+    others class n = class-same members m class (λ e. n (e ∙ sym place))
+
+-- the first line is the H line
+first-stored : (lent : Lent) (before : List BookLine) (half states phones classes nodes : ℕ)
+    → Fits lent before (H half states phones classes nodes)
+    → classesStored lent before ≡ classesStored lent (before ++ (H half states phones classes nodes ∷ []))
+unfolding classesStored bookFollows headerOf headerIn membersOf memberIn concatMap
+first-stored lent [] half states phones classes nodes f =
+    let size : ℕ = lent .classes in
+    let header : Header = headerIn (H half states phones classes nodes) in
+    let room : classes ≤ size = roomy lent header (f .wide) .classes in
+    rw (no-members 0, no-members classes)
+    (padded-zeros size 0 (omega arith) ∙ sym (padded-zeros size classes room))
+first-stored lent (first ∷ before) half states phones classes nodes f =
+    absurd (omega (arith, eqb→eq (suc (length before)) 0 (f .follows)))
+
+pub classes-stored : (lent : Lent) (before : List BookLine) (line : BookLine) → Kept lent before
+    → T (not (bookComplete before)) → Fits lent before line
+    → classesAfter line (classesStored lent before) ≡ classesStored lent (before ++ (line ∷ []))
+unfolding classesAfter classesStored memberIn headerIn withinHeader
+classes-stored lent before (H half states phones classes nodes) k c f =
+    first-stored lent before half states phones classes nodes f
+classes-stored lent before (Q class phone) k c f =
+    let header : Header = headerOf before in
+    let parts = T-and (leb class (header .classes)) (leb phone (header .phones)) .0 (f .within) in
+    let m : Member = record { class = class; phone = phone } in
+    rw (header-kept before (Q class phone) refl, members-more)
+    (class-put (lent .classes) (header .classes) (membersOf before) m (f .ranged .0 .low)
+    (leb→le _ _ (parts .0)))
+classes-stored lent before (N node class position yesNode noNode) k c f =
+    rw (header-kept before (N node class position yesNode noNode) refl, members-more, append-nil)
+classes-stored lent before (L node model) k c f =
+    rw (header-kept before (L node model) refl, members-more, append-nil)
+classes-stored lent before (R phone state root) k c f =
+    rw (header-kept before (R phone state root) refl, members-more, append-nil)
+
+-- ---- the counts of names
+
+-- no root stands before the last node
+no-root-yet : (lent : Lent) (before : List BookLine) → Kept lent before
+    → length (nodesOf before) < headerOf before .nodes → rootsOf before ≡ []
+no-root-yet lent before k h = none (rootsOf before) refl
+  where
+    none : (roots : List ℕ) → rootsOf before ≡ roots → rootsOf before ≡ []
+    none [] e = e
+    none (root ∷ roots) e =
+        absurd (omega (arith, k .after-nodes (rw e (omega arith))))
+
+-- there are far fewer names than a count can hold
+few-names : (lent : Lent) (before : List BookLine) → Kept lent before → length (namesOf before) ≤ 8384
+unfolding namesOf nodesOf rootsOf rootCount concatMap
+few-names lent [] k = omega arith
+few-names lent (first ∷ before) k =
+    let lines : List BookLine = first ∷ before in
+    let range = k .in-range (omega arith) in
+    let header : Header = headerOf lines in
+    let most : header .phones * header .states ≤ 64 * 3 =
+    mul-le-mul (range .phones-range .high) (range .states-range .high) in
+    rw length-append
+    (omega (arith, children-length (nodesOf lines), k .nodes, k .roots, range .nodes-range .high))
+
+names-more : (lent : Lent) (before : List BookLine) (line : BookLine) → Kept lent before
+    → T (bookFollows before line) → namesOf before ++ namesIn line ≡ namesOf (before ++ (line ∷ []))
+unfolding namesOf namesIn bookFollows nodeIn rootIn childrenOf
+names-more lent before (H half states phones classes nodes) k f = rw (nodes-more, roots-more) (simp append-nil)
+names-more lent before (Q class phone) k f = rw (nodes-more, roots-more) (simp append-nil)
+names-more lent before (N node class position yesNode noNode) k f =
+    rw (
+      nodes-more,
+      roots-more,
+      no-root-yet lent before k (ltb→lt _ _ f),
+      concatMap-snoc childrenOf (nodesOf before) (question class position yesNode noNode),
+    ) (simp append-nil)
+names-more lent before (L node model) k f =
+    rw (nodes-more, roots-more, concatMap-snoc childrenOf (nodesOf before) (leaf model)) (simp append-nil)
+names-more lent before (R phone state root) k f = rw (nodes-more, roots-more) (simp (append-nil, append-assoc))
+
+few-more : (line : BookLine) → length (namesIn line) ≤ 2
+unfolding namesIn
+few-more (H half states phones classes nodes) = omega arith
+few-more (Q class phone) = omega arith
+few-more (N node class position yesNode noNode) = omega arith
+few-more (L node model) = omega arith
+few-more (R phone state root) = omega arith
+
+pub counts-stored : (lent : Lent) (before : List BookLine) (line : BookLine) → Kept lent before
+    → T (not (bookComplete before)) → Fits lent before line
+    → countsAfter line (countsStored before) ≡ countsStored (before ++ (line ∷ []))
+unfolding countsAfter countsStored
+counts-stored lent before line k c f =
+    counts-named 4096 (namesOf before) (namesIn line) (omega (arith, few-names lent before k, few-more line))
+    ∙ ap (countsOf 4096) (names-more lent before line k (f .follows))
+
+-- ---- before the first line, and the lengths
+
+pub record NothingStored (lent : Lent) : Type 0 where
+  pub nodes : nodesStored lent [] ≡ cleared (lent .nodes)
+  pub classes : classesStored lent [] ≡ cleared (lent .classes)
+  pub roots : rootsStored lent [] ≡ cleared (lent .roots)
+  pub counts : countsStored [] ≡ replicate 4096 0
+
+pub stored-none : (lent : Lent) → NothingStored lent
+unfolding nodesStored classesStored rootsStored countsStored namesOf nodesOf membersOf rootsOf headerOf
+    concatMap
+stored-none lent = record {
+  nodes = padded-zeros (lent .nodes) 0 (omega arith);
+  classes = rw (no-members 0) (padded-zeros (lent .classes) 0 (omega arith));
+  roots = padded-zeros (lent .roots) 0 (omega arith);
+  counts = counts-none 4096;
+}
+
+pub record StoredLengths (lent : Lent) (before : List BookLine) : Type 0 where
+  pub nodes : length (nodesStored lent before) ≡ lent .nodes
+  pub classes : length (classesStored lent before) ≡ lent .classes
+  pub roots : length (rootsStored lent before) ≡ lent .roots
+  pub counts : length (countsStored before) ≡ 4096
+
+pub stored-lengths : (lent : Lent) (before : List BookLine) → Kept lent before → StoredLengths lent before
+unfolding nodesStored classesStored rootsStored countsStored classSets
+stored-lengths lent before k =
+    let room = roomy lent (headerOf before) (k .wide) in
+    let words = flat-length nodeWords nodeSize node-sized (nodesOf before) in
+    let classes : ℕ = headerOf before .classes in
+    let sets = upFrom-sized (λ class. setOf (phonesOfClass class (membersOf before))) 1 classes in
+    record {
+      nodes = padded-length (lent .nodes) (concatMap nodeWords (nodesOf before))
+          (omega (arith, room .nodes, words, k .nodes));
+      classes = padded-length (lent .classes) (classSets classes (membersOf before))
+          (omega (arith, room .classes, sets));
+      roots = padded-length (lent .roots) (rootsOf before) (omega (arith, room .roots, k .roots));
+      counts = counts-length 4096 (namesOf before);
+    }

@@ -1,0 +1,89 @@
+// Taking one line of a tree book, and what is judged after the last.
+use crate::Lengths;
+use crate::Reading;
+use crate::State;
+use crate::Step;
+use crate::Verdict;
+use crate::entries::entry_of;
+use crate::judging::judge_line;
+use crate::states::complete;
+use crate::states::next_state;
+use crate::storing::store;
+use definitions::Fault;
+use definitions::Refusal;
+use definitions::wide;
+use lines::Letters;
+use lines::parsing::parse;
+use tables::naming::first_misnamed;
+ghost use mathlib.Core.Path.{_≡_};
+ghost use Rattle.book.specs.Steps.{finishOf, stepOf};
+ghost use Rattle.tables.specs.Lending.{lengthsOf};
+ghost use Rattle.book.specs.Taking.{Endable, Ready};
+ghost use Rattle.book.specs.Taking.{nodesTaken, classesTaken, rootsTaken, countsTaken};
+
+// Takes one more line: its words into the tables, and the state after it; or its fault.
+pub fn take_line(
+    s: State,
+    bytes: &[u8],
+    nodes: &mut [u32],
+    classes: &mut [u64],
+    roots: &mut [u32],
+    counts: &mut [u32],
+) -> Step
+    requires { ⌜ Ready (lengthsOf (now nodes) (now classes) (now roots)) s (now bytes) ⌝ }
+    ensures step { λ r. ⌜
+        r ≡ stepOf (lengthsOf (now (nodes .entry)) (now (classes .entry)) (now (roots .entry))) s
+        (now (bytes .entry))
+        ⌝ }
+    ensures nodes { λ r. ⌜ now (nodes .exit) ≡ nodesTaken r (now (bytes .entry)) (now (nodes .entry)) ⌝ }
+    ensures classes { λ r. ⌜
+        now (classes .exit) ≡ classesTaken r (now (bytes .entry)) (now (classes .entry))
+        ⌝ }
+    ensures roots { λ r. ⌜
+        now (roots .exit) ≡ rootsTaken (s .roots) r (now (bytes .entry)) (now (roots .entry))
+        ⌝ }
+    ensures counts { λ r. ⌜ now (counts .exit) ≡ countsTaken r (now (bytes .entry)) (now (counts .entry)) ⌝ }
+{
+    if complete(s) {
+        return Step::Stop(Fault::Count);
+    }
+    let parsed = parse(Letters::Book, bytes);
+    if !parsed.formed {
+        return Step::Stop(Fault::Misprint);
+    }
+    let row = parsed.row;
+    let entry = entry_of(row);
+    let lengths = Lengths {
+        nodes: nodes.len(),
+        classes: classes.len(),
+        roots: roots.len(),
+    };
+    if let Verdict::Failed(fault) = judge_line(s, lengths, row, entry) {
+        return Step::Stop(fault);
+    }
+    store(s, entry, nodes, classes, roots, counts);
+    Step::Next(next_state(s, entry))
+}
+
+// What is judged after the last line: 17 where lines are missing, then 16.
+pub fn finish(s: State, counts: &[u32]) -> Reading
+    requires { ⌜ Endable s (now counts) ⌝ }
+    ensures { λ r. ⌜ r ≡ finishOf s (now (counts .entry)) ⌝ }
+{
+    if !complete(s) {
+        return Reading::Refused(Refusal {
+            fault: Fault::Count,
+            line: s.lines + 1,
+        });
+    }
+    let nodes = wide(s.nodes);
+    let node = first_misnamed(&counts[..nodes]);
+    if node < nodes {
+        return Reading::Refused(Refusal {
+            fault: Fault::Orphan,
+            line: s.first + node,
+        });
+    }
+    let header = s.header;
+    Reading::Accepted(header)
+}

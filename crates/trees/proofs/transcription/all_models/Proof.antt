@@ -1,0 +1,113 @@
+-- `transcription::all_models` meets its contract. The loop's invariant: the buffer begins with the models of
+-- the places before `place`, the other words are as they were. Assumes nothing.
+use Prim.Native.Nat.{ℕ, _+_, _-_, _*_, _≤_}
+use native.Mathlib.Omega.{arith}
+use lib.ListN.{length}
+use borrow.Author.Needs.{needs}
+use Rattle.definitions.specs.Tables.{Book, tablesBook}
+use Rattle.tables.specs.Lending.{lentTables}
+use Rattle.trees.specs.laws.Models.{Placed, placed-start, room, placed-turn, placed-end}
+use Rattle.trees.proofs.transcription.all_models.Statement.{statement}
+use Rattle.trees.proofs.transcription.all_models.Tie as tie
+
+abbrev Inv-loop : tie.InvT-loop
+Inv-loop header nodes classes roots sequence models₀ states place₀ models place =
+    Placed (tablesBook header (lentTables nodes classes roots)) sequence models₀ place models
+
+abbrev μ-loop : tie.MeasureT-loop
+μ-loop header nodes classes roots sequence models₀ states place₀ models place = length sequence - place
+
+-- the entry, and the book in the tables
+abbrev entry : tie.After-wide Inv-loop μ-loop → tie.Start Inv-loop μ-loop
+entry c = c .before .before .before .before .before .before
+
+abbrev book : tie.Start Inv-loop μ-loop → Book
+book c =
+    let a = c .args in
+    tablesBook (a .header) (lentTables (a .nodes .now) (a .classes .now) (a .roots .now))
+
+-- the room of the place
+fits : (c : tie.In-loop Inv-loop μ-loop)
+    → c .before .loop .place * c .before .before .wide .result + c .before .before .wide .result
+    ≤ length (entry (c .before .before) .args .models .now)
+unfolding tablesBook
+fits c =
+    let start = entry (c .before .before) in
+    room (book start) (start .args .sequence .now) (start .args .models .now) (start .pre .2) _ _
+    (c .loop-test .taken) (c .before .before .wide .ensures)
+
+wide-requires : tie.Need-wide-requires Inv-loop μ-loop
+wide-requires c κs = search needs
+
+loop-holds : tie.Need-loop-holds Inv-loop μ-loop
+loop-holds c = placed-start _ _ _
+
+mul-from : tie.Need-mul-from Inv-loop μ-loop
+mul-from c = omega (arith, fits c)
+
+add-end : tie.Need-add-end Inv-loop μ-loop
+add-end c = omega (arith, fits c)
+
+mul-models-at : tie.Need-mul-models-at Inv-loop μ-loop
+mul-models-at c = omega (arith, fits c, entry (c .before .before) .good)
+
+sub-models-at : tie.Need-sub-models-at Inv-loop μ-loop
+sub-models-at c = omega arith
+
+part-models-at-start : tie.Need-part-models-at-start Inv-loop μ-loop
+part-models-at-start c = omega arith
+
+part-models-at-end : tie.Need-part-models-at-end Inv-loop μ-loop
+part-models-at-end c = omega (arith, fits c, c .before .loop .inv .sized)
+
+models-at-requires : tie.Need-models-at-requires Inv-loop μ-loop
+models-at-requires c κs =
+    let wide = c .before .before .before in
+    let p = entry wide .pre in
+    (p .0, p .1, c .before .loop-test .taken, omega (arith, c .models-at-arg .given, wide .wide .ensures))
+
+add-place : tie.Need-add-place Inv-loop μ-loop
+add-place c = search needs
+
+loop-less : tie.Need-loop-less Inv-loop μ-loop
+loop-less c = search needs
+
+loop-again : tie.Need-loop-again Inv-loop μ-loop
+unfolding tablesBook
+loop-again c =
+    let turn = c .before .before .before .before in
+    let wide = turn .before .before in
+    let a = entry wide .args in
+    let k : ℕ = wide .wide .result in
+    let i : ℕ = turn .before .loop .place in
+    placed-turn (book (entry wide)) (a .sequence .now) (a .models .now) (turn .before .loop .models) i
+    (turn .before .loop .inv) (entry wide .pre .2) (turn .loop-test .taken) k (i * k + k - i * k)
+    (wide .wide .ensures) (omega arith) _ (c .before .before .models-at .ensures)
+
+same-length : tie.Need-same-length Inv-loop μ-loop
+same-length c = search needs
+
+returns : tie.Need-returns Inv-loop μ-loop
+unfolding tablesBook
+returns c = placed-end _ _ _ _ _ (c .before .loop .inv) (c .loop-test .left)
+
+pub all-models-spec : {M : Type 1} → statement M
+all-models-spec =
+    tie.close
+    (tie.spec
+    Inv-loop
+    μ-loop
+    wide-requires
+    loop-holds
+    mul-from
+    add-end
+    mul-models-at
+    sub-models-at
+    part-models-at-start
+    part-models-at-end
+    models-at-requires
+    add-place
+    loop-less
+    loop-again
+    same-length
+    returns)

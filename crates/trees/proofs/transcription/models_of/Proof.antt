@@ -1,0 +1,92 @@
+-- `transcription::models_of` meets its contract. The loop's invariant: the words before `state` hold the
+-- models of their states, the others are as they were. Assumes nothing.
+use mathlib.Core.Path.{_≡_, sym, _∙_}
+use mathlib.Core.List.{List}
+use Prim.Native.Nat.{ℕ, _-_, _<_}
+use native.Mathlib.Omega.{arith}
+use lib.ListN.{length}
+use borrow.Author.Needs.{needs}
+use Rattle.definitions.specs.Tables.{tablesBook}
+use Rattle.tables.specs.Lending.{lentTables}
+use Rattle.trees.specs.Answers.{stateModels}
+use Rattle.trees.specs.laws.Filling.{Filled, fill-start, fill-turn, fill-end}
+use Rattle.trees.specs.laws.Models.{states-length, state-at}
+use Rattle.trees.proofs.transcription.models_of.Statement.{statement}
+use Rattle.trees.proofs.transcription.models_of.Tie as tie
+
+abbrev Inv-loop : tie.InvT-loop
+Inv-loop header nodes classes roots context models₀ state₀ models state =
+    Filled (stateModels (tablesBook header (lentTables nodes classes roots)) context) models₀ state models
+
+abbrev μ-loop : tie.MeasureT-loop
+μ-loop header nodes classes roots context models₀ state₀ models state = length models₀ - state
+
+-- the entry, and the target: a model for each word of the buffer
+abbrev entry : tie.At-loop Inv-loop μ-loop → tie.Start Inv-loop μ-loop
+entry c = c .before .before .before .before .before .before
+
+abbrev target : tie.Start Inv-loop μ-loop → List ℕ
+target c =
+    let a = c .args in
+    stateModels (tablesBook (a .header) (lentTables (a .nodes .now) (a .classes .now) (a .roots .now)))
+    (a .context .now)
+
+as-many : (c : tie.Start Inv-loop μ-loop) → length (target c) ≡ length (c .args .models .now)
+unfolding tablesBook
+as-many c = states-length _ _ ∙ sym (c .pre .2)
+
+loop-holds : tie.Need-loop-holds Inv-loop μ-loop
+loop-holds c = fill-start _ _
+
+add-model-of : tie.Need-add-model-of Inv-loop μ-loop
+add-model-of c = search needs
+
+model-of-requires : tie.Need-model-of-requires Inv-loop μ-loop
+model-of-requires c κs =
+    let p = entry (c .before) .pre in
+    (p .0, p .1, omega arith, omega (arith, p .2, c .loop-test .taken, c .before .loop .inv .sized))
+
+mul-models : tie.Need-mul-models Inv-loop μ-loop
+mul-models c = search needs
+
+slice-write-models : tie.Need-slice-write-models Inv-loop μ-loop
+slice-write-models c = search needs
+
+add-state : tie.Need-add-state Inv-loop μ-loop
+add-state c = search needs
+
+loop-less : tie.Need-loop-less Inv-loop μ-loop
+loop-less c = search needs
+
+loop-again : tie.Need-loop-again Inv-loop μ-loop
+unfolding tablesBook
+loop-again c =
+    let head = c .before .before in
+    let start = entry head in
+    let listed : head .loop .state < start .args .header .states =
+    omega (arith, start .pre .2, c .before .loop-test .taken, head .loop .inv .sized) in
+    fill-turn (as-many start) (head .loop .inv) (c .before .loop-test .taken)
+    (c .model-of .ensures ∙ state-at _ _ (head .loop .state) listed)
+
+same-length : tie.Need-same-length Inv-loop μ-loop
+same-length c = search needs
+
+returns : tie.Need-returns Inv-loop μ-loop
+returns c = fill-end (as-many (entry (c .before))) (c .before .loop .inv) (c .loop-test .left)
+
+pub models-of-spec : {M : Type 1} → statement M
+models-of-spec =
+    tie.close
+    (tie.spec
+    Inv-loop
+    μ-loop
+    loop-holds
+    add-model-of
+    model-of-requires
+    mul-models
+    slice-write-models
+    add-state
+    loop-less
+    loop-again
+    same-length
+    returns)

@@ -1,0 +1,162 @@
+-- `transcription::transcribe` meets its contract, test by test. Assumes nothing.
+use mathlib.Core.Path.{subst, _≡_, refl, sym, _∙_}
+use mathlib.Core.List.{List}
+use mathlib.Core.Bool.{true}
+use Prim.Native.Nat.{ℕ, _*_, _≤_, _<_}
+use native.Mathlib.Omega.{arith}
+use lib.ListN.{length}
+use borrow.Author.Tests.{not-true, not-false}
+use borrow.Author.Needs.{needs}
+use Rattle.definitions.specs.Tables.{Tables}
+use Rattle.definitions.specs.ForeignTables.{tablesKnown}
+use Rattle.definitions.specs.Transcription.{isUtterance}
+use Rattle.tables.specs.Lending.{lentTables}
+use Rattle.trees.specs.laws.Answering.{ends-foreign, ends-utterance, ends-short, ends-given, some-state}
+use Rattle.trees.specs.laws.Answering.{no-room, has-room, utterance-phones}
+use Rattle.trees.proofs.transcription.transcribe.Statement.{statement}
+use Rattle.trees.proofs.transcription.transcribe.Tie as tie
+
+-- where the code stands: its entry, and the buffer that was cleared
+abbrev entry : tie.After-tables-known → tie.Start
+entry c = c .before .before .before .before .before .before .before .before .before .before
+
+abbrev buffer : tie.After-tables-known → List ℕ
+buffer c = c .before .before .before .clear-words .last .0
+
+abbrev tables : tie.Start → Tables
+tables c = lentTables (c .args .nodes .now) (c .args .classes .now) (c .args .roots .now)
+
+-- the tables are known, and the sequence is an utterance
+known : (c : tie.Else1) → tablesKnown (entry (c .before) .args .header) (tables (entry (c .before))) ≡ true
+known c = sym (c .before .tables-known .ensures) ∙ not-false (c .before .tables-known .result) (c .if1 .left)
+
+abbrev judged : tie.Else2 → tie.After-tables-known
+judged c = c .before .before .before
+
+spoken : (c : tie.Else2)
+    → isUtterance (entry (judged c) .args .header .phones) (entry (judged c) .args .sequence .now) ≡ true
+spoken c = sym (c .before .is-utterance .ensures) ∙ not-false (c .before .is-utterance .result) (c .if2 .left)
+
+some : (c : tie.After-wide) → 0 < c .wide .result
+some c = omega (arith, some-state _ _ (known (c .before .before .before)), c .wide .ensures)
+
+-- the models have room
+room : (c : tie.Else3)
+    → length (entry (judged (c .before .before)) .args .sequence .now) * c .before .wide .result
+    ≤ length (buffer (judged (c .before .before)))
+room c = has-room _ _ _ (some (c .before)) (c .if3 .left)
+
+clear-words-requires : tie.Need-clear-words-requires
+clear-words-requires c κs = search needs
+
+tables-known-requires : tie.Need-tables-known-requires
+tables-known-requires c κs = search needs
+
+refuse-requires : tie.Need-refuse-requires
+refuse-requires c κs = search needs
+
+same-length : tie.Need-same-length
+same-length c = search needs
+
+returns : tie.Need-returns
+returns c =
+    let q = c .before .before in
+    let a = entry q .args in
+    ends-foreign (a .header) (tables (entry q)) (a .sequence .now) (length (a .models .now))
+    (c .refuse .result) (buffer q)
+    (sym (q .tables-known .ensures) ∙ not-true (q .tables-known .result) (c .before .if1 .taken))
+    (c .refuse .ensures) (q .before .before .before .clear-words .ensures)
+
+is-utterance-requires : tie.Need-is-utterance-requires
+is-utterance-requires c κs = search needs
+
+refuse-requires-2 : tie.Need-refuse-requires-2
+refuse-requires-2 c κs = search needs
+
+same-length-2 : tie.Need-same-length-2
+same-length-2 c = search needs
+
+returns-2 : tie.Need-returns-2
+returns-2 c =
+    let u = c .before .before .is-utterance in
+    let q = c .before .before .before .before in
+    let a = entry q .args in
+    ends-utterance (a .header) (tables (entry q)) (a .sequence .now) (length (a .models .now))
+    (c .refuse2 .result) (buffer q) (known (c .before .before .before))
+    (sym (u .ensures) ∙ not-true (u .result) (c .before .if2 .taken))
+    (c .refuse2 .ensures) (q .before .before .before .clear-words .ensures)
+
+wide-requires : tie.Need-wide-requires
+wide-requires c κs = search needs
+
+div-room : tie.Need-div-room
+div-room c = some c
+
+refuse-requires-3 : tie.Need-refuse-requires-3
+refuse-requires-3 c κs = search needs
+
+same-length-3 : tie.Need-same-length-3
+same-length-3 c = search needs
+
+returns-3 : tie.Need-returns-3
+returns-3 c =
+    let u = c .before .before .before in
+    let a = entry (judged u) .args in
+    let words = judged u .before .before .before .clear-words in
+    let n : ℕ = length (words .last .0) in
+    ends-short (a .header) (tables (entry (judged u))) (a .sequence .now) (length (a .models .now))
+    (c .refuse3 .result) (words .last .0) (known (u .before .before)) (spoken u) _ n
+    (c .before .before .wide .ensures) (words .kept .0)
+    (no-room (length (a .sequence .now)) n _ (some (c .before .before)) (c .before .if3 .taken))
+    (c .refuse3 .ensures) (words .ensures)
+
+all-models-requires : tie.Need-all-models-requires
+all-models-requires c κs =
+    let u = c .before .before .before in
+    let a = entry (judged u) .args in
+    let fits = subst (λ (n : ℕ). length (a .sequence .now) * n ≤ length (buffer (judged u)))
+    (c .before .before .wide .ensures) (room (c .before)) in
+    (rw (known (u .before .before)) tt, utterance-phones _ _ (rw (spoken u) tt), fits)
+
+mul-t20 : tie.Need-mul-t20
+mul-t20 c =
+    let q = judged (c .before .before .before .before .before .before) in
+    let fits = room (c .before .before .before .before) in
+    omega (arith, fits, q .before .before .before .clear-words .kept, entry q .good)
+
+same-length-4 : tie.Need-same-length-4
+same-length-4 c = search needs
+
+returns-4 : tie.Need-returns-4
+returns-4 c =
+    let u = c .before .before .before .before .before .before in
+    let a = entry (judged u) .args in
+    let words = judged u .before .before .before .clear-words in
+    let all = c .before .before .all-models in
+    ends-given (a .header) (tables (entry (judged u))) (a .sequence .now) (length (a .models .now)) _
+    (all .last .1 .1 .1 .1 .1 .0) (known (u .before .before)) (spoken u) _ (length (words .last .0))
+    (c .before .before .before .before .before .wide .ensures) (words .kept .0)
+    (room (c .before .before .before .before)) refl (words .last .0) (words .ensures) (all .ensures)
+
+pub transcribe-spec : {M : Type 1} → statement M
+transcribe-spec =
+    tie.close
+    (tie.spec
+    clear-words-requires
+    tables-known-requires
+    refuse-requires
+    same-length
+    returns
+    is-utterance-requires
+    refuse-requires-2
+    same-length-2
+    returns-2
+    wide-requires
+    div-room
+    refuse-requires-3
+    same-length-3
+    returns-3
+    all-models-requires
+    mul-t20
+    same-length-4
+    returns-4)

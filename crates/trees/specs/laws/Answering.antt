@@ -1,0 +1,160 @@
+-- Laws about the answers of the lookup and the transcription, one for each way that the code returns.
+use mathlib.Core.Path.{_≡_, refl, sym, ap, _∙_}
+use mathlib.Core.List.{List, _++_}
+use mathlib.Core.Bool.{Bool, true, false, _&&_, false≢true}
+use Prim.Native.Nat.{ℕ, zero, suc, _-_, _*_, _/_, _≤_, _<_}
+use native.Mathlib.Nat.{div-lt-iff-lt-mul, sub-zero}
+use native.Mathlib.Numerals.{unary-clauses}
+use native.Mathlib.Omega.{arith}
+use lib.Dec.{T, leb, ltb, eqb, ltb→lt}
+use lib.ListN.{length, drop}
+use borrow.Author.Tests.{le-leb, lt-leb, ltb-true, ltb-false}
+use Rattle.definitions.specs.declared.Header.{Header}
+use Rattle.definitions.specs.declared.Fault.{Fault}
+use Rattle.definitions.specs.declared.Fault.the-variants.{Foreign, Range, Utterance, Short}
+use Rattle.definitions.specs.declared.Refusal.{Refusal}
+use Rattle.definitions.specs.Faults.{refuse, judge, answerLeft}
+use Rattle.definitions.specs.Lists.{every, cleared, padded}
+use Rattle.definitions.specs.BookLines.{isPhone}
+use Rattle.definitions.specs.BookReading.{nodeSize}
+use Rattle.definitions.specs.Tables.{Tables, nodeRecords, tablesBook}
+use Rattle.definitions.specs.ForeignTables.{headerKnown, nodesKnown, holdsOnly, classTableKnown, tablesKnown}
+use Rattle.definitions.specs.Lookup.{leafReached, lookupKnown, isContext, leafLookup, leafLookupInTable}
+use Rattle.definitions.specs.TreesGive.{silentEnds}
+use Rattle.definitions.specs.Transcription.{transcription, isUtterance, transcribe}
+use Rattle.definitions.specs.laws.Tests.{T-three, by-test}
+use Rattle.trees.specs.declared.Lookup.the-variants as lookup
+use Rattle.trees.specs.declared.Transcript.{Transcript}
+use Rattle.trees.specs.declared.Transcript.the-variants as transcript
+use Rattle.trees.specs.Answers.{lookupOf, transcriptOf}
+use Rattle.trees.specs.laws.Nodes.{treeNodes}
+use Rattle.trees.specs.laws.Fitting.{classes-wide, tables-fit}
+use Rattle.trees.specs.laws.Models.{transcription-length}
+
+abbrev at-no-line : Fault → Refusal
+at-no-line fault = record { fault = fault; line = 0 }
+
+both : (a b : Bool) → (a && b) ≡ true → (a ≡ true) × (b ≡ true)
+both true b e = (refl, e)
+both false b e = absurd (false≢true e)
+
+-- ---- the lookup: 18, then 13
+
+module _ (header : Header) (nodes classes : List ℕ) (root : ℕ) (context : List ℕ) where
+  abbrev held : Bool
+  held = holdsOnly (nodeSize * header .nodes) nodes
+
+  abbrev known : Bool
+  known = lookupKnown header classes (nodeRecords header nodes) root
+
+  pub lookup-foreign : (held && known) ≡ false
+      → lookup.Refused (at-no-line Foreign) ≡ lookupOf (leafLookupInTable header classes nodes root context)
+  unfolding leafLookupInTable leafLookup judge lookupOf
+  lookup-foreign h =
+      by-test held (λ e. let other : known ≡ false = rw e at h in rw (e, other)) (λ e. rw e)
+
+  module _ (h : (held && known) ≡ true) where
+    pub lookup-range : isContext header context ≡ false
+        → lookup.Refused (at-no-line Range) ≡ lookupOf (leafLookupInTable header classes nodes root context)
+    unfolding leafLookupInTable leafLookup judge lookupOf
+    lookup-range e = let parts = both held known h in rw (parts .0, parts .1, e)
+
+    pub lookup-leaf : isContext header context ≡ true → (leaf : ℕ)
+        → leaf ≡ leafReached (treeNodes header nodes) classes context root
+        → lookup.Leaf leaf ≡ lookupOf (leafLookupInTable header classes nodes root context)
+    unfolding leafLookupInTable leafLookup judge lookupOf
+    lookup-leaf e leaf own = let parts = both held known h in rw (parts .0, parts .1, e, own)
+
+    -- what a walk asks of the tables
+    pub lookup-fits : T (headerKnown header) × T (nodesKnown header 0 (nodeRecords header nodes))
+        × (header .classes ≤ length classes) × (root < header .nodes)
+    unfolding lookupKnown
+    lookup-fits =
+        let all : T known = rw (both held known h .1) tt in
+        let counted : Bool = eqb (length (nodeRecords header nodes)) (header .nodes) in
+        let records : Bool = nodesKnown header 0 (nodeRecords header nodes) in
+        let last = T-three (headerKnown header && counted && records) (classTableKnown header classes)
+        (ltb root (header .nodes)) .0 all in
+        let first = T-three (headerKnown header) counted records .0 (last .0) in
+        (first .0, first .2, classes-wide header classes (last .1), ltb→lt _ _ (last .2))
+
+-- ---- the transcription: 18, then 41, then 33
+
+drop-cleared : (count size : ℕ) → drop count (cleared size) ≡ cleared (size - count)
+drop-cleared zero size = rw sub-zero
+drop-cleared (suc count) zero = let none : 0 - suc count ≡ 0 = omega arith in rw none
+drop-cleared (suc count) (suc size) = simp unary-clauses (drop-cleared count size)
+
+-- whether so many models have room, by a division that stays in range
+module _ (count words states : ℕ) (some : 0 < states) where
+  pub no-room : words / states < count → words < count * states
+  no-room h = div-lt-iff-lt-mul some .0 h
+
+  pub has-room : count ≤ words / states → count * states ≤ words
+  has-room h =
+      by-test (ltb words (count * states))
+      (λ t. absurd (omega (arith, div-lt-iff-lt-mul {x = words} {y = count} some .1 (ltb-true _ _ t))))
+      (λ t. ltb-false _ _ t)
+
+pub utterance-phones : (phones : ℕ) (S : List ℕ) → T (isUtterance phones S) → T (every (isPhone phones) S)
+unfolding isUtterance
+utterance-phones phones S u =
+    T-three (ltb 0 (length S)) (every (isPhone phones) S) (silentEnds S) .0 u .1
+
+pub some-state : (header : Header) (tables : Tables) → tablesKnown header tables ≡ true → 0 < header .states
+some-state header tables h = tables-fit header tables (rw h tt) .ranges .states-range .low
+
+module _ (header : Header) (tables : Tables) (S : List ℕ) (size : ℕ) (answer : Transcript) (left : List ℕ)
+  where
+    -- what the code answers and leaves in the buffer
+    abbrev Ends : Type 0
+    Ends =
+        (answer ≡ transcriptOf (transcribe header tables S size))
+        × (left ≡ answerLeft size (transcribe header tables S size))
+
+    ends-refused : (fault : Fault) → transcribe header tables S size ≡ refuse fault 0
+        → answer ≡ transcript.Refused (at-no-line fault) → left ≡ cleared size → Ends
+    unfolding transcriptOf answerLeft
+    ends-refused fault e a l = rw e (a, l)
+
+    pub ends-foreign : tablesKnown header tables ≡ false → answer ≡ transcript.Refused (at-no-line Foreign)
+        → left ≡ cleared size → Ends
+    unfolding transcribe judge
+    ends-foreign h a l = ends-refused Foreign (rw h) a l
+
+    module _ (h : tablesKnown header tables ≡ true) where
+      pub ends-utterance : isUtterance (header .phones) S ≡ false
+          → answer ≡ transcript.Refused (at-no-line Utterance) → left ≡ cleared size → Ends
+      unfolding transcribe judge
+      ends-utterance u a l = ends-refused Utterance (rw (h, u)) a l
+
+      module _ (u : isUtterance (header .phones) S ≡ true) (states words : ℕ) (e : states ≡ header .states)
+          (w : words ≡ size)
+        where
+          abbrev models : List ℕ
+          models = transcription (tablesBook header tables) S
+
+          own-length : length models ≡ length S * header .states
+          unfolding tablesBook
+          own-length = transcription-length (tablesBook header tables) S
+
+          models-length : length models ≡ length S * states
+          models-length = own-length ∙ ap (λ (n : ℕ). length S * n) (sym e)
+
+          pub ends-short : words < length S * states → answer ≡ transcript.Refused (at-no-line Short)
+              → left ≡ cleared size → Ends
+          unfolding transcribe judge
+          ends-short r a l =
+              let full : leb (length models) size ≡ false =
+              lt-leb (length models) size (omega (arith, models-length)) in
+              ends-refused Short (rw (h, u, full)) a l
+
+          pub ends-given : length S * states ≤ words → answer ≡ transcript.Models (length S * states)
+              → (d : List ℕ) → d ≡ cleared size → left ≡ models ++ drop (length S * header .states) d → Ends
+          unfolding transcribe judge transcriptOf answerLeft padded
+          ends-given r a d k l =
+              let fits : leb (length models) size ≡ true =
+              le-leb (length models) size (omega (arith, models-length)) in
+              let rest : drop (length S * header .states) d ≡ cleared (size - length models) =
+              rw (k, own-length) (drop-cleared (length S * header .states) size) in
+              rw (h, u, fits) (a ∙ rw models-length, l ∙ ap (λ (m : List ℕ). models ++ m) rest)

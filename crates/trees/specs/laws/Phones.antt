@@ -1,0 +1,63 @@
+-- Laws about the tests of a phone, of a context and of an utterance, one for each answer of the code.
+use mathlib.Core.Path.{_≡_}
+use mathlib.Core.List.{List}
+use mathlib.Core.Bool.{true, false}
+use Prim.Native.Nat.{ℕ, _+_, _-_, _*_, _≤_, _<_}
+use native.Mathlib.Omega.{arith}
+use lib.Dec.{eqb}
+use lib.ListN.{length}
+use borrow.Author.Tests.{lt-ltb, le-ltb, le-leb, lt-leb, eq-eqb, ne-eqb}
+use Rattle.definitions.specs.declared.Header.{Header}
+use Rattle.definitions.specs.Lists.{_!_, every}
+use Rattle.definitions.specs.BookLines.{isPhone}
+use Rattle.definitions.specs.Lookup.{isContext}
+use Rattle.definitions.specs.TreesGive.{silentEnds}
+use Rattle.definitions.specs.Transcription.{isUtterance}
+
+-- ---- one number: a phone of the book or not
+
+module _ (phones p : ℕ) where
+  pub too-low : p < 1 → isPhone phones p ≡ false
+  unfolding isPhone
+  too-low l = rw (lt-leb 1 p l)
+
+  pub too-high : 1 ≤ p → phones < p → isPhone phones p ≡ false
+  unfolding isPhone
+  too-high l h = rw (le-leb 1 p l, lt-leb p phones h)
+
+  pub a-phone : 1 ≤ p → p ≤ phones → isPhone phones p ≡ true
+  unfolding isPhone
+  a-phone l h = rw (le-leb 1 p l, le-leb p phones h)
+
+-- ---- a context: its width, then its phones
+
+module _ (header : Header) (context : List ℕ) where
+  pub other-width : (length context ≡ 2 * header .half + 1 → ⊥) → isContext header context ≡ false
+  unfolding isContext
+  other-width n = rw (ne-eqb (length context) (2 * header .half + 1) n)
+
+  pub by-phones : length context ≡ 2 * header .half + 1
+      → isContext header context ≡ every (isPhone (header .phones)) context
+  unfolding isContext
+  by-phones e = rw (eq-eqb (length context) (2 * header .half + 1) e)
+
+-- ---- an utterance: a phone, phones alone, silence first, silence last
+
+module _ (phones : ℕ) (S : List ℕ) where
+  pub no-phone : length S ≡ 0 → isUtterance phones S ≡ false
+  unfolding isUtterance
+  no-phone e = rw (le-ltb 0 (length S) (omega arith))
+
+  module _ (some-phone : 0 < length S) where
+    pub other-phones : every (isPhone phones) S ≡ false → isUtterance phones S ≡ false
+    unfolding isUtterance
+    other-phones e = rw (lt-ltb 0 (length S) some-phone, e)
+
+    module _ (all : every (isPhone phones) S ≡ true) where
+      pub other-start : (S ! 0 ≡ 1 → ⊥) → isUtterance phones S ≡ false
+      unfolding isUtterance silentEnds
+      other-start n = rw (lt-ltb 0 (length S) some-phone, all, ne-eqb (S ! 0) 1 n)
+
+      pub by-end : S ! 0 ≡ 1 → isUtterance phones S ≡ eqb (S ! (length S - 1)) 1
+      unfolding isUtterance silentEnds
+      by-end e = rw (lt-ltb 0 (length S) some-phone, all, eq-eqb (S ! 0) 1 e)

@@ -1,0 +1,205 @@
+// The models of a phone sequence, by lent tables: 18, then 41, then 33.
+use crate::Transcript;
+use crate::contexts::fill_context;
+use crate::contexts::is_utterance;
+use crate::walking::walk;
+use definitions::Fault;
+use definitions::Header;
+use definitions::Refusal;
+use definitions::wide;
+use lines::clearing::clear_words;
+use tables::foreign::tables_known;
+use tables::records::node_at;
+ghost use mathlib.Core.List.{[], _++_};
+ghost use mathlib.Core.Path.{_≡_};
+ghost use Prim.Native.Nat.{_+_, _-_, _*_, _≤_, _<_};
+ghost use lib.Dec.{T};
+ghost use lib.ListN.{length, take, drop, getD};
+ghost use Rattle.definitions.specs.BookLines.{isPhone, rootCount};
+ghost use Rattle.definitions.specs.Faults.{answerLeft};
+ghost use Rattle.definitions.specs.ForeignTables.{headerKnown, rootTableKnown, tablesKnown};
+ghost use Rattle.definitions.specs.Lists.{_!_, every};
+ghost use Rattle.definitions.specs.Lookup.{isContext};
+ghost use Rattle.definitions.specs.Tables.{tablesBook};
+ghost use Rattle.definitions.specs.Transcription.{modelOf, transcription, transcribe};
+ghost use Rattle.definitions.specs.TreesGive.{contexts};
+ghost use Rattle.tables.specs.Lending.{lentTables};
+ghost use Rattle.trees.specs.Answers.{stateModels, transcriptOf};
+
+// The root of a phone's tree for a state.
+fn root_of(header: Header, roots: &[u32], phone: usize, state: usize) -> u32
+    requires { ⌜
+        T (headerKnown header) × T (rootTableKnown header (now roots))
+        × (1 ≤ phone) × (phone ≤ header .phones) × (1 ≤ state) × (state ≤ header .states)
+        ⌝ }
+    ensures { λ r. ⌜
+        (r ≡ take (rootCount header) (now (roots .entry)) ! ((phone - 1) * header .states + (state - 1)))
+        × (r < header .nodes)
+        ⌝ }
+{
+    let states = wide(header.states);
+    let tree = (phone - 1) * states + (state - 1);
+    roots[tree]
+}
+
+// The model of the leaf that a context reaches in the tree of its own phone, for a state.
+fn model_of(
+    header: Header,
+    nodes: &[u32],
+    classes: &[u64],
+    roots: &[u32],
+    context: &[u32],
+    state: usize,
+) -> u32
+    requires { ⌜
+        T (tablesKnown header (lentTables (now nodes) (now classes) (now roots)))
+        × T (isContext header (now context)) × (1 ≤ state) × (state ≤ header .states)
+        ⌝ }
+    ensures { λ r. ⌜
+        r ≡ modelOf
+        (tablesBook header (lentTables (now (nodes .entry)) (now (classes .entry)) (now (roots .entry))))
+        (now (context .entry)) state
+        ⌝ }
+{
+    let half = wide(header.half);
+    let phone = context[half];
+    let root = root_of(header, roots, wide(phone), state);
+    let count = wide(header.classes);
+    let leaf = walk(header, nodes, &classes[..count], context, root);
+    let record = node_at(nodes, leaf);
+    record.value
+}
+
+// The models of a context, the states ascending.
+fn models_of(
+    header: Header,
+    nodes: &[u32],
+    classes: &[u64],
+    roots: &[u32],
+    context: &[u32],
+    models: &mut [u32],
+)
+    requires { ⌜
+        T (tablesKnown header (lentTables (now nodes) (now classes) (now roots)))
+        × T (isContext header (now context)) × (length (now models) ≡ header .states)
+        ⌝ }
+    ensures { λ r. ⌜
+        now (models .exit) ≡ stateModels
+        (tablesBook header (lentTables (now (nodes .entry)) (now (classes .entry)) (now (roots .entry))))
+        (now (context .entry))
+        ⌝ }
+{
+    let mut state = 0;
+    while state < models.len() {
+        models[state] = model_of(header, nodes, classes, roots, context, state + 1);
+        state += 1;
+    }
+}
+
+// The models of the phone at a place.
+fn models_at(
+    header: Header,
+    nodes: &[u32],
+    classes: &[u64],
+    roots: &[u32],
+    sequence: &[u32],
+    place: usize,
+    models: &mut [u32],
+)
+    requires { ⌜
+        T (tablesKnown header (lentTables (now nodes) (now classes) (now roots)))
+        × T (every (isPhone (header .phones)) (now sequence)) × (place < length (now sequence))
+        × (length (now models) ≡ header .states)
+        ⌝ }
+    ensures { λ r. ⌜
+        now (models .exit) ≡ stateModels
+        (tablesBook header (lentTables (now (nodes .entry)) (now (classes .entry)) (now (roots .entry))))
+        (getD (contexts (header .half) (now (sequence .entry))) place [])
+        ⌝ }
+{
+    let half = wide(header.half);
+    let width = 2 * half + 1;
+    let mut window = [1u32; 7];
+    fill_context(sequence, half, place, &mut window[..width]);
+    models_of(header, nodes, classes, roots, &window[..width], models);
+}
+
+// The models of all places in order, from the front of the buffer.
+fn all_models(
+    header: Header,
+    nodes: &[u32],
+    classes: &[u64],
+    roots: &[u32],
+    sequence: &[u32],
+    models: &mut [u32],
+)
+    requires { ⌜
+        T (tablesKnown header (lentTables (now nodes) (now classes) (now roots)))
+        × T (every (isPhone (header .phones)) (now sequence))
+        × (length (now sequence) * header .states ≤ length (now models))
+        ⌝ }
+    ensures { λ r. ⌜
+        now (models .exit) ≡ transcription
+        (tablesBook header (lentTables (now (nodes .entry)) (now (classes .entry)) (now (roots .entry))))
+        (now (sequence .entry)) ++ drop (length (now (sequence .entry)) * header .states) (now (models .entry))
+        ⌝ }
+{
+    let states = wide(header.states);
+    let mut place = 0;
+    while place < sequence.len() {
+        let from = place * states;
+        let end = from + states;
+        models_at(
+            header,
+            nodes,
+            classes,
+            roots,
+            sequence,
+            place,
+            &mut models[from..end],
+        );
+        place += 1;
+    }
+}
+
+fn refuse(fault: Fault) -> Transcript
+    ensures { λ r. ⌜ r ≡ Transcript.Refused (record { fault = fault; line = 0 }) ⌝ }
+{
+    Transcript::Refused(Refusal { fault, line: 0 })
+}
+
+// The models that the trees give to a phone sequence, and 0 in the rest of the buffer.
+pub fn transcribe(
+    header: Header,
+    nodes: &[u32],
+    classes: &[u64],
+    roots: &[u32],
+    sequence: &[u32],
+    models: &mut [u32],
+) -> Transcript
+    ensures answer { λ r. ⌜
+        r ≡ transcriptOf (transcribe header
+        (lentTables (now (nodes .entry)) (now (classes .entry)) (now (roots .entry))) (now (sequence .entry))
+        (length (now (models .entry))))
+        ⌝ }
+    ensures leaves { λ r. ⌜
+        now (models .exit) ≡ answerLeft (length (now (models .entry))) (transcribe header
+        (lentTables (now (nodes .entry)) (now (classes .entry)) (now (roots .entry))) (now (sequence .entry))
+        (length (now (models .entry))))
+        ⌝ }
+{
+    clear_words(models);
+    if !tables_known(header, nodes, classes, roots) {
+        return refuse(Fault::Foreign);
+    }
+    if !is_utterance(header.phones, sequence) {
+        return refuse(Fault::Utterance);
+    }
+    let states = wide(header.states);
+    let room = models.len() / states;
+    if room < sequence.len() {
+        return refuse(Fault::Short);
+    }
+    all_models(header, nodes, classes, roots, sequence, models);
+    Transcript::Models(sequence.len() * states)
+}

@@ -1,0 +1,72 @@
+// The walk from a root to the leaf that a context reaches.
+use definitions::Header;
+use definitions::Node;
+use definitions::wide;
+use tables::records::node_at;
+ghost use mathlib.Core.List.{map};
+ghost use mathlib.Core.Path.{_≡_};
+ghost use Prim.Native.Nat.{_+_, _*_, _≤_, _<_};
+ghost use lib.Dec.{T};
+ghost use lib.ListN.{length, drop};
+ghost use Rattle.definitions.specs.BookReading.{nodeSize};
+ghost use Rattle.definitions.specs.ForeignTables.{headerKnown, nodesKnown};
+ghost use Rattle.definitions.specs.Lists.{_!_, if_then_else_};
+ghost use Rattle.definitions.specs.Lookup.{holdsAt, leafReached, isContext};
+ghost use Rattle.definitions.specs.PhoneSets.{has};
+ghost use Rattle.definitions.specs.Tables.{nodeOf, nodeRecords, treeNode};
+
+// Whether a set has a phone: the bit worth 2^(phone-1).
+fn has_phone(set: u64, phone: u32) -> bool
+    requires { ⌜ (1 ≤ phone) × (phone ≤ 64) ⌝ }
+    ensures { λ r. ⌜ r ≡ has phone set ⌝ }
+{
+    let bit = (set >> (phone - 1)) & 1;
+    bit == 1
+}
+
+// The child of a question that a context goes to.
+fn child_of(node: Node, classes: &[u64], context: &[u32]) -> u32
+    requires { ⌜
+        (1 ≤ node .value) × (node .value ≤ length (now classes)) × (node .position < length (now context))
+        × (1 ≤ now context ! node .position) × (now context ! node .position ≤ 64)
+        ⌝ }
+    ensures { λ r. ⌜
+        r ≡ (if holdsAt (now (classes .entry)) (node .value) (node .position) (now (context .entry))
+        then node .yes else node .no)
+        ⌝ }
+{
+    let class = wide(node.value) - 1;
+    let position = wide(node.position);
+    if has_phone(classes[class], context[position]) {
+        return node.yes;
+    }
+    node.no
+}
+
+// The leaf that a context reaches from a root. Children are greater than their node, so the walk ends within
+// as many steps as there are nodes.
+pub fn walk(header: Header, nodes: &[u32], classes: &[u64], context: &[u32], root: u32) -> u32
+    requires { ⌜
+        T (headerKnown header) × T (nodesKnown header 0 (nodeRecords header (now nodes)))
+        × (header .classes ≤ length (now classes)) × T (isContext header (now context))
+        × (root < header .nodes)
+        ⌝ }
+    ensures { λ r. ⌜
+        (r ≡ leafReached (map treeNode (nodeRecords header (now (nodes .entry)))) (now (classes .entry))
+        (now (context .entry)) root)
+        × (r < header .nodes)
+        × (nodeOf (drop (nodeSize * r) (now (nodes .entry))) .kind ≡ 1 → ⊥)
+        ⌝ }
+{
+    let mut node = root;
+    let mut steps = 0;
+    while steps < header.nodes {
+        let record = node_at(nodes, node);
+        if record.kind != 1 {
+            return node;
+        }
+        node = child_of(record, classes, context);
+        steps += 1;
+    }
+    node
+}
