@@ -1,0 +1,90 @@
+// One book: what reading answers and leaves, and then its trees.
+use crate::answers::print_refusal;
+use crate::printing::print;
+use crate::printing::print_number;
+use crate::printing::print_sets;
+use crate::printing::print_words;
+use crate::sequences::show_trees;
+use crate::strangers::show_foreign;
+use book::Reading;
+use book::reader::read;
+use definitions::Header;
+
+fn print_header(header: Header) {
+    print(b"  header");
+    print_number(header.half as u64);
+    print_number(header.states as u64);
+    print_number(header.phones as u64);
+    print_number(header.classes as u64);
+    print_number(header.nodes as u64);
+    print(b"\n");
+}
+
+fn print_tables(nodes: &[u32], classes: &[u64], roots: &[u32]) {
+    print(b"  nodes");
+    print_words(nodes);
+    print(b"\n  classes");
+    print_sets(classes);
+    print(b"\n  roots");
+    print_words(roots);
+    print(b"\n");
+}
+
+fn words_cleared(words: &[u32]) -> bool {
+    let mut i = 0;
+    while i < words.len() {
+        if words[i] != 0 {
+            return false;
+        }
+        i += 1;
+    }
+    true
+}
+
+fn sets_cleared(sets: &[u64]) -> bool {
+    let mut i = 0;
+    while i < sets.len() {
+        if sets[i] != 0 {
+            return false;
+        }
+        i += 1;
+    }
+    true
+}
+
+// Whether a refusal left the tables cleared.
+fn print_cleared(nodes: &[u32], classes: &[u64], roots: &[u32]) {
+    if words_cleared(nodes) {
+        print(b", nodes");
+    }
+    if sets_cleared(classes) {
+        print(b", classes");
+    }
+    if words_cleared(roots) {
+        print(b", roots");
+    }
+    print(b" cleared\n");
+}
+
+// Reads a book into tables for ten nodes and two words, three classes and seven roots, where something stood before.
+pub fn show_case(title: &[u8], text: &[u8]) {
+    let mut nodes = [7u32; 52];
+    let mut classes = [7u64; 3];
+    let mut roots = [7u32; 7];
+    print(b"=");
+    print(title);
+    print(b":");
+    match read(text, &mut nodes, &mut classes, &mut roots) {
+        Reading::Accepted(header) => {
+            print(b" accepted\n");
+            print_header(header);
+            print_tables(&nodes, &classes, &roots);
+            show_trees(header, &nodes, &classes, &roots);
+            show_foreign(header, &mut nodes, &mut classes, &mut roots);
+        }
+        Reading::Refused(refusal) => {
+            print_refusal(refusal);
+            print_cleared(&nodes, &classes, &roots);
+        }
+    }
+}
