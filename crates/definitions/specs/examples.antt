@@ -2,5 +2,6 @@ pub mod Everything
 pub mod Example
 pub mod Starred
 pub mod Refusals
+pub mod LentTables
 pub mod Meaning
 pub mod Applied
