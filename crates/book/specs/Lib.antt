@@ -1,3 +1,4 @@
+-- What the reader keeps, stores and answers, and the laws about it.
 pub mod Entries
 pub mod States
 pub mod Storing

@@ -1,4 +1,5 @@
--- What the code keeps of the lines it has taken, the tests it puts to the next line by it, and the state after that line.
+-- What the code keeps of the lines it has taken, the tests it puts to the next line by it, and the state after
+-- that line.
 use mathlib.Core.List.{List, [], _∷_}
 use mathlib.Core.Bool.{Bool, true, _&&_}
 use Prim.Native.Nat.{ℕ, suc, _+_, _/_, _%_, _≤_, _<_}

@@ -7,10 +7,10 @@ use Rattle.definitions.specs.declared.Node.{Node}
 use Rattle.definitions.specs.Lists.{_!_, concatMap, padded}
 use Rattle.definitions.specs.PhoneSets.{alone}
 use Rattle.definitions.specs.BookLines.{BookLine, H, Q, N, L, R, question, leaf, headerOf, membersOf}
-use Rattle.definitions.specs.BookLines.{nodesOf, rootsOf, childrenOf}
+use Rattle.definitions.specs.BookLines.{nodesOf, rootsOf}
 use Rattle.definitions.specs.BookReading.{Lent, nodeSize}
 use Rattle.definitions.specs.Tables.{nodeWords, classSets}
-use Rattle.tables.specs.Naming.{countsOf, namedAll}
+use Rattle.tables.specs.Naming.{allNames, countsOf, namedAll}
 
 -- words put into a table from a place on
 unfoldable pub putAt : (at : ℕ) → (words table : List ℕ) → List ℕ
@@ -78,7 +78,7 @@ rootsStored lent before = padded (lent .roots) (rootsOf before)
 
 -- the nodes that they name, as children and as roots
 unfoldable pub namesOf : (before : List BookLine) → List ℕ
-namesOf before = concatMap childrenOf (nodesOf before) ++ rootsOf before
+namesOf before = allNames (nodesOf before) (rootsOf before)
 
 -- "how often each of up to 4096 nodes was named"
 unfoldable pub countsStored : (before : List BookLine) → List ℕ

@@ -1,3 +1,4 @@
+-- The laws of this crate, from a line and its tests to the whole reading.
 pub mod Numbers
 pub mod Rows
 pub mod Judged

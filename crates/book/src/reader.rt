@@ -1,4 +1,5 @@
-// Reading a tree book: its header, and its nodes, classes and roots in lent tables; or the refusal, and the tables cleared.
+// Reading a tree book: its header, and its nodes, classes and roots in lent tables; or the refusal, and the
+// tables cleared.
 use crate::Reading;
 use crate::Step;
 use crate::states::no_lines;
@@ -20,7 +21,8 @@ ghost use Rattle.book.specs.Taking.{Cleared, ClearedFrom, Read};
 fn read_lines(text: &[u8], nodes: &mut [u32], classes: &mut [u64], roots: &mut [u32]) -> Reading
     requires { ⌜ Cleared (now nodes) (now classes) (now roots) ⌝ }
     ensures answer { λ r. ⌜
-        r ≡ readingOf (readBook (lengthsOf (now (nodes .entry)) (now (classes .entry)) (now (roots .entry))) (now (text .entry)))
+        r ≡ readingOf (readBook (lengthsOf (now (nodes .entry)) (now (classes .entry)) (now (roots .entry)))
+        (now (text .entry)))
         ⌝ }
     ensures tables { λ r. ⌜
         Read (lengthsOf (now (nodes .entry)) (now (classes .entry)) (now (roots .entry))) (now (text .entry))
@@ -56,8 +58,8 @@ fn read_lines(text: &[u8], nodes: &mut [u32], classes: &mut [u64], roots: &mut [
 // Clears the three tables.
 fn clear_tables(nodes: &mut [u32], classes: &mut [u64], roots: &mut [u32])
     ensures { λ r. ⌜
-        ClearedFrom (now (nodes .entry)) (now (classes .entry)) (now (roots .entry)) (now (nodes .exit)) (now (classes .exit))
-        (now (roots .exit))
+        ClearedFrom (now (nodes .entry)) (now (classes .entry)) (now (roots .entry))
+        (now (nodes .exit)) (now (classes .exit)) (now (roots .exit))
         ⌝ }
 {
     clear_words(nodes);
@@ -68,12 +70,14 @@ fn clear_tables(nodes: &mut [u32], classes: &mut [u64], roots: &mut [u32])
 // Reads a tree book.
 pub fn read(text: &[u8], nodes: &mut [u32], classes: &mut [u64], roots: &mut [u32]) -> Reading
     ensures answer { λ r. ⌜
-        r ≡ readingOf (readBook (lengthsOf (now (nodes .entry)) (now (classes .entry)) (now (roots .entry))) (now (text .entry)))
+        r ≡ readingOf (readBook (lengthsOf (now (nodes .entry)) (now (classes .entry)) (now (roots .entry)))
+        (now (text .entry)))
         ⌝ }
     ensures tables { λ r. ⌜
         lentTables (now (nodes .exit)) (now (classes .exit)) (now (roots .exit))
         ≡ tablesLeft (lengthsOf (now (nodes .entry)) (now (classes .entry)) (now (roots .entry)))
-        (readBook (lengthsOf (now (nodes .entry)) (now (classes .entry)) (now (roots .entry))) (now (text .entry)))
+        (readBook (lengthsOf (now (nodes .entry)) (now (classes .entry)) (now (roots .entry)))
+        (now (text .entry)))
         ⌝ }
 {
     clear_tables(nodes, classes, roots);

@@ -1,3 +1,4 @@
+-- The definitions of document 01, the laws about them, and the theorems.
 pub mod Lists
 pub mod Faults
 pub mod Numerals

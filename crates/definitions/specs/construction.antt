@@ -1,3 +1,4 @@
+-- The construction of a network: its table of metastates, turn by turn, up to a finished build.
 pub mod Table
 pub mod Performing
 pub mod Turning

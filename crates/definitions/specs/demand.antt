@@ -1,3 +1,4 @@
+-- Demand 3: the whole path theorem, step by step.
 pub mod Windows
 pub mod Chains
 pub mod TreeWindows

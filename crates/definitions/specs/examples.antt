@@ -1,3 +1,4 @@
+-- Examples and the starred cases of document 01.
 pub mod Everything
 pub mod Example
 pub mod Starred

@@ -1,3 +1,4 @@
+-- Graphs: accepting paths, and what they carry.
 pub mod Graph
 pub mod ArcPaths
 pub mod Arcs

@@ -1,3 +1,4 @@
+-- The laws about the definitions.
 pub mod Tests
 pub mod Lists
 pub mod Members

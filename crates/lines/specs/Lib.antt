@@ -1,3 +1,4 @@
+-- What rows, places, entries and writing mean, and the laws about them.
 pub mod Rows
 pub mod Places
 pub mod Entries

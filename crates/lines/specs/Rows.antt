@@ -1,4 +1,5 @@
--- What a row of the code means: the line of document 01 that it holds, and what the parser and the writer answer.
+-- What a row of the code means: the line of document 01 that it holds, and what the parser and the writer
+-- answer.
 use mathlib.Core.List.{List, [], _++_}
 use mathlib.Core.Bool.{Bool, true, false, _&&_}
 use mathlib.Core.Option.{Option, none, some}
@@ -40,10 +41,10 @@ unfoldable pub parsedOf : Option Line → Parsed
 parsedOf none = record { formed = false; row = rowOf (record { letter = 0; numbers = [] }) }
 parsedOf (some line) = record { formed = true; row = rowOf line }
 
--- a line that has 32 bytes when it is written: five fields or fewer, each number of at most six digits
+-- a row that fits a line: at most five numbers, each of at most six digits
 unfoldable pub writable : Row → Bool
 writable row = leb (row .used) 5 && every (λ n. leb n 999999) (lineIn row .numbers)
 
--- what writing leaves in a buffer: the line before the rest of it, or the buffer as it was
+-- a buffer after a row was written: the line, then what stood beyond its 32 bytes
 unfoldable pub written : Row → List ℕ → List ℕ
 written row bytes = lineText (lineIn row) ++ drop 32 bytes

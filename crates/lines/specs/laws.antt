@@ -1,3 +1,5 @@
+-- The laws of this crate: loops, the tables of letters, then reading and writing a line.
+pub mod Passing
 pub mod Filling
 pub mod Tables
 pub mod Fields

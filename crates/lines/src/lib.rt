@@ -1,5 +1,5 @@
-// The line of 32 bytes that tree books and network text share: read by the table of its letter, and written; and the
-// clearing of lent buffers.
+// The line of 32 bytes that tree books and network text share: read by the table of its letter, and written;
+// and the clearing of lent buffers.
 pub mod clearing;
 mod fields;
 mod forms;

@@ -105,7 +105,9 @@ fn is_writable(row: Row) -> bool
 // buffer is shorter or the row does not fit a line.
 pub fn write(row: Row, bytes: &mut [u8]) -> bool
     ensures answer { λ r. ⌜ r ≡ (leb 32 (length (now (bytes .entry))) && writable row) ⌝ }
-    ensures leaves { λ r. ⌜ now (bytes .exit) ≡ (if r then written row (now (bytes .entry)) else now (bytes .entry)) ⌝ }
+    ensures leaves { λ r. ⌜
+        now (bytes .exit) ≡ (if r then written row (now (bytes .entry)) else now (bytes .entry))
+        ⌝ }
 {
     if bytes.len() < 32 {
         return false;

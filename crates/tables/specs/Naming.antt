@@ -1,10 +1,15 @@
 -- How often nodes are named: the counts that the code keeps, and the names that they count.
-use mathlib.Core.List.{List, [], _∷_, map}
+use mathlib.Core.List.{List, [], _∷_, _++_, map}
 use mathlib.Core.Bool.{_&&_}
 use Prim.Native.Nat.{ℕ, suc}
 use lib.Dec.{ltb, eqb}
 use lib.ListN.{length, set}
-use Rattle.definitions.specs.Lists.{if_then_else_, _!_, upFrom, occurrences}
+use Rattle.definitions.specs.Lists.{if_then_else_, _!_, concatMap, upFrom, occurrences}
+use Rattle.definitions.specs.BookLines.{TreeNode, childrenOf}
+
+-- the names that stand in nodes, as their children, and in roots
+abbrev pub allNames : List TreeNode → (roots : List ℕ) → List ℕ
+allNames nodes roots = concatMap childrenOf nodes ++ roots
 
 -- how often each of the nodes 0, 1, .. is named in a list of names
 unfoldable pub countsOf : (nodes : ℕ) → (names : List ℕ) → List ℕ

@@ -1,5 +1,5 @@
+-- The laws of this crate: phones, nodes, walks, models, and what the transcription gives.
 pub mod Phones
-pub mod Filling
 pub mod Nodes
 pub mod Walking
 pub mod Fitting

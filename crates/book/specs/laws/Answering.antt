@@ -1,4 +1,4 @@
--- The whole entry: tables cleared, the lines read, and the tables cleared again at a refusal.
+-- Laws about the whole entry: tables cleared, the lines read, and the tables cleared again at a refusal.
 use mathlib.Core.Path.{_≡_, refl, sym, ap, _∙_, subst}
 use mathlib.Core.List.{List}
 use Prim.Native.Nat.{ℕ}
@@ -33,7 +33,7 @@ module _ {nodes classes roots nodes′ classes′ roots′ : List ℕ}
       roots-clear = clear-itself roots roots′ (c .roots-clear);
     }
 
-    pub clear-lengths : lengthsOf nodes′ classes′ roots′ ≡ lengthsOf nodes classes roots
+    clear-lengths : lengthsOf nodes′ classes′ roots′ ≡ lengthsOf nodes classes roots
     clear-lengths =
         rw (
           clear-length nodes nodes′ (c .nodes-clear),
@@ -70,9 +70,11 @@ refused-left lent text refusal a = by (readBook lent text) refl
     by (refused other) e = rw e refl
 
 -- reading into tables that were cleared from the lent ones
-module _ {nodes classes roots nodes₁ classes₁ roots₁ : List ℕ} (c : ClearedFrom nodes classes roots nodes₁ classes₁ roots₁)
-    {text : List ℕ} {answer : Reading} (a : answer ≡ readingOf (readBook (lengthsOf nodes₁ classes₁ roots₁) text))
-    {nodes₂ classes₂ roots₂ : List ℕ} (r : Read (lengthsOf nodes₁ classes₁ roots₁) text nodes₂ classes₂ roots₂)
+module _ {nodes classes roots nodes₁ classes₁ roots₁ : List ℕ}
+    (c : ClearedFrom nodes classes roots nodes₁ classes₁ roots₁) {text : List ℕ} {answer : Reading}
+    (a : answer ≡ readingOf (readBook (lengthsOf nodes₁ classes₁ roots₁) text))
+    {nodes₂ classes₂ roots₂ : List ℕ}
+    (r : Read (lengthsOf nodes₁ classes₁ roots₁) text nodes₂ classes₂ roots₂)
   where
     read-answer : answer ≡ readingOf (readBook (lengthsOf nodes classes roots) text)
     read-answer = a ∙ ap (λ (lent : Lent). readingOf (readBook lent text)) (clear-lengths c)

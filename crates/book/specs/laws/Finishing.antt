@@ -2,7 +2,7 @@
 -- The idea: the first count that is not 1 is that of the first orphan, and the node lines stand together, so
 -- that node's line is as far from the first node's line.
 use mathlib.Core.Path.{_≡_, refl, sym}
-use mathlib.Core.List.{List, [], _∷_}
+use mathlib.Core.List.{List, []}
 use Prim.Native.Nat.{ℕ, suc, _+_, _≤_, _<_}
 use native.Mathlib.Numerals.{add-one}
 use native.Mathlib.Omega.{arith}
@@ -10,7 +10,7 @@ use lib.Dec.{ltb}
 use lib.ListN.{length, take}
 use borrow.Author.Tests.{ltb-true, ltb-false}
 use Rattle.definitions.specs.declared.Fault.the-variants.{Orphan, Count}
-use Rattle.definitions.specs.Lists.{if_then_else_, concatMap}
+use Rattle.definitions.specs.Lists.{if_then_else_}
 use Rattle.definitions.specs.Faults.{answered, refuse, judge}
 use Rattle.definitions.specs.Reading.{readFrom}
 use Rattle.definitions.specs.BookLines.{BookLine, headerOf, TreeNode, nodesOf, rootsOf}
@@ -26,13 +26,7 @@ use Rattle.book.specs.States.{stateOf, completeIn, firstNodeFrom}
 use Rattle.book.specs.Answers.{readingOf}
 use Rattle.book.specs.Steps.{finishOf}
 use Rattle.book.specs.Storing.{namesOf, countsStored}
-use Rattle.book.specs.laws.Keeping.{Kept}
-
--- every node has its count
-counted-all : (lent : Lent) (before : List BookLine) → Kept lent before → length (nodesOf before) ≤ 4096
-unfolding nodesOf concatMap
-counted-all lent [] k = omega arith
-counted-all lent (first ∷ before) k = omega (arith, k .nodes, k .in-range (omega arith) .nodes-range .high)
+use Rattle.book.specs.laws.Keeping.{Kept, kept-few}
 
 -- the answer where the lines are complete, by the lowest node that is not named once
 abbrev judgedBy : (before : List BookLine) → (node : ℕ) → Reading
@@ -59,7 +53,7 @@ finish-names lent before k =
     node = firstMisnamed (take (length nodes) (countsStored before))
 
     room : length nodes ≤ 4096
-    room = counted-all lent before k
+    room = kept-few lent before k .0
 
     some-orphan : node < length nodes
         → Refused (record { fault = Orphan; line = firstNodeFrom 1 before + node })

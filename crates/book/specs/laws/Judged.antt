@@ -1,23 +1,16 @@
--- Laws about a line's tests: that the code asked and passed or failed, what a line that is no header fits, and
--- what stands before a root.
-use mathlib.Core.Path.{_≡_, sym, _∙_}
-use mathlib.Core.Bool.{Bool, true, false, not}
+-- Laws about a line's tests: every table is wide enough where there is no header, and a header stands before
+-- a root.
+use mathlib.Core.Path.{_≡_}
+use mathlib.Core.Bool.{true}
 use Prim.Native.Nat.{ℕ, _<_}
 use native.Mathlib.Omega.{arith}
-use borrow.Author.Tests.{le-leb, not-true, not-false}
+use borrow.Author.Tests.{le-leb}
 use lib.Dec.{T, ltb, eqb, ltb→lt}
 use Rattle.definitions.specs.BookLines.{R, noHeader, rootCount}
 use Rattle.definitions.specs.BookReading.{Lent, wideEnough}
 use Rattle.definitions.specs.laws.Tests.{T-and}
 use Rattle.book.specs.declared.State.{State}
 use Rattle.book.specs.States.{followsIn}
-
--- an answer that is a test's, and what its negation says of the test
-pub passes : {answer test : Bool} → answer ≡ test → not answer ≡ false → test ≡ true
-passes {answer = answer} e h = sym e ∙ not-false answer h
-
-pub fails : {answer test : Bool} → answer ≡ test → not answer ≡ true → test ≡ false
-fails {answer = answer} e h = sym e ∙ not-true answer h
 
 pub no-header-fits : (lent : Lent) → wideEnough lent noHeader ≡ true
 unfolding wideEnough rootCount

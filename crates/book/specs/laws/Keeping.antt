@@ -5,9 +5,8 @@ use mathlib.Core.Logic.{⊎-elim}
 use mathlib.Core.List.{List, [], _∷_, _++_}
 use mathlib.Core.Bool.{Bool, not}
 use Prim.Native.Nat.{ℕ, suc, _+_, _*_, _≤_, _<_}
-use native.Mathlib.Nat.{mul-le-mul}
 use native.Mathlib.Omega.{arith}
-use lib.Dec.{T, leb, ltb, eqb, leb→le, le→leb, ltb→lt, eqb→eq}
+use lib.Dec.{T, leb, ltb, eqb, leb→le, ltb→lt, eqb→eq}
 use lib.ListN.{length, length-append}
 use borrow.Author.Tests.{lt-ltb, eqb-false, ltb-true, ltb-false, eq-eqb, ne-eqb}
 use Rattle.definitions.specs.declared.Header.{Header}
@@ -16,11 +15,12 @@ use Rattle.definitions.specs.BookLines.{BookLine, H, Q, N, L, R, headerIn, head
 use Rattle.definitions.specs.BookLines.{nodesOf, nodeIn, rootsOf, rootIn}
 use Rattle.definitions.specs.BookReading.{Lent, nodeSize, wideEnough, bookFollows, bookInOrder, bookComplete}
 use Rattle.definitions.specs.BookReading.{withinHeader, isLineOf, lineNumberFrom}
-use Rattle.definitions.specs.laws.Tests.{T-and, T-three, by-test}
+use Rattle.definitions.specs.laws.Tests.{T-and, by-test}
 use Rattle.definitions.specs.laws.Lists.{concatMap-snoc-length}
-use Rattle.definitions.specs.laws.Books.{Fits, InRange}
+use Rattle.definitions.specs.laws.Books.{Fits, InRange, roots-few, roomy}
 use Rattle.book.specs.States.{firstNodeFrom, stateOf, HasStates}
 use Rattle.book.specs.Storing.{HasRoom}
+use Rattle.book.specs.laws.Judged.{no-header-fits}
 use Rattle.book.specs.laws.States.{header-more, first-other, first-node, node-started, test-started}
 use Rattle.book.specs.laws.NodeLines.{OfNode, number-early, number-late, number-next, none-or-some}
 
@@ -41,20 +41,16 @@ pub record Kept (lent : Lent) (before : List BookLine) : Type 0 where
 
 -- before the first line nothing is asked
 pub kept-none : (lent : Lent) → Kept lent []
-unfolding wideEnough rootCount headerOf nodesOf rootsOf concatMap
+unfolding rootCount headerOf nodesOf rootsOf concatMap
 kept-none lent = record {
   in-range = λ l. absurd (omega arith);
-  wide = T-three (leb 0 (lent .nodes)) (leb 0 (lent .classes)) (leb 0 (lent .roots)) .1
-      (least (lent .nodes), least (lent .classes), least (lent .roots));
+  wide = rw (no-header-fits lent) tt;
   nodes = omega arith;
   roots = omega arith;
   after-nodes = λ l. absurd (omega arith);
   together = λ l. absurd (omega arith);
   node-lines = λ node l. absurd (omega arith);
 }
-  where
-    least : (n : ℕ) → T (leb 0 n)
-    least n = le→leb 0 n (omega arith)
 
 -- what one more line must keep
 module _ (lent : Lent) (before : List BookLine) (line : BookLine) where
@@ -81,9 +77,6 @@ module _ (lent : Lent) (before : List BookLine) (line : BookLine) where
         together = together;
         node-lines = numbers;
       }
-
-  lines-count : length after ≡ length before + 1
-  lines-count = length-append before (line ∷ [])
 
   nodes-count : length (nodesOf after) ≡ length (nodesOf before) + length (nodeIn line)
   unfolding nodesOf
@@ -115,7 +108,7 @@ module _ (lent : Lent) (before : List BookLine) (line : BookLine) where
       (λ l. omega (
         arith,
         first,
-        lines-count,
+        length-append before (line ∷ []),
         roots-count,
         root (omega arith),
         k .together (omega arith),
@@ -152,7 +145,7 @@ module _ (lent : Lent) (before : List BookLine) (line : BookLine) where
       number-late 1 (length (nodesOf before)) before line (number-next 1 before (k .node-lines))
       (n .line-of _ ∙ eq-eqb _ _ next) in
       kept-line k (node-started before follows) (omega arith) (omega arith) (λ l. absurd (omega arith))
-      (λ l. omega (arith, lines-count))
+      (λ l. omega (arith, length-append before (line ∷ [])))
       (λ node l. by-test (ltb node (length (nodesOf before)))
       (λ t. let there : node < length (nodesOf before) = ltb-true node (length (nodesOf before)) t in
       omega (arith, early k node there, first-old n (omega arith)))
@@ -161,7 +154,7 @@ module _ (lent : Lent) (before : List BookLine) (line : BookLine) where
       rw same (omega arith)))
 
 -- roots are missing while the lines are not all
-roots-missing : (lent : Lent) (before : List BookLine) → Kept lent before → 0 < length before
+pub roots-missing : (lent : Lent) (before : List BookLine) → Kept lent before → 0 < length before
     → T (not (bookComplete before)) → length (rootsOf before) < rootCount (headerOf before)
 unfolding bookComplete
 roots-missing lent before k started t =
@@ -209,24 +202,13 @@ kept-more lent before (R phone state root) k u f =
 
 -- ---- what follows
 
--- tables that are wide enough
-wide-parts : (lent : Lent) (header : Header) → T (wideEnough lent header)
-    → (nodeSize * header .nodes ≤ lent .nodes) × (header .classes ≤ lent .classes)
-    × (rootCount header ≤ lent .roots)
-unfolding wideEnough
-wide-parts lent header t =
-    let (nodes, classes, roots) =
-    T-three (leb (nodeSize * header .nodes) (lent .nodes)) (leb (header .classes) (lent .classes))
-    (leb (rootCount header) (lent .roots)) .0 t in
-    (leb→le _ _ nodes, leb→le _ _ classes, leb→le _ _ roots)
-
 node-room : (lent : Lent) (before : List BookLine) (node : ℕ) → Kept lent before
     → T (ltb (length (nodesOf before)) (headerOf before .nodes)) → T (eqb node (length (nodesOf before)))
     → nodeSize * node + nodeSize ≤ lent .nodes
 node-room lent before node k follows in-order =
     let fewer : length (nodesOf before) < headerOf before .nodes = ltb→lt _ _ follows in
     let next : node ≡ length (nodesOf before) = eqb→eq _ _ in-order in
-    omega (arith, wide-parts lent (headerOf before) (k .wide) .0)
+    omega (arith, roomy lent (headerOf before) (k .wide) .nodes)
 
 pub kept-room : (lent : Lent) (before : List BookLine) (line : BookLine) → Kept lent before
     → T (not (bookComplete before)) → Fits lent before line
@@ -239,7 +221,7 @@ kept-room lent before (Q class phone) k u f =
     leb→le _ _ (T-and (leb class (header .classes)) (leb phone (header .phones)) .0 (f .within) .0) in
     let (class-range, phone-range) = f .ranged in (
       class-range .low,
-      omega (arith, wide-parts lent header (k .wide) .1),
+      omega (arith, roomy lent header (k .wide) .classes),
       phone-range .low,
       phone-range .high,
     )
@@ -250,19 +232,17 @@ kept-room lent before (R phone state root) k u f =
     omega (
       arith,
       roots-missing lent before k (test-started before _ (f .follows)) u,
-      wide-parts lent (headerOf before) (k .wide) .2,
+      roomy lent (headerOf before) (k .wide) .roots,
     )
 
 pub kept-few : (lent : Lent) (before : List BookLine) → Kept lent before
     → (length (nodesOf before) ≤ 4096) × (length (rootsOf before) ≤ 192)
-unfolding rootCount nodesOf rootsOf concatMap
+unfolding nodesOf rootsOf concatMap
 kept-few lent [] k = (omega arith, omega arith)
 kept-few lent (x ∷ before) k =
     let header : Header = headerOf (x ∷ before) in
     let range : InRange header = k .in-range (omega arith) in
-    let most : header .phones * header .states ≤ 192 =
-    mul-le-mul (range .phones-range .high) (range .states-range .high) in
-    (omega (arith, k .nodes, range .nodes-range .high), omega (arith, k .roots))
+    (omega (arith, k .nodes, range .nodes-range .high), omega (arith, k .roots, roots-few header range))
 
 pub kept-states : (lent : Lent) (before : List BookLine) → Kept lent before → HasStates (stateOf before)
 unfolding stateOf

@@ -1,4 +1,5 @@
--- What every line that is taken keeps makes the next line safe to take, and the end safe to judge.
+-- Laws about what every line that is taken keeps: it makes the next line safe to take, and the end safe to
+-- judge.
 use mathlib.Core.Path.{_≡_}
 use mathlib.Core.List.{List}
 use Prim.Native.Nat.{ℕ, _<_}

@@ -25,7 +25,7 @@ use Rattle.book.specs.States.{testsIn, completeIn, withNode, nextState}
 
 -- ---- the tests
 
-pub follows-state : (before : List BookLine) (line : BookLine)
+follows-state : (before : List BookLine) (line : BookLine)
     → followsIn (stateOf before) line ≡ bookFollows before line
 unfolding followsIn stateOf bookFollows
 follows-state before (H half states phones classes nodes) = refl
@@ -41,7 +41,7 @@ last-state [] m = refl
 last-state (a ∷ []) m = refl
 last-state (a ∷ b ∷ members) m = last-state (b ∷ members) m
 
-pub order-state : (before : List BookLine) (line : BookLine)
+order-state : (before : List BookLine) (line : BookLine)
     → inOrderIn (stateOf before) line ≡ bookInOrder before line
 unfolding inOrderIn stateOf bookInOrder
 order-state before (H half states phones classes nodes) = refl

@@ -7,7 +7,6 @@ use mathlib.Core.Option.{Option, none, some}
 use Prim.Native.Nat.{ℕ, suc}
 use native.Mathlib.Omega.{arith}
 use lib.Dec.{T}
-use lib.ListN.{length}
 use Rattle.definitions.specs.declared.Fault.{Fault}
 use Rattle.definitions.specs.declared.Fault.the-variants.{Misprint, Count}
 use Rattle.definitions.specs.Lists.{if_then_else_, every}
@@ -18,10 +17,10 @@ use Rattle.definitions.specs.Reading.{lineTests, lineRead, readFrom}
 use Rattle.definitions.specs.BookLines.{BookLine, bookLine}
 use Rattle.definitions.specs.BookReading.{Lent, bookKind, bookComplete}
 use Rattle.definitions.specs.laws.Tests.{by-test}
-use Rattle.definitions.specs.laws.Lists.{padded-take}
 use Rattle.definitions.specs.laws.Judging.{allPass, judge-passing}
 use Rattle.definitions.specs.laws.Books.{Fits, line-fits}
-use Rattle.lines.specs.Rows.{lineIn, rowOf, parsedOf}
+use Rattle.lines.specs.Rows.{parsedOf}
+use Rattle.lines.specs.laws.Rows.{line-back}
 use Rattle.book.specs.declared.State.{State}
 use Rattle.book.specs.declared.Step.{Step}
 use Rattle.book.specs.declared.Step.the-variants.{Next, Stop}
@@ -30,13 +29,14 @@ use Rattle.book.specs.declared.Verdict.the-variants.{Passed, Failed}
 use Rattle.book.specs.States.{stateOf, verdictOf, nextState}
 use Rattle.book.specs.Steps.{lineTaken, stepAfter, stepOf}
 use Rattle.book.specs.laws.States.{tests-state, complete-state, next-state}
+use Rattle.book.specs.laws.Taking.{step-complete, step-misprint, step-line}
 
 -- ---- verdicts
 
 clash : (fault : Fault) → Failed fault ≡ Passed → ⊥
 clash fault e = let z : _≡_ {A = ℕ} 0 1 = cc in omega arith
 
-pub verdict-passed : (ts : List Test) → verdictOf ts ≡ Passed → allPass ts
+verdict-passed : (ts : List Test) → verdictOf ts ≡ Passed → allPass ts
 unfolding verdictOf every
 verdict-passed [] e = tt
 verdict-passed (t ∷ ts) e = go (t .passes) (λ k. verdict-passed ts k) e
@@ -46,11 +46,11 @@ verdict-passed (t ∷ ts) e = go (t .passes) (λ k. verdict-passed ts k) e
     go true rest k = rest k
     go false rest k = absurd (clash (t .fault) k)
 
-pub verdict-judged : {A : Type 0} (at : ℕ) (ts : List Test) (answer : Outcome A) → verdictOf ts ≡ Passed
+verdict-judged : {A : Type 0} (at : ℕ) (ts : List Test) (answer : Outcome A) → verdictOf ts ≡ Passed
     → judge at ts answer ≡ answer
 verdict-judged at ts answer e = judge-passing at ts answer (verdict-passed ts e)
 
-pub verdict-failed : {A : Type 0} (at : ℕ) (ts : List Test) (answer : Outcome A) (fault : Fault)
+verdict-failed : {A : Type 0} (at : ℕ) (ts : List Test) (answer : Outcome A) (fault : Fault)
     → verdictOf ts ≡ Failed fault → judge at ts answer ≡ refuse fault at
 unfolding verdictOf judge
 verdict-failed at [] answer fault e = absurd (clash fault (sym e))
@@ -65,10 +65,10 @@ verdict-failed at (t ∷ ts) answer fault e = go (t .passes) (λ k. verdict-fail
 -- ---- lines
 
 -- the line taken is the line read
-pub taken-line : (bytes : List ℕ) (line : Line) → lineOf bookForms bytes ≡ some line
+taken-line : (bytes : List ℕ) (line : Line) → lineOf bookForms bytes ≡ some line
     → lineTaken bytes ≡ bookLine line
-unfolding lineTaken parsedOf rowOf lineIn
-taken-line bytes line e = rw (e, padded-take 5 (length (line .numbers)) (line .numbers) refl)
+unfolding lineTaken parsedOf
+taken-line bytes line e = rw (e, line-back line)
 
 -- what reading does with a line
 module _ (lent : Lent) (before : List BookLine) (bytes : List ℕ) (at : ℕ) (rest : List (List ℕ)) where
@@ -91,20 +91,19 @@ module _ (lent : Lent) (before : List BookLine) (bytes : List ℕ) (at : ℕ) (r
 
 -- what the code does with it
 module _ (lent : Lent) (before : List BookLine) (bytes : List ℕ) where
-  step-complete : bookComplete before ≡ true → stepOf lent (stateOf before) bytes ≡ Stop Count
-  unfolding stepOf
-  step-complete c = rw (complete-state before, c)
+  stops-complete : bookComplete before ≡ true → stepOf lent (stateOf before) bytes ≡ Stop Count
+  stops-complete c = step-complete lent (stateOf before) bytes (complete-state before ∙ c)
 
-  step-misprint : bookComplete before ≡ false → lineOf bookForms bytes ≡ none
+  stops-misprint : bookComplete before ≡ false → lineOf bookForms bytes ≡ none
       → stepOf lent (stateOf before) bytes ≡ Stop Misprint
-  unfolding stepOf
-  step-misprint c e = rw (complete-state before, c, e)
+  stops-misprint c e = step-misprint lent (stateOf before) bytes (complete-state before ∙ c) e
 
-  step-line : (line : Line) → bookComplete before ≡ false → lineOf bookForms bytes ≡ some line
+  step-judged : (line : Line) → bookComplete before ≡ false → lineOf bookForms bytes ≡ some line
       → stepOf lent (stateOf before) bytes
       ≡ stepAfter (verdictOf (lineTests (bookKind lent) before line)) (stateOf before) line
-  unfolding stepOf
-  step-line line c e = rw (complete-state before, c, e, tests-state lent before line)
+  step-judged line c e =
+      step-line lent (stateOf before) bytes line (complete-state before ∙ c) e
+      ∙ rw (tests-state lent before line)
 
 -- ---- a line that is taken
 
@@ -147,7 +146,7 @@ module _ (lent : Lent) (before : List BookLine) (bytes : List ℕ) where
   unfolding stepAfter
   step-next s k =
       by-test (bookComplete before)
-      (λ c. absurd (stopped Count s _ (step-complete lent before bytes c) k))
+      (λ c. absurd (stopped Count s _ (stops-complete lent before bytes c) k))
       (λ c. by-line c (lineOf bookForms bytes) refl)
     where
       by-verdict : bookComplete before ≡ false → (line : Line) → lineOf bookForms bytes ≡ some line
@@ -158,10 +157,10 @@ module _ (lent : Lent) (before : List BookLine) (bytes : List ℕ) where
 
       by-line : bookComplete before ≡ false → (o : Option Line) → lineOf bookForms bytes ≡ o
           → Taken lent before bytes s
-      by-line c none e = absurd (stopped Misprint s _ (step-misprint lent before bytes c e) k)
+      by-line c none e = absurd (stopped Misprint s _ (stops-misprint lent before bytes c e) k)
       by-line c (some line) e =
           by-verdict c line e (verdictOf (lineTests (bookKind lent) before line)) refl
-          (sym (step-line lent before bytes line c e) ∙ k)
+          (sym (step-judged lent before bytes line c e) ∙ k)
 
   -- ---- a line that stops
 
@@ -172,7 +171,7 @@ module _ (lent : Lent) (before : List BookLine) (bytes : List ℕ) where
   step-stop fault k at rest =
       by-test (bookComplete before)
       (λ c. read-complete lent before bytes at rest c
-      ∙ named Count (sym (step-complete lent before bytes c) ∙ k))
+      ∙ named Count (sym (stops-complete lent before bytes c) ∙ k))
       (λ c. by-line c (lineOf bookForms bytes) refl)
     where
       named : (other : Fault) → Stop other ≡ Stop fault → refuse {A = List BookLine} other at ≡ refuse fault at
@@ -189,8 +188,8 @@ module _ (lent : Lent) (before : List BookLine) (bytes : List ℕ) where
           → readFrom (bookKind lent) at before (bytes ∷ rest) ≡ refuse fault at
       by-line c none e =
           read-misprint lent before bytes at rest c e
-          ∙ named Misprint (sym (step-misprint lent before bytes c e) ∙ k)
+          ∙ named Misprint (sym (stops-misprint lent before bytes c e) ∙ k)
       by-line c (some line) e =
           read-line lent before bytes at rest line c e
           ∙ by-verdict line (verdictOf (lineTests (bookKind lent) before line)) refl _
-          (sym (step-line lent before bytes line c e) ∙ k)
+          (sym (step-judged lent before bytes line c e) ∙ k)

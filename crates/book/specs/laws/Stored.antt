@@ -4,48 +4,44 @@
 use mathlib.Core.Path.{_≡_, refl, sym, ap, ap₂, _∙_}
 use mathlib.Core.Logic.{_≢_}
 use mathlib.Core.List.{List, [], _∷_, _++_, map, append-assoc, append-nil, map-append}
-use mathlib.Core.Bool.{Bool, true, false, not, or-assoc}
+use mathlib.Core.Bool.{Bool, not, or-assoc}
 use Prim.Native.Nat.{ℕ, zero, suc, _+_, _-_, _*_, _≤_, _<_}
-use native.Mathlib.Nat.{zero-sub, sub-zero, mul-le-mul}
 use native.Mathlib.Decide.{ℕ-discrete}
 use native.Mathlib.Numerals.{add-one}
 use native.Mathlib.Omega.{arith}
 use lib.Bits.{bitOr, or-zero-r}
-use lib.Dec.{T, leb, ltb, eqb, leb→le, ltb→lt, eqb→eq}
-use lib.ListN.{length, take, drop, set, replicate, length-append, length-map, length-set, length-replicate}
-use lib.ListN.{replicate-append-replicate, List·getD-append}
+use lib.Dec.{T, leb, eqb, leb→le, ltb→lt, eqb→eq}
+use lib.ListN.{length, take, drop, set, replicate, length-append, length-set, length-replicate}
+use lib.ListN.{replicate-append-replicate}
 use lib.Seq.{take-append-seam, drop-append-add, append-snoc, set-split, set-append-left, ext-getD}
 use lib.Seq.{getD-set-same, getD-set-other}
 use borrow.Author.Tests.{eq-eqb, ne-eqb}
 use Rattle.definitions.specs.declared.Header.{Header}
 use Rattle.definitions.specs.Lists.{_!_, concatMap, select, upFrom, cleared, padded}
 use Rattle.definitions.specs.PhoneSets.{has, alone, setOf}
-use Rattle.definitions.specs.BookLines.{BookLine, H, Q, N, L, R, noHeader, headerIn, headerOf, rootCount}
+use Rattle.definitions.specs.BookLines.{BookLine, H, Q, N, L, R, headerIn, headerOf}
 use Rattle.definitions.specs.BookLines.{Member, membersOf, memberIn, TreeNode, question, leaf, nodesOf, nodeIn}
 use Rattle.definitions.specs.BookLines.{rootsOf, rootIn, childrenOf}
-use Rattle.definitions.specs.BookReading.{Lent, nodeSize, wideEnough, bookFollows, bookInOrder, withinHeader}
+use Rattle.definitions.specs.BookReading.{Lent, nodeSize, bookFollows, bookInOrder, withinHeader}
 use Rattle.definitions.specs.BookReading.{bookComplete}
 use Rattle.definitions.specs.Tables.{nodeWords, phonesOfClass, classSets}
-use Rattle.definitions.specs.laws.Tests.{T-and, T-three, eq→eqb}
-use Rattle.definitions.specs.laws.Lists.{concatMap-snoc, padded-length, upFrom-length}
+use Rattle.definitions.specs.laws.Tests.{T-and}
+use Rattle.definitions.specs.laws.Lists.{concatMap-snoc, map-upFrom-length, map-upFrom-at, drop-cleared}
+use Rattle.definitions.specs.laws.Lists.{padded-length}
 use Rattle.definitions.specs.laws.Selected.{select-here, select-past, select-append}
 use Rattle.definitions.specs.laws.PhoneSets.{has-or, same-members}
+use Rattle.definitions.specs.laws.SevenWords.{padded-column}
 use Rattle.definitions.specs.laws.Records.{flat-length}
 use Rattle.definitions.specs.laws.Tables.{node-sized}
-use Rattle.definitions.specs.laws.Books.{Fits}
+use Rattle.definitions.specs.laws.Books.{Fits, roomy}
 use Rattle.tables.specs.Naming.{countsOf}
 use Rattle.tables.specs.laws.Naming.{counts-none, counts-length, counts-named, children-length}
 use Rattle.book.specs.Storing.{putAt, nodesAfter, classesAfter, rootsAfter, namesIn, countsAfter}
 use Rattle.book.specs.Storing.{nodesStored, classesStored, rootsStored, namesOf, countsStored}
-use Rattle.book.specs.laws.Keeping.{Kept}
+use Rattle.book.specs.laws.States.{header-more, node-started, test-started}
+use Rattle.book.specs.laws.Keeping.{Kept, kept-few, roots-missing}
 
 -- ---- a lent table: its used words, then zeros
-
-drop-replicate : (n m x : ℕ) → drop n (replicate m x) ≡ replicate (m - n) x
-drop-replicate zero m x = rw sub-zero
-drop-replicate (suc n) zero x = rw zero-sub
-drop-replicate (suc n) (suc m) x =
-    let fewer : suc m - suc n ≡ m - n = omega arith in rw fewer (drop-replicate n m x)
 
 -- words that stand right after the used ones are used too
 put-after : (size : ℕ) (used words : List ℕ)
@@ -54,7 +50,7 @@ unfolding putAt padded
 put-after size used words =
     let rest : List ℕ = cleared (size - length used) in
     let fewer : (size - length used) - length words ≡ size - (length used + length words) = omega arith in
-    rw (take-append-seam used rest, drop-append-add used rest, drop-replicate, length-append, fewer)
+    rw (take-append-seam used rest, drop-append-add used rest, drop-cleared, length-append, fewer)
 
 set-after : (size : ℕ) (used : List ℕ) (x : ℕ) → length used < size
     → set (padded size used) (length used) x ≡ padded size (used ++ (x ∷ []))
@@ -66,11 +62,7 @@ set-after size used x h =
     rw (set-split table (length used) x room, ← append-snoc (take (length used) table) x rest, ← add-one)
     (put-after size used (x ∷ []))
 
--- a used word read, or changed
-padded-at : (size : ℕ) (used : List ℕ) (i : ℕ) → i < length used → padded size used ! i ≡ used ! i
-unfolding padded
-padded-at size used i h = List·getD-append used (cleared (size - length used)) 0 i h
-
+-- a used word changed
 padded-set : (size : ℕ) (used : List ℕ) (i x : ℕ) → i < length used
     → set (padded size used) i x ≡ padded size (set used i x)
 unfolding padded
@@ -84,34 +76,29 @@ padded-zeros size count h =
 
 -- ---- what each of the numbers counted up gives
 
-upFrom-at : (f : ℕ → ℕ) (a count i : ℕ) → i < count → map f (upFrom a count) ! i ≡ f (a + i)
-unfolding upFrom
-upFrom-at f a zero i h = absurd (omega arith)
-upFrom-at f a (suc count) zero h = ap f (omega arith)
-upFrom-at f a (suc count) (suc i) h = upFrom-at f (suc a) count i (omega arith) ∙ ap f (omega arith)
-
-upFrom-sized : (f : ℕ → ℕ) (a count : ℕ) → length (map f (upFrom a count)) ≡ count
-upFrom-sized f a count = length-map (upFrom a count) f ∙ upFrom-length a count
-
 -- two functions that agree but at one number
 upFrom-set : (f g : ℕ → ℕ) (a count i : ℕ) → i < count → ((k : ℕ) → k ≢ a + i → f k ≡ g k)
     → set (map f (upFrom a count)) i (g (a + i)) ≡ map g (upFrom a count)
 upFrom-set f g a count i h agree =
     ext-getD 0 (set before i (g (a + i))) (map g (upFrom a count))
-    (length-set before i (g (a + i)) ∙ size ∙ sym (upFrom-sized g a count))
+    (length-set before i (g (a + i)) ∙ size ∙ sym (map-upFrom-length g a count))
     (λ j l. at j (omega (arith, length-set before i (g (a + i)), size)) (ℕ-discrete j i))
   where
     before : List ℕ
     before = map f (upFrom a count)
 
     size : length before ≡ count
-    size = upFrom-sized f a count
+    size = map-upFrom-length f a count
 
     at : (j : ℕ) → j < count → Dec (j ≡ i) → set before i (g (a + i)) ! j ≡ map g (upFrom a count) ! j
     at j l (yes e) =
-        rw (e, getD-set-same before i (g (a + i)) 0 (omega (arith, size)), upFrom-at g a count i h)
+        rw (e, getD-set-same before i (g (a + i)) 0 (omega (arith, size)), map-upFrom-at g a count i _ h refl)
     at j l (no n) =
-        rw (getD-set-other before i j (g (a + i)) 0 n, upFrom-at f a count j l, upFrom-at g a count j l)
+        rw (
+          getD-set-other before i j (g (a + i)) 0 n,
+          map-upFrom-at f a count j _ l refl,
+          map-upFrom-at g a count j _ l refl,
+        )
         (agree (a + j) (λ e. n (omega arith)))
 
 upFrom-zeros : (f : ℕ → ℕ) (a count : ℕ) → ((k : ℕ) → f k ≡ 0) → map f (upFrom a count) ≡ cleared count
@@ -136,45 +123,6 @@ roots-more : (before : List BookLine) (line : BookLine)
     → rootsOf (before ++ (line ∷ [])) ≡ rootsOf before ++ rootIn line
 unfolding rootsOf
 roots-more before line = concatMap-snoc rootIn before line
-
--- only an H line brings a header
-header-kept : (before : List BookLine) (line : BookLine) → headerIn line ≡ noHeader
-    → headerOf (before ++ (line ∷ [])) ≡ headerOf before
-unfolding headerOf
-header-kept [] line e = e
-header-kept (first ∷ before) line e = refl
-
--- ---- room in the tables
-
-record Roomy (lent : Lent) (header : Header) : Type 0 where
-  nodes : nodeSize * header .nodes ≤ lent .nodes
-  classes : header .classes ≤ lent .classes
-  roots : rootCount header ≤ lent .roots
-
-roomy : (lent : Lent) (header : Header) → T (wideEnough lent header) → Roomy lent header
-unfolding wideEnough
-roomy lent header h =
-    let (nodes, classes, roots) =
-    T-three (leb (nodeSize * header .nodes) (lent .nodes)) (leb (header .classes) (lent .classes))
-    (leb (rootCount header) (lent .roots)) .0 h in
-    record { nodes = leb→le _ _ nodes; classes = leb→le _ _ classes; roots = leb→le _ _ roots }
-
-not-both : (b : Bool) → T (not b) → T b → ⊥
-not-both true h k = h
-not-both false h k = k
-
--- where a root may follow, not all are there
-open-roots : (lent : Lent) (before : List BookLine) (phone state root : ℕ) → Kept lent before
-    → T (not (bookComplete before)) → T (bookFollows before (R phone state root))
-    → length (rootsOf before) < rootCount (headerOf before)
-unfolding bookFollows bookComplete
-open-roots lent before phone state root k c h =
-    let some-line : Bool = ltb 0 (length before) in
-    let (started, full) = T-and some-line (eqb (length (nodesOf before)) (headerOf before .nodes)) .0 h in
-    let all-roots : Bool = eqb (length (rootsOf before)) (rootCount (headerOf before)) in
-    let fewer : length (rootsOf before) ≢ rootCount (headerOf before) = (λ e.
-    not-both (bookComplete before) c (T-and some-line all-roots .1 (started, eq→eqb _ _ e))) in
-    omega (arith, k .roots)
 
 -- ---- the table of nodes
 
@@ -208,13 +156,13 @@ pub roots-stored : (lent : Lent) (before : List BookLine) (line : BookLine) → 
     → T (not (bookComplete before)) → Fits lent before line
     → rootsAfter (length (rootsOf before)) line (rootsStored lent before)
     ≡ rootsStored lent (before ++ (line ∷ []))
-unfolding rootsAfter rootsStored rootIn
+unfolding rootsAfter rootsStored rootIn bookFollows
 roots-stored lent before (H half states phones classes nodes) k c f = rw (roots-more, append-nil)
 roots-stored lent before (Q class phone) k c f = rw (roots-more, append-nil)
 roots-stored lent before (N node class position yesNode noNode) k c f = rw (roots-more, append-nil)
 roots-stored lent before (L node model) k c f = rw (roots-more, append-nil)
 roots-stored lent before (R phone state root) k c f =
-    let fewer = open-roots lent before phone state root k c (f .follows) in
+    let fewer = roots-missing lent before k (test-started before _ (f .follows)) c in
     rw roots-more
     (set-after (lent .roots) (rootsOf before) root
     (omega (arith, fewer, roomy lent (headerOf before) (k .wide) .roots)))
@@ -289,12 +237,12 @@ class-put size classes members m low high =
     below = omega arith
 
     used : i < length sets
-    used = omega (arith, upFrom-sized old 1 classes)
+    used = omega (arith, map-upFrom-length old 1 classes)
 
     word : bitOr (padded size sets ! i) (alone (m .phone)) ≡ new (1 + i)
     word =
         ap (λ (set : ℕ). bitOr set (alone (m .phone)))
-        (padded-at size sets i used ∙ upFrom-at old 1 classes i below ∙ ap old place)
+        (padded-column size sets i ∙ map-upFrom-at old 1 classes i (m .class) below (sym place))
         ∙ sym (class-more members m)
         ∙ ap new (sym place)
 
@@ -318,22 +266,30 @@ first-stored lent (first ∷ before) half states phones classes nodes f =
 pub classes-stored : (lent : Lent) (before : List BookLine) (line : BookLine) → Kept lent before
     → T (not (bookComplete before)) → Fits lent before line
     → classesAfter line (classesStored lent before) ≡ classesStored lent (before ++ (line ∷ []))
-unfolding classesAfter classesStored memberIn headerIn withinHeader
+unfolding classesAfter classesStored memberIn headerIn bookFollows withinHeader
 classes-stored lent before (H half states phones classes nodes) k c f =
     first-stored lent before half states phones classes nodes f
 classes-stored lent before (Q class phone) k c f =
     let header : Header = headerOf before in
     let parts = T-and (leb class (header .classes)) (leb phone (header .phones)) .0 (f .within) in
     let m : Member = record { class = class; phone = phone } in
-    rw (header-kept before (Q class phone) refl, members-more)
+    rw (header-more before (Q class phone) (test-started before _ (f .follows)), members-more)
     (class-put (lent .classes) (header .classes) (membersOf before) m (f .ranged .0 .low)
     (leb→le _ _ (parts .0)))
 classes-stored lent before (N node class position yesNode noNode) k c f =
-    rw (header-kept before (N node class position yesNode noNode) refl, members-more, append-nil)
+    rw (
+      header-more before (N node class position yesNode noNode) (node-started before (f .follows)),
+      members-more,
+      append-nil,
+    )
 classes-stored lent before (L node model) k c f =
-    rw (header-kept before (L node model) refl, members-more, append-nil)
+    rw (header-more before (L node model) (node-started before (f .follows)), members-more, append-nil)
 classes-stored lent before (R phone state root) k c f =
-    rw (header-kept before (R phone state root) refl, members-more, append-nil)
+    rw (
+      header-more before (R phone state root) (test-started before _ (f .follows)),
+      members-more,
+      append-nil,
+    )
 
 -- ---- the counts of names
 
@@ -349,16 +305,10 @@ no-root-yet lent before k h = none (rootsOf before) refl
 
 -- there are far fewer names than a count can hold
 few-names : (lent : Lent) (before : List BookLine) → Kept lent before → length (namesOf before) ≤ 8384
-unfolding namesOf nodesOf rootsOf rootCount concatMap
-few-names lent [] k = omega arith
-few-names lent (first ∷ before) k =
-    let lines : List BookLine = first ∷ before in
-    let range = k .in-range (omega arith) in
-    let header : Header = headerOf lines in
-    let most : header .phones * header .states ≤ 64 * 3 =
-    mul-le-mul (range .phones-range .high) (range .states-range .high) in
-    rw length-append
-    (omega (arith, children-length (nodesOf lines), k .nodes, k .roots, range .nodes-range .high))
+unfolding namesOf
+few-names lent before k =
+    let (nodes, roots) = kept-few lent before k in
+    rw length-append (omega (arith, children-length (nodesOf before)))
 
 names-more : (lent : Lent) (before : List BookLine) (line : BookLine) → Kept lent before
     → T (bookFollows before line) → namesOf before ++ namesIn line ≡ namesOf (before ++ (line ∷ []))
@@ -422,7 +372,7 @@ stored-lengths lent before k =
     let room = roomy lent (headerOf before) (k .wide) in
     let words = flat-length nodeWords nodeSize node-sized (nodesOf before) in
     let classes : ℕ = headerOf before .classes in
-    let sets = upFrom-sized (λ class. setOf (phonesOfClass class (membersOf before))) 1 classes in
+    let sets = map-upFrom-length (λ class. setOf (phonesOfClass class (membersOf before))) 1 classes in
     record {
       nodes = padded-length (lent .nodes) (concatMap nodeWords (nodesOf before))
           (omega (arith, room .nodes, words, k .nodes));

@@ -3,25 +3,25 @@
 use mathlib.Core.Path.{_≡_, refl, sym, ap, _∙_, subst}
 use mathlib.Core.List.{List, [], _∷_, _++_}
 use mathlib.Core.Bool.{Bool}
-use Prim.Native.Nat.{ℕ, suc, _+_, _<_}
-use native.Mathlib.Nat.{mul-pos}
+use Prim.Native.Nat.{ℕ, suc, _+_, _*_, _≤_, _<_}
+use native.Mathlib.Nat.{mul-pos, mul-le-mul}
 use native.Mathlib.Omega.{arith}
-use lib.Dec.{T, ltb, eqb, ltb→lt, eqb→eq, lit<}
-use lib.ListN.{length, length-map}
+use lib.Dec.{T, leb, ltb, eqb, leb→le, ltb→lt, eqb→eq, lit<}
+use lib.ListN.{length}
 use Rattle.definitions.specs.declared.Fault.the-variants.{Orphan}
 use Rattle.definitions.specs.declared.Header.{Header}
-use Rattle.definitions.specs.Lists.{concatMap, upFrom}
+use Rattle.definitions.specs.Lists.{concatMap}
 use Rattle.definitions.specs.Faults.{Outcome, answered}
 use Rattle.definitions.specs.Lines.{Line}
 use Rattle.definitions.specs.Reading.{lineTests}
 use Rattle.definitions.specs.BookLines.{BookLine, H, Q, N, L, R, bookLine, headerIn, headerOf}
 use Rattle.definitions.specs.BookLines.{rootCount, nodesOf, nodeIn, rootsOf, rootIn}
-use Rattle.definitions.specs.BookReading.{Lent, bookKind, bookFollows, withinHeader, bookInOrder}
-use Rattle.definitions.specs.BookReading.{childrenGreater, wideEnough, bookTests, bookComplete}
-use Rattle.definitions.specs.BookReading.{orphans, judgeNames, readBook}
+use Rattle.definitions.specs.BookReading.{Lent, nodeSize, bookKind, bookFollows, withinHeader}
+use Rattle.definitions.specs.BookReading.{bookInOrder, childrenGreater, wideEnough, bookTests}
+use Rattle.definitions.specs.BookReading.{bookComplete, orphans, judgeNames, readBook}
 use Rattle.definitions.specs.Tables.{bookOf, classSets, tablesLeft, tablesBook}
-use Rattle.definitions.specs.laws.Tests.{T-and}
-use Rattle.definitions.specs.laws.Lists.{concatMap-snoc-length, upFrom-length}
+use Rattle.definitions.specs.laws.Tests.{T-and, T-three}
+use Rattle.definitions.specs.laws.Lists.{concatMap-snoc-length, map-upFrom-length}
 use Rattle.definitions.specs.laws.Judging.{testAt, passes-at, refused-not-answered}
 use Rattle.definitions.specs.laws.Reading.{Passed, text-holds}
 use Rattle.definitions.specs.laws.Ranges.{HeaderRanges, Ranged, line-ranged}
@@ -127,6 +127,25 @@ some-root : (header : Header) → InRange header → 0 < rootCount header
 unfolding rootCount
 some-root header r = mul-pos (r .phones-range .low) (r .states-range .low)
 
+-- 64 phones of 3 states at most
+pub roots-few : (header : Header) → InRange header → rootCount header ≤ 192
+unfolding rootCount
+roots-few header r = mul-le-mul (r .phones-range .high) (r .states-range .high)
+
+-- tables that are wide enough for a header
+pub record Roomy (lent : Lent) (header : Header) : Type 0 where
+  pub nodes : nodeSize * header .nodes ≤ lent .nodes
+  pub classes : header .classes ≤ lent .classes
+  pub roots : rootCount header ≤ lent .roots
+
+pub roomy : (lent : Lent) (header : Header) → T (wideEnough lent header) → Roomy lent header
+unfolding wideEnough
+roomy lent header h =
+    let (nodes, classes, roots) =
+    T-three (leb (nodeSize * header .nodes) (lent .nodes)) (leb (header .classes) (lent .classes))
+    (leb (rootCount header) (lent .roots)) .0 h in
+    record { nodes = leb→le _ _ nodes; classes = leb→le _ _ classes; roots = leb→le _ _ roots }
+
 -- the header is in range, and after the first root all nodes are there
 record Counted (lines : List BookLine) : Type 0 where
   in-range : InRange (headerOf lines)
@@ -196,7 +215,7 @@ orderly-heads lines o = record {
   states = refl;
   phones = refl;
   nodes = sym (o .nodes);
-  classes = sym (length-map (upFrom 1 (headerOf lines .classes)) _ ∙ upFrom-length 1 (headerOf lines .classes));
+  classes = sym (map-upFrom-length _ 1 (headerOf lines .classes));
   roots = sym (o .roots);
 }
 

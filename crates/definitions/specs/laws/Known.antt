@@ -6,7 +6,7 @@ use mathlib.Core.Logic.{inl, inr}
 use mathlib.Core.List.{List, [], _∷_, map}
 use mathlib.Core.Bool.{Bool, true, _&&_, _||_}
 use Prim.Native.Nat.{ℕ, suc, _-_, _*_, _^_, _≤_, _<_}
-use lib.Dec.{T, leb, ltb, eqb, leb→le, le→leb, lt→ltb}
+use lib.Dec.{T, leb, ltb, eqb, le→leb, lt→ltb}
 use lib.ListN.{length, take, drop}
 use lib.Seq.{drop-at}
 use borrow.Author.Tests.{lt-ltb, le-leb}
@@ -33,7 +33,7 @@ use Rattle.definitions.specs.laws.Selected.{of-select}
 use Rattle.definitions.specs.laws.Records.{flat-length}
 use Rattle.definitions.specs.laws.Ranges.{Within}
 use Rattle.definitions.specs.laws.Tables.{Heads, node-sized, tables-records, tables-book}
-use Rattle.definitions.specs.laws.Books.{InRange, Orderly, accepted-holds, accepted-orderly}
+use Rattle.definitions.specs.laws.Books.{InRange, Roomy, roomy, Orderly, accepted-holds, accepted-orderly}
 use Rattle.definitions.specs.laws.Books.{orderly-heads, accepted-book}
 use Rattle.definitions.specs.laws.Accepted.{allFrom, NodeFits, RootFits, MemberFits, AllFit}
 use Rattle.definitions.specs.laws.Accepted.{accepted-fit}
@@ -170,28 +170,22 @@ module _ (lent : Lent) (text : List ℕ) (lines : List BookLine) (e : readBook l
   fit : AllFit header lines
   fit = accepted-fit lent text lines e
 
-  widths : (nodeSize * header .nodes ≤ lent .nodes) × (header .classes ≤ lent .classes)
-      × (rootCount header ≤ lent .roots)
-  unfolding wideEnough
-  widths =
-      let (nodes, classes, roots) = T-three (leb (nodeSize * header .nodes) (lent .nodes))
-      (leb (header .classes) (lent .classes)) (leb (rootCount header) (lent .roots))
-      .0 (accepted-wide lent text lines e) in
-      (leb→le _ _ nodes, leb→le _ _ classes, leb→le _ _ roots)
+  room : Roomy lent header
+  room = roomy lent header (accepted-wide lent text lines e)
 
   known-nodes : T (nodeTableKnown header (tables .nodes))
   unfolding tablesOf bookOf
-  known-nodes = node-table-known header (lent .nodes) (nodesOf lines) (heads .nodes) (widths .0) (fit .nodes)
+  known-nodes = node-table-known header (lent .nodes) (nodesOf lines) (heads .nodes) (room .nodes) (fit .nodes)
 
   known-classes : T (classTableKnown header (tables .classes))
   unfolding classTableKnown tablesOf bookOf
   known-classes = words-known (lent .classes) (header .classes) (bookOf lines .classes) _
-      (heads .classes) (widths .1) (classes-below header (membersOf lines) (fit .members))
+      (heads .classes) (room .classes) (classes-below header (membersOf lines) (fit .members))
 
   known-roots : T (rootTableKnown header (tables .roots))
   unfolding rootTableKnown tablesOf bookOf
   known-roots = words-known (lent .roots) (rootCount header) (rootsOf lines) _
-      (heads .roots) (widths .2)
+      (heads .roots) (room .roots)
       (λ root i. lt→ltb _ _ (all-in (RootFits header) 0 (rootsOf lines) (fit .roots) root i .1))
 
   known-names : T (namedOnce (tablesBook header tables))

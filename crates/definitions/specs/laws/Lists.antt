@@ -4,12 +4,13 @@ use mathlib.Core.Path.{_≡_, refl, sym, ap, ap₂, _∙_, subst}
 use mathlib.Core.Logic.{_↔_}
 use mathlib.Core.List.{List, [], _∷_, _++_, map, append-assoc, append-nil}
 use mathlib.Core.Bool.{Bool, _&&_, and-assoc}
-use Prim.Native.Nat.{ℕ, zero, suc, _+_, _-_, _≤_}
+use Prim.Native.Nat.{ℕ, zero, suc, _+_, _-_, _≤_, _<_}
+use native.Mathlib.Nat.{sub-zero, zero-sub}
 use native.Mathlib.Omega.{arith}
 use lib.Dec.{T, eqb, eqb→eq, eqb-refl}
 use lib.Seq.{take-at}
-use lib.ListN.{length, take, drop, replicate, length-append, take-append-drop, length-replicate}
-use Rattle.definitions.specs.Lists.{every, concatMap, upFrom, same, cleared, padded}
+use lib.ListN.{length, take, drop, replicate, length-append, length-map, take-append-drop, length-replicate}
+use Rattle.definitions.specs.Lists.{_!_, every, concatMap, upFrom, same, cleared, padded}
 use Rattle.definitions.specs.laws.Tests.{T-and}
 
 -- ---- tests of every element
@@ -94,7 +95,23 @@ unfolding upFrom
 upFrom-length a zero = refl
 upFrom-length a (suc count) = ap suc (upFrom-length (suc a) count)
 
+-- what each of the numbers gives
+pub map-upFrom-length : {A : Type 0} (f : ℕ → A) (a count : ℕ) → length (map f (upFrom a count)) ≡ count
+map-upFrom-length f a count = length-map (upFrom a count) f ∙ upFrom-length a count
+
+pub map-upFrom-at : (f : ℕ → ℕ) (a count i n : ℕ) → i < count → n ≡ a + i → map f (upFrom a count) ! i ≡ f n
+unfolding upFrom
+map-upFrom-at f a zero i n h e = absurd (omega arith)
+map-upFrom-at f a (suc count) zero n h e = ap f {x = a} {y = n} (omega arith)
+map-upFrom-at f a (suc count) (suc i) n h e = map-upFrom-at f (suc a) count i n (omega arith) (omega arith)
+
 -- ---- a lent buffer that begins with its used words
+
+pub drop-cleared : (count size : ℕ) → drop count (cleared size) ≡ cleared (size - count)
+drop-cleared zero size = rw sub-zero
+drop-cleared (suc count) zero = rw zero-sub
+drop-cleared (suc count) (suc size) =
+    let fewer : suc size - suc count ≡ size - count = omega arith in rw fewer (drop-cleared count size)
 
 pub padded-length : (size : ℕ) (used : List ℕ) → length used ≤ size → length (padded size used) ≡ size
 unfolding padded

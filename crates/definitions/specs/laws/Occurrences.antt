@@ -4,11 +4,12 @@ use mathlib.Core.Path.{_≡_, refl}
 use mathlib.Core.Logic.{inl, inr}
 use mathlib.Core.List.{List, [], _∷_, _++_}
 use mathlib.Core.Bool.{Bool, true, false}
-use Prim.Native.Nat.{ℕ, suc, _≤_}
+use Prim.Native.Nat.{ℕ, suc, _+_, _≤_}
 use native.Mathlib.Omega.{arith}
 use lib.Dec.{eqb}
+use lib.ListN.{length}
 use Rattle.definitions.specs.Lists.{if_then_else_, occurrences}
-use Rattle.definitions.specs.laws.Tests.{if-true, eq→eqb}
+use Rattle.definitions.specs.laws.Tests.{by-test, if-true, eq→eqb}
 use Rattle.definitions.specs.laws.Members.{isIn, distinct}
 
 -- the first element counts one more than in the rest
@@ -24,16 +25,22 @@ occurrences-rest x y l = go (eqb x y)
     go true = omega arith
     go false = omega arith
 
-pub occurrences-left : (x : ℕ) (k l : List ℕ) → occurrences x k ≤ occurrences x (k ++ l)
+pub occurrences-append : (x : ℕ) (k l : List ℕ) → occurrences x (k ++ l) ≡ occurrences x k + occurrences x l
 unfolding occurrences
-occurrences-left x [] l = omega arith
-occurrences-left x (y ∷ k) l = go (eqb x y) (occurrences-left x k l)
-  where
-    go : (b : Bool) → occurrences x k ≤ occurrences x (k ++ l)
-        → (if b then suc (occurrences x k) else occurrences x k)
-        ≤ (if b then suc (occurrences x (k ++ l)) else occurrences x (k ++ l))
-    go true h = omega arith
-    go false h = h
+occurrences-append x [] l = omega arith
+occurrences-append x (y ∷ k) l =
+    let rest = occurrences-append x k l in
+    by-test (eqb x y) (λ e. rw e (omega arith)) (λ e. rw e rest)
+
+pub occurrences-left : (x : ℕ) (k l : List ℕ) → occurrences x k ≤ occurrences x (k ++ l)
+occurrences-left x k l = omega (arith, occurrences-append x k l)
+
+pub occurrences-least : (x : ℕ) (l : List ℕ) → occurrences x l ≤ length l
+unfolding occurrences
+occurrences-least x [] = omega arith
+occurrences-least x (y ∷ l) =
+    let rest = occurrences-least x l in
+    by-test (eqb x y) (λ e. rw e (omega arith)) (λ e. rw e (omega arith))
 
 occurs : (x : ℕ) (l : List ℕ) → isIn x l → 1 ≤ occurrences x l
 occurs x [] h = absurd h

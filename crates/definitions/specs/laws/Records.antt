@@ -4,12 +4,12 @@
 use mathlib.Core.Path.{_≡_, refl, sym, ap, _∙_}
 use mathlib.Core.List.{List, [], _∷_, _++_, map, append-assoc}
 use mathlib.Core.Bool.{Bool}
-use Prim.Native.Nat.{ℕ, zero, suc, _+_, _-_, _*_, _≤_}
+use Prim.Native.Nat.{ℕ, zero, suc, _+_, _-_, _*_, _≤_, _<_}
 use native.Mathlib.Nat.{mul-zero, mul-suc}
 use native.Mathlib.Omega.{arith}
 use lib.Dec.{T, eqb, eqb→eq, eqb-refl}
-use lib.ListN.{length, take, drop, length-append, length-drop, length-map}
-use lib.Seq.{take-at, drop-at, take-add, length-take-le}
+use lib.ListN.{length, take, drop, getD, length-append, length-drop, length-map}
+use lib.Seq.{take-at, drop-at, drop-drop, take-add, length-take-le}
 use Rattle.definitions.specs.Lists.{every, concatMap, records, cleared, padded}
 use Rattle.definitions.specs.Arcs.{Arc, arcSize, arcWords, arcOf, arcsIn}
 use Rattle.definitions.specs.laws.Lists.{every-cons}
@@ -66,6 +66,17 @@ module _ (size : ℕ) where
   unfolding records
   records-length zero text = refl
   records-length (suc count) text = ap suc (records-length count (drop size text))
+
+  -- the record at a place
+  pub record-at : (count : ℕ) (text : List ℕ) (i : ℕ) → i < count
+      → getD (records size count text) i [] ≡ take size (drop (size * i) text)
+  unfolding records
+  record-at zero text i h = absurd (omega arith)
+  record-at (suc count) text zero h = rw mul-zero
+  record-at (suc count) text (suc i) h =
+      let more : size + size * i ≡ size * suc i = omega (arith, mul-suc size i) in
+      record-at count (drop size text) i (omega arith)
+      ∙ ap (take size) (drop-drop (size * i) size text ∙ rw more)
 
   -- a text with room for the records
   room : (count : ℕ) (text : List ℕ) → size * suc count ≤ length text

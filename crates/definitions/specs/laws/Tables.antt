@@ -1,17 +1,20 @@
 -- Laws about tables: the book read back out of the tables that hold it is that book.
 -- So whatever a later stage computes from tables as reading left them, it computes from the lines' book.
+-- And about the records in any table of nodes: how many they are, and the words that each reads.
 use mathlib.Core.Path.{_≡_, refl, ap, ap₂, _∙_}
 use mathlib.Core.List.{List, [], _∷_, map}
 use Prim.Native.Nat.{ℕ, _-_}
-use lib.ListN.{length}
+use lib.Dec.{lit<}
+use lib.ListN.{length, take, length-map}
+use lib.Seq.{getD-take}
 use Rattle.definitions.specs.declared.Header.{Header}
-use Rattle.definitions.specs.Lists.{concatMap, cleared, padded}
+use Rattle.definitions.specs.Lists.{concatMap, records, cleared, padded}
 use Rattle.definitions.specs.BookLines.{TreeNode, question, leaf, rootCount}
 use Rattle.definitions.specs.BookReading.{Lent, nodeSize}
 use Rattle.definitions.specs.Tables.{Book, nodeWords, nodeOf, treeNode, nodeRecords, tablesOf}
 use Rattle.definitions.specs.Tables.{tablesBook}
 use Rattle.definitions.specs.laws.Lists.{padded-take}
-use Rattle.definitions.specs.laws.Records.{flat-records}
+use Rattle.definitions.specs.laws.Records.{records-length, flat-records}
 
 -- a header that states a book's counts
 pub record Heads (header : Header) (book : Book) : Type 0 where
@@ -36,6 +39,31 @@ nodes-back : (nodes : List TreeNode) → map treeNode (map nodeOf (map nodeWords
 nodes-back [] = refl
 nodes-back (node ∷ nodes) =
     ap₂ (λ (x : TreeNode) (l : List TreeNode). x ∷ l) (node-back node) (nodes-back nodes)
+
+-- more words after its own change no record
+pub node-of-first : (words : List ℕ) → nodeOf (take nodeSize words) ≡ nodeOf words
+unfolding nodeOf
+node-of-first words =
+    rw (
+      getD-take nodeSize words 0 0 (lit< tt),
+      getD-take nodeSize words 1 0 (lit< tt),
+      getD-take nodeSize words 2 0 (lit< tt),
+      getD-take nodeSize words 3 0 (lit< tt),
+      getD-take nodeSize words 4 0 (lit< tt),
+    )
+
+-- as many records as the header says, whatever the table
+pub node-records-length : (header : Header) (words : List ℕ)
+    → length (nodeRecords header words) ≡ header .nodes
+unfolding nodeRecords
+node-records-length header words =
+    length-map (records nodeSize (header .nodes) words) nodeOf
+    ∙ records-length nodeSize (header .nodes) words
+
+pub tree-nodes-length : (header : Header) (words : List ℕ)
+    → length (map treeNode (nodeRecords header words)) ≡ header .nodes
+tree-nodes-length header words =
+    length-map (nodeRecords header words) treeNode ∙ node-records-length header words
 
 -- the records in a node table, and the nodes that they are
 pub tables-records : (header : Header) (size : ℕ) (nodes : List TreeNode) → header .nodes ≡ length nodes

@@ -1,6 +1,6 @@
 -- Laws about tests: of two or three parts, of one of two, of a choice, and of every element of a list.
 -- They turn the Bool tests of the definitions into facts and back; the other laws use them.
-use mathlib.Core.Path.{_≡_, refl, subst}
+use mathlib.Core.Path.{_≡_, refl, sym, _∙_, subst}
 use mathlib.Core.Logic.{_⊎_, inl, inr, ⊎-elim, _↔_}
 use mathlib.Core.List.{List, [], _∷_}
 use mathlib.Core.Bool.{Bool, true, false, not, _&&_, _||_}
@@ -8,6 +8,7 @@ use Prim.Native.Nat.{ℕ, zero, suc, _≤_, _<_}
 use native.Mathlib.Omega.{arith}
 use lib.Dec.{T, leb, eqb, leb→le, le→leb, eqb→eq, eqb-refl}
 use lib.ListN.{length, getD}
+use borrow.Author.Tests.{not-true, not-false}
 use Rattle.definitions.specs.Lists.{if_then_else_, _!_, every}
 
 -- a test of two parts holds when both hold
@@ -49,6 +50,13 @@ between low n high =
 pub by-test : {P : Type 0} (b : Bool) → (b ≡ true → P) → (b ≡ false → P) → P
 by-test true yes-case no-case = yes-case refl
 by-test false yes-case no-case = no-case refl
+
+-- a test that an answer stands for holds, or does not
+pub held : {answer test : Bool} → answer ≡ test → not answer ≡ false → test ≡ true
+held e h = sym e ∙ not-false _ h
+
+pub failed : {answer test : Bool} → answer ≡ test → not answer ≡ true → test ≡ false
+failed e h = sym e ∙ not-true _ h
 
 -- a choice by a test that holds, or does not
 pub if-true : {A : Type 0} (b : Bool) (x y : A) → T b → (if b then x else y) ≡ x

@@ -9,7 +9,7 @@ use Prim.Native.Nat.{ℕ, zero, suc, _+_, _-_, _≤_, _<_}
 use native.Mathlib.Omega.{arith}
 use lib.Dec.{T, eqb, eqb→eq}
 use lib.ListN.{length}
-use Rattle.definitions.specs.Lists.{if_then_else_, _!_, every, atLeastOne, select, concatMap, upFrom}
+use Rattle.definitions.specs.Lists.{if_then_else_, _!_, every, atLeastOne, select, concatMap}
 use Rattle.definitions.specs.Faults.{answered}
 use Rattle.definitions.specs.BookLines.{BookLine, H, Q, N, L, R, headerOf, isPhone, Member, memberIn}
 use Rattle.definitions.specs.BookLines.{membersOf, TreeNode, question, leaf, nodesOf, nodeIn}
@@ -20,6 +20,7 @@ use Rattle.definitions.specs.PhoneSets.{has}
 use Rattle.definitions.specs.TreesGive.{nodeLine, isMemberLine, putInClass, modelBelow, modelGiven}
 use Rattle.definitions.specs.Transcription.{modelOf}
 use Rattle.definitions.specs.laws.Tests.{same-tests, eq→eqb, every-at}
+use Rattle.definitions.specs.laws.Lists.{map-upFrom-at}
 use Rattle.definitions.specs.laws.Ranges.{phone-range}
 use Rattle.definitions.specs.laws.Walks.{walk-leaf, walk-question, by-node, either-node}
 use Rattle.definitions.specs.laws.Sound.{Sound}
@@ -56,12 +57,6 @@ put-listed (L node model ∷ lines) class phone = put-listed lines class phone
 put-listed (R p state root ∷ lines) class phone = put-listed lines class phone
 
 -- classes count from 1
-map-upFrom-at : (f : ℕ → ℕ) (a count i n : ℕ) → i < count → n ≡ a + i → map f (upFrom a count) ! i ≡ f n
-unfolding upFrom
-map-upFrom-at f a zero i n h e = absurd (omega arith)
-map-upFrom-at f a (suc count) zero n h e = ap f {x = a} {y = n} (omega arith)
-map-upFrom-at f a (suc count) (suc i) n h e = map-upFrom-at f (suc a) count i n (omega arith) (omega arith)
-
 put-in-class : (lines : List BookLine) (class phone : ℕ) → 1 ≤ class → class ≤ headerOf lines .classes
     → 1 ≤ phone → putInClass lines class phone ≡ has phone (bookOf lines .classes ! (class - 1))
 unfolding bookOf classSets

@@ -17,7 +17,7 @@ use Rattle.definitions.specs.Forms.{Range, Form}
 use Rattle.definitions.specs.Lines.{Field, blank, malformed, number, isBlank, fieldOf, skipSpaces, digitsField}
 use Rattle.definitions.specs.Lines.{fieldsOf, numbersOf, formOf, withLetter, lineOf}
 use Rattle.definitions.specs.laws.Tests.{by-test}
-use Rattle.definitions.specs.laws.Records.{records-length}
+use Rattle.definitions.specs.laws.Records.{records-length, record-at}
 use Rattle.definitions.specs.laws.Lines.{line-known, line-unknown, form-letter}
 use Rattle.lines.specs.declared.Letters.{Letters}
 use Rattle.lines.specs.declared.Letters.the-variants.{Book, Network}
@@ -45,15 +45,6 @@ module _ (s : List ℕ) (field from : ℕ) (place : from ≡ 1 + 6 * field) wher
   pub field-whole : (end : ℕ) → end ≡ from + 6 → fieldOf (take (end - from) (drop from s)) ≡ fieldAt s field
   unfolding fieldAt
   field-whole end e = let six : end - from ≡ 6 = omega arith in rw (six, place)
-
-record-at : (size count : ℕ) (l : List ℕ) (i : ℕ) → i < count
-    → getD (records size count l) i [] ≡ take size (drop (size * i) l)
-unfolding records
-record-at size zero l i h = absurd (omega arith)
-record-at size (suc count) l zero h = let first : size * 0 ≡ 0 = omega arith in rw first
-record-at size (suc count) l (suc i) h =
-    let next : size * suc i ≡ size + size * i = omega arith in
-    record-at size count (drop size l) i (omega arith) ∙ rw (drop-drop (size * i) size l, next)
 
 fields-at : (s : List ℕ) (field : ℕ) → field < 5 → getD (fieldsOf s) field blank ≡ fieldAt s field
 unfolding fieldsOf fieldAt fieldOf skipSpaces digitsField

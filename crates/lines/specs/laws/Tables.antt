@@ -50,13 +50,13 @@ used-few place h =
 
 -- ---- the code's table of a letter
 
-abbrev pub heldRange : Range → HeldRange
+abbrev heldRange : Range → HeldRange
 heldRange range = (range .lowest, range .highest)
 
-abbrev pub heldRanges : List Range → List HeldRange
+abbrev heldRanges : List Range → List HeldRange
 heldRanges ranges = map heldRange ranges ++ replicate (5 - length ranges) (0, 0)
 
-abbrev pub heldForm : Form → HeldForm
+abbrev heldForm : Form → HeldForm
 heldForm form =
     record { letter = form .letter; used = length (form .fields); ranges = heldRanges (form .fields) }
 

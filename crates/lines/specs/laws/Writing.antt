@@ -1,13 +1,13 @@
--- Laws about writing a number: its bytes, from the right, are those of its field. And spaces in every byte.
--- The idea: the last digit stands at the right end, and before it stand the bytes of the quotient by 10, which are
--- spaces once it is 0. The proofs of the functions that write a number or spaces use them.
+-- Laws about writing a number: its bytes, from the right, are those of its field.
+-- The idea: the last digit stands at the right end, and before it stand the bytes of the quotient by 10, which
+-- are spaces once it is 0. The proofs of the functions that write a number use them.
 use mathlib.Core.Path.{_≡_, refl, ap, _∙_}
-use mathlib.Core.List.{List, [], _∷_, _++_, append-assoc, append-nil}
+use mathlib.Core.List.{List, [], _∷_, _++_, append-assoc}
 use Prim.Native.Nat.{ℕ, zero, suc, _+_, _-_, _/_, _%_, _^_, _≤_, _<_}
 use native.Mathlib.Omega.{arith}
 use lib.Dec.{ltb}
 use lib.ListN.{length, drop, set, replicate, length-append, replicate-append-replicate, drop-of-length-le}
-use lib.Seq.{append-snoc, drop-length, drop-cons, drop-set-lt, getD-set-same, lt-length-set}
+use lib.Seq.{append-snoc, drop-cons, drop-set-lt, getD-set-same, lt-length-set}
 use borrow.Author.Tests.{ltb-true, ltb-false, eq-eqb, ne-eqb}
 use Rattle.definitions.specs.Numerals.{numeral}
 use Rattle.definitions.specs.Lines.{space, fieldText}
@@ -84,13 +84,7 @@ leading-more (suc i) rest v field h k e =
     rw (before, drop-store field i v (omega arith), e, append-snoc)
 
 -- none is left
-pub leading-done : (i rest : ℕ) (field : List ℕ) → i ≤ 0 → leading i rest ++ drop i field ≡ field
+pub leading-end : (i rest : ℕ) (field : List ℕ) → i ≤ 0 → leading i rest ++ drop i field ≡ field
 unfolding leading
-leading-done zero rest field h = refl
-leading-done (suc i) rest field h = absurd (omega arith)
-
--- ---- spaces
-
-pub spaces-done : (i : ℕ) (bytes : List ℕ) → i ≡ length bytes
-    → replicate i space ++ drop i bytes ≡ replicate (length bytes) space
-spaces-done i bytes e = rw (e, drop-length, append-nil)
+leading-end zero rest field h = refl
+leading-end (suc i) rest field h = absurd (omega arith)

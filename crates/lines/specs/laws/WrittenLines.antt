@@ -1,14 +1,14 @@
 -- Laws about writing a line: where each field of six bytes stands in its text, and what is left when field
 -- after field is written. The proofs of the functions that write a line use them.
 use mathlib.Core.Path.{_≡_, refl, sym, ap, _∙_}
-use mathlib.Core.List.{List, [], _∷_, _++_, append-assoc, append-nil}
+use mathlib.Core.List.{List, [], _∷_, _++_, append-assoc}
 use mathlib.Core.Bool.{true}
 use Prim.Native.Nat.{ℕ, zero, suc, _+_, _-_, _*_, _≤_, _<_}
 use native.Mathlib.Omega.{arith}
-use lib.Dec.{T, leb, leb→le}
+use lib.Dec.{T, leb→le}
 use lib.ListN.{length, take, drop, getD, replicate, length-append, length-replicate}
-use lib.ListN.{replicate-append-replicate, set, length-set, length-drop, drop-of-length-le}
-use lib.Seq.{take-at, drop-at, drop-drop, take-add, take-all, length-take-le, getD-take, drop-cons, set-at}
+use lib.ListN.{replicate-append-replicate, set, length-set, length-drop}
+use lib.Seq.{take-at, drop-at, drop-drop, take-add, length-take-le, getD-take, drop-cons, set-at}
 use lib.Seq.{append-snoc}
 use borrow.Rule.Slice.PartMut.{putMid, same-len-mid}
 use Rattle.definitions.specs.Lists.{every, concatMap}
@@ -18,12 +18,12 @@ use Rattle.definitions.specs.laws.Lists.{every-cons}
 use Rattle.definitions.specs.laws.Fields.{field-length}
 use Rattle.lines.specs.Rows.{lineIn, writable, written}
 use Rattle.lines.specs.Writing.{fieldsText}
-use Rattle.lines.specs.laws.Rows.{writable-parts}
+use Rattle.lines.specs.laws.Rows.{isSmall, writable-parts}
 use Rattle.lines.specs.declared.Row.{Row}
 
 -- numbers of at most six digits
 abbrev Small : List ℕ → Type 0
-Small numbers = T (every (λ n. leb n 999999) numbers)
+Small numbers = T (every isSmall numbers)
 
 -- the fields of numbers, then so many blank ones
 abbrev fieldsAnd : (numbers : List ℕ) (blanks : ℕ) → List ℕ
@@ -31,7 +31,7 @@ fieldsAnd numbers blanks = concatMap fieldText numbers ++ replicate (6 * blanks)
 
 small-cons : (n : ℕ) (numbers : List ℕ) → Small (n ∷ numbers) → (length (fieldText n) ≡ 6) × Small numbers
 small-cons n numbers h =
-    let (first, rest) = every-cons (λ n. leb n 999999) n numbers .0 h in
+    let (first, rest) = every-cons isSmall n numbers .0 h in
     let small : n ≤ 999999 = leb→le n 999999 first in
     (field-length n (omega arith), rest)
 
@@ -100,7 +100,7 @@ module _ (row : Row) (fits : writable row ≡ true) (room : length (row .numbers
   pub row-number : (field : ℕ) → field < row .used → getD (row .numbers) field 0 ≤ 999999
   row-number field h =
       let numbers : List ℕ = take (row .used) (row .numbers) in
-      let test = every-at (λ n. leb n 999999) numbers 0 small field (omega (arith, many)) in
+      let test = every-at isSmall numbers 0 small field (omega (arith, many)) in
       leb→le (getD (row .numbers) field 0) 999999 (rw (getD-take (row .used) (row .numbers) field 0 h) at test)
 
   pub number-field : (field : ℕ) → field < row .used
@@ -140,11 +140,6 @@ field-put field text d bytes part h e f =
     let before : take k (take k text ++ drop k d) ≡ take k text = take-at (take k text) (drop k d) k front in
     let after : drop k (take k text ++ drop k d) ≡ drop k d = drop-at (take k text) (drop k d) k front in
     rw (six, next, e, f, before, after, drop-drop 6 k d, take-add k 6 text, append-assoc)
-
-pub fields-done : (field : ℕ) (text d : List ℕ) → 5 ≤ field → length text ≡ 30 → length d ≡ 30
-    → take (6 * field) text ++ drop (6 * field) d ≡ text
-fields-done field text d h l k =
-    rw (take-all (6 * field) text (omega arith), drop-of-length-le d {i = 6 * field} (omega arith), append-nil)
 
 -- ---- a line
 

@@ -1,19 +1,18 @@
 -- Laws about the tests for foreign tables as a whole, in the order of the code.
-use mathlib.Core.Path.{_≡_, refl, _∙_}
+use mathlib.Core.Path.{_≡_, refl}
 use mathlib.Core.List.{List, []}
 use mathlib.Core.Bool.{Bool, true, false, _&&_}
 use Prim.Native.Nat.{ℕ, _*_}
 use lib.Dec.{ltb}
-use lib.ListN.{length, length-map}
+use lib.ListN.{length}
 use borrow.Author.Tests.{eq-eqb}
 use Rattle.definitions.specs.declared.Header.{Header}
-use Rattle.definitions.specs.Lists.{records}
 use Rattle.definitions.specs.BookReading.{nodeSize}
-use Rattle.definitions.specs.Tables.{nodeOf, nodeRecords, tablesBook}
+use Rattle.definitions.specs.Tables.{nodeRecords, tablesBook}
 use Rattle.definitions.specs.ForeignTables.{headerKnown, nodesKnown, holdsOnly, nodeTableKnown}
 use Rattle.definitions.specs.ForeignTables.{classTableKnown, rootTableKnown, namedOnce, tablesKnown}
 use Rattle.definitions.specs.Lookup.{lookupKnown}
-use Rattle.definitions.specs.laws.Records.{records-length}
+use Rattle.definitions.specs.laws.Tables.{node-records-length}
 use Rattle.tables.specs.Lending.{lentTables}
 
 module _ (header : Header) (nodes classes roots : List ℕ) where
@@ -53,10 +52,7 @@ lookup-order : (header : Header) (nodes classes : List ℕ) (root : ℕ)
     && ltb root (header .nodes))
 unfolding lookupKnown nodeTableKnown nodeRecords
 lookup-order header nodes classes root =
-    let many : length (nodeRecords header nodes) ≡ header .nodes =
-    length-map (records nodeSize (header .nodes) nodes) nodeOf
-    ∙ records-length nodeSize (header .nodes) nodes in
-    rw (eq-eqb (length (nodeRecords header nodes)) (header .nodes) many)
+    rw (eq-eqb (length (nodeRecords header nodes)) (header .nodes) (node-records-length header nodes))
     (shuffled (holdsOnly (nodeSize * header .nodes) nodes) (headerKnown header)
     (nodesKnown header 0 (nodeRecords header nodes)) (classTableKnown header classes)
     (ltb root (header .nodes)))

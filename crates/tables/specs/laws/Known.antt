@@ -1,59 +1,27 @@
 -- Laws about the tests for foreign tables, one for each answer of the code.
-use mathlib.Core.Path.{_≡_, refl, sym, ap, _∙_}
+use mathlib.Core.Path.{_≡_, ap, _∙_}
 use mathlib.Core.List.{List, [], _∷_}
-use mathlib.Core.Bool.{Bool, true, false, not}
-use Prim.Native.Nat.{ℕ, suc, _+_, _-_, _*_, _/_, _^_, _≤_, _<_}
+use mathlib.Core.Bool.{Bool, true, false}
+use Prim.Native.Nat.{ℕ, suc, _-_, _*_, _/_, _^_, _≤_, _<_}
 use native.Mathlib.Nat.{div-lt-iff-lt-mul, pow-suc}
-use native.Mathlib.Numerals.{add-one}
 use native.Mathlib.Omega.{arith}
 use lib.Dec.{T, leb, ltb, eqb, leb→le, lit<}
-use lib.ListN.{length, getD, drop, drop-of-length-le}
+use lib.ListN.{length, getD, drop}
 use lib.Pow.{pow-pos}
-use lib.Seq.{drop-cons}
-use borrow.Author.Tests.{not-true, not-false, lt-ltb, le-leb, lt-leb, eq-eqb, ltb-true, leb-true, eqb-true}
+use borrow.Author.Tests.{lt-ltb, le-leb, lt-leb, eq-eqb, ltb-true, leb-true, eqb-true}
 use Rattle.definitions.specs.declared.Header.{Header}
 use Rattle.definitions.specs.declared.Node.{Node}
 use Rattle.definitions.specs.Lists.{_!_, every}
 use Rattle.definitions.specs.Forms.{_‥_, formH}
 use Rattle.definitions.specs.ForeignTables.{headerKnown, questionKnown, leafKnown, holdsOnly}
 use Rattle.definitions.specs.laws.Tests.{T-and, by-test}
-use Rattle.definitions.specs.laws.Ranges.{Within, HeaderRanges, ranges-at}
-
--- ---- a test that a call answered
-
-pub failed : {answer test : Bool} → answer ≡ test → not answer ≡ true → test ≡ false
-failed e h = sym e ∙ not-true _ h
-
-pub held : {answer test : Bool} → answer ≡ test → not answer ≡ false → test ≡ true
-held e h = sym e ∙ not-false _ h
-
--- ---- a test of every element, from a place on
-
--- the elements before place i pass, so the whole is left to the others
-pub record Passed (test : ℕ → Bool) (l : List ℕ) (whole : Bool) (i : ℕ) : Type 0 where
-  pub within : i ≤ length l
-  pub rest : whole ≡ every test (drop i l)
-
-pub passed-none : (test : ℕ → Bool) (l : List ℕ) → Passed test l (every test l) 0
-passed-none test l = record { within = omega arith; rest = refl }
-
-module _ {test : ℕ → Bool} {l : List ℕ} {whole : Bool} {i : ℕ} (p : Passed test l whole i) where
-  pub passed-more : i < length l → test (l ! i) ≡ true → Passed test l whole (i + 1)
-  unfolding every
-  passed-more h e = record { within = omega arith; rest = p .rest ∙ rw (drop-cons l i 0 h, e, add-one) }
-
-  pub passed-stop : i < length l → test (l ! i) ≡ false → false ≡ whole
-  unfolding every
-  passed-stop h e = sym (p .rest ∙ rw (drop-cons l i 0 h, e))
-
-  pub passed-all : length l ≤ i → true ≡ whole
-  unfolding every
-  passed-all h = sym (p .rest ∙ rw (drop-of-length-le l {i = i} h))
+use Rattle.definitions.specs.laws.Ranges.{Within, ranges-at}
+use Rattle.definitions.specs.laws.Books.{InRange}
+use Rattle.lines.specs.laws.Passing.{Passed}
 
 -- ---- the header
 
-pub header-ranges : (header : Header) → T (headerKnown header)
-    → HeaderRanges (header .half) (header .states) (header .phones) (header .classes) (header .nodes)
+pub header-ranges : (header : Header) → T (headerKnown header) → InRange header
 unfolding headerKnown
 header-ranges header h =
     let numbers : List ℕ =

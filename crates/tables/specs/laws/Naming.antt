@@ -10,32 +10,18 @@ use native.Mathlib.Decide.{ℕ-discrete}
 use native.Mathlib.Numerals.{add-one}
 use borrow.Author.Tests.{lt-ltb, le-ltb, eq-eqb, ne-eqb, ltb-true, ltb-false}
 use lib.Dec.{ltb, eqb}
-use lib.ListN.{length, set, take, drop, replicate, length-append, length-map, length-set, length-replicate}
+use lib.ListN.{length, set, take, drop, replicate, length-append, length-set, length-replicate}
 use lib.ListN.{getD-replicate, drop-of-length-le}
 use lib.Seq.{ext-getD, append-snoc, getD-set-same, getD-set-other, getD-take, length-take-le, drop-cons}
 use Rattle.definitions.specs.Lists.{_!_, select, concatMap, upFrom, occurrences}
 use Rattle.definitions.specs.BookLines.{TreeNode, question, leaf, childrenOf}
 use Rattle.definitions.specs.BookReading.{orphans}
 use Rattle.definitions.specs.laws.Tests.{by-test}
-use Rattle.definitions.specs.laws.Lists.{upFrom-length}
-use Rattle.tables.specs.Naming.{countsOf, namedAgain, namedAll, firstMisnamed}
+use Rattle.definitions.specs.laws.Lists.{map-upFrom-length, map-upFrom-at}
+use Rattle.definitions.specs.laws.Occurrences.{occurrences-append, occurrences-least}
+use Rattle.tables.specs.Naming.{countsOf, namedAgain, namedAll, firstMisnamed, allNames}
 
 -- ---- how often a number stands in a list
-
-pub occurrences-append : (x : ℕ) (k l : List ℕ)
-    → occurrences x (k ++ l) ≡ occurrences x k + occurrences x l
-unfolding occurrences
-occurrences-append x [] l = omega arith
-occurrences-append x (y ∷ k) l =
-    let rest = occurrences-append x k l in
-    by-test (eqb x y) (λ e. rw e (omega arith)) (λ e. rw e rest)
-
-pub occurrences-least : (x : ℕ) (l : List ℕ) → occurrences x l ≤ length l
-unfolding occurrences
-occurrences-least x [] = omega arith
-occurrences-least x (y ∷ l) =
-    let rest = occurrences-least x l in
-    by-test (eqb x y) (λ e. rw e (omega arith)) (λ e. rw e (omega arith))
 
 -- one more name counts one for that node, and nothing for the others
 named-same : (x : ℕ) (names : List ℕ) → occurrences x (names ++ (x ∷ [])) ≡ suc (occurrences x names)
@@ -49,24 +35,15 @@ named-other x y names h = occurrences-append x names (y ∷ []) ∙ rw (ne-eqb x
 
 -- ---- the counts of names
 
-from-at : (f : ℕ → ℕ) (a n i : ℕ) → i < n → map f (upFrom a n) ! i ≡ f (a + i)
-unfolding upFrom
-from-at f a zero i h = absurd (omega arith)
-from-at f a (suc n) zero h = ap (λ (x : ℕ). f x) {x = a} {y = a + 0} (omega arith)
-from-at f a (suc n) (suc i) h =
-    from-at f (suc a) n i (omega arith) ∙ ap (λ (x : ℕ). f x) {x = suc a + i} {y = a + suc i} (omega arith)
-
 pub counts-length : (nodes : ℕ) (names : List ℕ) → length (countsOf nodes names) ≡ nodes
 unfolding countsOf
-counts-length nodes names =
-    length-map (upFrom 0 nodes) (λ node. occurrences node names) ∙ upFrom-length 0 nodes
+counts-length nodes names = map-upFrom-length (λ node. occurrences node names) 0 nodes
 
-pub counts-at : (nodes : ℕ) (names : List ℕ) (node : ℕ) → node < nodes
+counts-at : (nodes : ℕ) (names : List ℕ) (node : ℕ) → node < nodes
     → countsOf nodes names ! node ≡ occurrences node names
 unfolding countsOf
 counts-at nodes names node h =
-    from-at (λ node. occurrences node names) 0 nodes node h
-    ∙ ap (λ (x : ℕ). occurrences x names) {x = 0 + node} {y = node} (omega arith)
+    map-upFrom-at (λ node. occurrences node names) 0 nodes node node h (omega arith)
 
 -- a list that has them is the counts
 counts-same : (nodes : ℕ) (counts names : List ℕ) → length counts ≡ nodes
@@ -81,24 +58,8 @@ counts-none nodes =
     sym (counts-same nodes (replicate nodes 0) [] (length-replicate nodes 0)
     (λ node h. getD-replicate nodes node 0 0 h))
 
-pub counts-swap : (nodes : ℕ) (a b c : List ℕ) → countsOf nodes (a ++ b ++ c) ≡ countsOf nodes (a ++ c ++ b)
-counts-swap nodes a b c =
-    counts-same nodes (countsOf nodes (a ++ b ++ c)) (a ++ c ++ b) (counts-length nodes (a ++ b ++ c)) each
-  where
-    each : (node : ℕ) → node < nodes
-        → countsOf nodes (a ++ b ++ c) ! node ≡ occurrences node (a ++ c ++ b)
-    each node h =
-        counts-at nodes (a ++ b ++ c) node h
-        ∙ omega (
-          arith,
-          occurrences-append node (a ++ b) c,
-          occurrences-append node a b,
-          occurrences-append node (a ++ c) b,
-          occurrences-append node a c,
-        )
-
 -- the first of them
-pub counts-take : (nodes size : ℕ) (names : List ℕ) → nodes ≤ size
+counts-take : (nodes size : ℕ) (names : List ℕ) → nodes ≤ size
     → take nodes (countsOf size names) ≡ countsOf nodes names
 counts-take nodes size names h =
     let size-is = counts-length size names in
@@ -141,7 +102,7 @@ module _ (nodes : ℕ) (names : List ℕ) (node : ℕ) where
       (counts-same nodes counts (names ++ (node ∷ [])) known
       (λ i k. counts-at nodes names i k ∙ sym (named-other i node names (λ e. omega arith))))
 
-  pub counts-again : length names < 4294967295
+  counts-again : length names < 4294967295
       → namedAgain (countsOf nodes names) node ≡ countsOf nodes (names ++ (node ∷ []))
   counts-again few =
       by-test (ltb node nodes) (λ e. named-in (ltb-true node nodes e) few)
@@ -196,10 +157,10 @@ named-length counts (node ∷ names) = named-length (namedAgain counts node) nam
 -- ---- the first count that is not 1
 
 -- a search that has come to a node goes on after it, or ends there
-pub misnamed-next : (counts : List ℕ) (node : ℕ) → node < length counts → counts ! node ≡ 1
+pub misnamed-more : (counts : List ℕ) (node : ℕ) → node < length counts → counts ! node ≡ 1
     → node + firstMisnamed (drop node counts) ≡ node + 1 + firstMisnamed (drop (node + 1) counts)
 unfolding firstMisnamed
-misnamed-next counts node h e =
+misnamed-more counts node h e =
     rw (drop-cons counts node 0 h, eq-eqb (counts ! node) 1 e, add-one) (omega arith)
 
 pub misnamed-here : (counts : List ℕ) (node : ℕ) → node < length counts → (counts ! node ≡ 1 → ⊥)
@@ -208,12 +169,12 @@ unfolding firstMisnamed
 misnamed-here counts node h e =
     rw (drop-cons counts node 0 h, ne-eqb (counts ! node) 1 e) (omega arith)
 
-pub misnamed-none : (counts : List ℕ) (node : ℕ) → length counts ≤ node
+pub misnamed-end : (counts : List ℕ) (node : ℕ) → length counts ≤ node
     → node + firstMisnamed (drop node counts) ≡ node
 unfolding firstMisnamed
-misnamed-none counts node h = rw (drop-of-length-le counts {i = node} h) (omega arith)
+misnamed-end counts node h = rw (drop-of-length-le counts {i = node} h) (omega arith)
 
-pub misnamed-least : (counts : List ℕ) → firstMisnamed counts ≤ length counts
+misnamed-least : (counts : List ℕ) → firstMisnamed counts ≤ length counts
 unfolding firstMisnamed
 misnamed-least [] = omega arith
 misnamed-least (count ∷ counts) =
@@ -248,36 +209,32 @@ module _ (f : ℕ → ℕ) where
       {y = a + suc (lowest (suc a) n)} (omega arith)))
       (λ t. rw t (ap (λ (x : ℕ). x ∷ misnamed (suc a) n) {x = a} {y = a + 0} (omega arith)))
 
--- the names of the nodes and roots of a book
-abbrev pub namesOf : List TreeNode → (roots : List ℕ) → List ℕ
-namesOf nodes roots = concatMap childrenOf nodes ++ roots
-
 -- the lowest node that is not named once, by the counts; one past the last where there is none
 abbrev pub firstOrphan : List TreeNode → (roots : List ℕ) → (size : ℕ) → ℕ
-firstOrphan nodes roots size = firstMisnamed (take (length nodes) (countsOf size (namesOf nodes roots)))
+firstOrphan nodes roots size = firstMisnamed (take (length nodes) (countsOf size (allNames nodes roots)))
 
 module _ (nodes : List TreeNode) (roots : List ℕ) (size : ℕ) (room : length nodes ≤ size) where
   pub orphan-least : firstOrphan nodes roots size ≤ length nodes
   orphan-least =
-      rw (counts-take (length nodes) size (namesOf nodes roots) room)
+      rw (counts-take (length nodes) size (allNames nodes roots) room)
       (omega (
         arith,
-        misnamed-least (countsOf (length nodes) (namesOf nodes roots)),
-        counts-length (length nodes) (namesOf nodes roots),
+        misnamed-least (countsOf (length nodes) (allNames nodes roots)),
+        counts-length (length nodes) (allNames nodes roots),
       ))
 
   pub orphans-none : firstOrphan nodes roots size ≡ length nodes → orphans nodes roots ≡ []
   unfolding orphans countsOf
   orphans-none e =
-      none-misnamed (λ node. occurrences node (namesOf nodes roots)) 0 (length nodes)
-      (rw (counts-take (length nodes) size (namesOf nodes roots) room) at e)
+      none-misnamed (λ node. occurrences node (allNames nodes roots)) 0 (length nodes)
+      (rw (counts-take (length nodes) size (allNames nodes roots) room) at e)
 
   pub orphans-some : firstOrphan nodes roots size < length nodes
       → orphans nodes roots ≡ firstOrphan nodes roots size ∷ drop 1 (orphans nodes roots)
   unfolding orphans countsOf
   orphans-some h =
-      let first = counts-take (length nodes) size (namesOf nodes roots) room in
-      some-misnamed (λ node. occurrences node (namesOf nodes roots)) 0 (length nodes) (rw first at h)
+      let first = counts-take (length nodes) size (allNames nodes roots) room in
+      some-misnamed (λ node. occurrences node (allNames nodes roots)) 0 (length nodes) (rw first at h)
       ∙ rw (first, zero-add)
 
   -- no orphan, by whether the first is one past the last

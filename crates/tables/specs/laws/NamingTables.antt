@@ -6,24 +6,24 @@ use Prim.Native.Nat.{ℕ, _+_, _*_, _≤_, _<_}
 use native.Mathlib.Numerals.{add-one}
 use native.Mathlib.Omega.{arith}
 use lib.Dec.{T, eqb}
-use lib.ListN.{length, take, drop, replicate, length-map, length-take, drop-of-length-le}
+use lib.ListN.{length, take, drop, replicate, length-take, drop-of-length-le}
 use lib.Seq.{drop-cons}
 use borrow.Author.Tests.{eq-eqb, ne-eqb}
 use Rattle.definitions.specs.declared.Header.{Header}
 use Rattle.definitions.specs.declared.Node.{Node}
-use Rattle.definitions.specs.Lists.{_!_, concatMap, records}
+use Rattle.definitions.specs.Lists.{_!_, concatMap}
 use Rattle.definitions.specs.BookLines.{TreeNode, childrenOf, rootCount}
 use Rattle.definitions.specs.BookReading.{nodeSize}
-use Rattle.definitions.specs.Tables.{nodeOf, treeNode, nodeRecords, tablesBook}
+use Rattle.definitions.specs.Tables.{nodeOf, treeNode, tablesBook}
 use Rattle.definitions.specs.ForeignTables.{headerKnown, namedOnce}
-use Rattle.definitions.specs.laws.Records.{records-length}
+use Rattle.definitions.specs.laws.Tables.{tree-nodes-length}
+use Rattle.definitions.specs.laws.Books.{roots-few}
 use Rattle.tables.specs.Lending.{lentTables}
-use Rattle.tables.specs.Naming.{countsOf, namedAgain, namedAll, firstMisnamed}
-use Rattle.tables.specs.laws.Records.{recordsFrom, records-start, records-next, records-end}
+use Rattle.tables.specs.Naming.{allNames, countsOf, namedAgain, namedAll, firstMisnamed}
+use Rattle.tables.specs.laws.Records.{treeNodes, recordsFrom, records-start, records-next, records-end}
 use Rattle.tables.specs.laws.Known.{header-ranges}
-use Rattle.tables.specs.laws.TablesKnown.{roots-few}
 use Rattle.tables.specs.laws.Naming.{counts-none, counts-named, named-append, named-length}
-use Rattle.tables.specs.laws.Naming.{again-length, namesOf, firstOrphan, orphans-test, children-length}
+use Rattle.tables.specs.laws.Naming.{again-length, firstOrphan, orphans-test, children-length}
 
 -- ---- one record
 
@@ -43,7 +43,7 @@ abbrev pub childrenFrom : (nodes at : ℕ) → (words : List ℕ) → List ℕ
 childrenFrom nodes at words = concatMap childrenOf (map treeNode (recordsFrom nodes at words))
 
 abbrev pub childrenIn : Header → (words : List ℕ) → List ℕ
-childrenIn header words = concatMap childrenOf (map treeNode (nodeRecords header words))
+childrenIn header words = concatMap childrenOf (treeNodes header words)
 
 -- the children of the records before one are counted, those of the others are left
 pub record ChildrenNamed (before counts : List ℕ) (header : Header) (words : List ℕ) (at : ℕ) : Type 0 where
@@ -76,9 +76,9 @@ module _ {before counts : List ℕ} {header : Header} {words : List ℕ} {at : �
         );
       }
 
-  pub children-done : header .nodes ≤ at → counts ≡ namedAll before (childrenIn header words)
+  pub children-end : header .nodes ≤ at → counts ≡ namedAll before (childrenIn header words)
   unfolding concatMap namedAll
-  children-done h = sym (n .rest ∙ rw (records-end (header .nodes) at words h))
+  children-end h = sym (n .rest ∙ rw (records-end (header .nodes) at words h))
 
 -- ---- the roots
 
@@ -102,32 +102,28 @@ module _ {before counts roots : List ℕ} {i : ℕ} (n : RootsNamed before count
         rest = n .rest ∙ rw (drop-cons roots i 0 h, f, add-one);
       }
 
-  pub roots-done : length roots ≤ i → counts ≡ namedAll before roots
+  pub roots-end : length roots ≤ i → counts ≡ namedAll before roots
   unfolding namedAll
-  roots-done h = sym (n .rest ∙ rw (drop-of-length-le roots {i = i} h))
+  roots-end h = sym (n .rest ∙ rw (drop-of-length-le roots {i = i} h))
 
 -- ---- what the counts of both say
 
 module _ (header : Header) (words roots : List ℕ) (known : T (headerKnown header)) where
   abbrev bookNodes : List TreeNode
-  bookNodes = map treeNode (nodeRecords header words)
+  bookNodes = treeNodes header words
 
   abbrev bookRoots : List ℕ
   bookRoots = take (rootCount header) roots
 
   nodes-length : length bookNodes ≡ header .nodes
-  unfolding nodeRecords
-  nodes-length =
-      length-map (nodeRecords header words) treeNode
-      ∙ length-map (records nodeSize (header .nodes) words) nodeOf
-      ∙ records-length nodeSize (header .nodes) words
+  nodes-length = tree-nodes-length header words
 
   -- a count has room for all names
   counts-both : namedAll (namedAll (replicate 4096 0) (childrenIn header words)) bookRoots
-      ≡ countsOf 4096 (namesOf bookNodes bookRoots)
+      ≡ countsOf 4096 (allNames bookNodes bookRoots)
   counts-both =
       let many : header .nodes ≤ 4096 = header-ranges header known .nodes-range .high in
-      let few : rootCount header ≤ 192 = roots-few header known in
+      let few : rootCount header ≤ 192 = roots-few header (header-ranges header known) in
       let names : length (childrenIn header words) ≤ 2 * length bookNodes = children-length bookNodes in
       let own : length bookNodes ≡ header .nodes = nodes-length in
       let taken : length bookRoots ≤ rootCount header = rw length-take (omega arith) in
@@ -140,8 +136,8 @@ module _ (header : Header) (words roots : List ℕ) (known : T (headerKnown head
       → eqb first count ≡ namedOnce (tablesBook header (lentTables words [] roots))
   unfolding namedOnce tablesBook
   once-counted {used} {count} {first} {children} {all} a b c d e =
-      let counted : all ≡ countsOf 4096 (namesOf bookNodes bookRoots) = rw (d, c, a) counts-both in
-      let many : count ≡ length bookNodes = b ∙ sym nodes-length in
+      let counted : all ≡ countsOf 4096 (allNames bookNodes bookRoots) = rw (d, c, a) counts-both in
+      let many : count ≡ length bookNodes = b ∙ sym (nodes-length) in
       let lowest : first ≡ firstOrphan bookNodes bookRoots 4096 = e ∙ rw (counted, many) in
       let range : header .nodes ≤ 4096 = header-ranges header known .nodes-range .high in
       rw (lowest, many) (orphans-test bookNodes bookRoots 4096 (omega (arith, nodes-length)))

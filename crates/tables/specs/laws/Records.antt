@@ -4,35 +4,28 @@ use mathlib.Core.List.{List, [], _∷_, map}
 use Prim.Native.Nat.{ℕ, suc, _+_, _-_, _*_, _≤_, _<_}
 use native.Mathlib.Nat.{add-zero, sub-zero}
 use native.Mathlib.Omega.{arith}
-use lib.Dec.{lit<}
-use lib.ListN.{take, drop}
-use lib.Seq.{getD-take, getD-drop, drop-drop}
+use lib.ListN.{drop}
+use lib.Seq.{getD-drop, drop-drop}
 use Rattle.definitions.specs.declared.Header.{Header}
 use Rattle.definitions.specs.declared.Node.{Node}
 use Rattle.definitions.specs.Lists.{_!_, records}
+use Rattle.definitions.specs.BookLines.{TreeNode}
 use Rattle.definitions.specs.BookReading.{nodeSize}
-use Rattle.definitions.specs.Tables.{nodeOf, nodeRecords}
+use Rattle.definitions.specs.Tables.{nodeOf, treeNode, nodeRecords}
+use Rattle.definitions.specs.laws.Tables.{node-of-first}
 
 -- five words from a place on are a record
-pub record-at : (words : List ℕ) (at : ℕ) {kind value position yesNode noNode : ℕ}
+pub node-from-words : (words : List ℕ) (at : ℕ) {kind value position yesNode noNode : ℕ}
     → kind ≡ words ! at → value ≡ words ! (at + 1) → position ≡ words ! (at + 2)
     → yesNode ≡ words ! (at + 3) → noNode ≡ words ! (at + 4)
     → record { kind = kind; value = value; position = position; yes = yesNode; no = noNode }
     ≡ nodeOf (drop at words)
 unfolding nodeOf
-record-at words at a b c d e = rw (a, b, c, d, e) (simp (getD-drop, add-zero))
+node-from-words words at a b c d e = rw (a, b, c, d, e) (simp (getD-drop, add-zero))
 
--- more words after its own change no record
-node-of-first : (words : List ℕ) → nodeOf (take nodeSize words) ≡ nodeOf words
-unfolding nodeOf
-node-of-first words =
-    rw (
-      getD-take nodeSize words 0 0 (lit< tt),
-      getD-take nodeSize words 1 0 (lit< tt),
-      getD-take nodeSize words 2 0 (lit< tt),
-      getD-take nodeSize words 3 0 (lit< tt),
-      getD-take nodeSize words 4 0 (lit< tt),
-    )
+-- the nodes that the records are
+abbrev pub treeNodes : Header → (words : List ℕ) → List TreeNode
+treeNodes header words = map treeNode (nodeRecords header words)
 
 -- the records from a node on
 abbrev pub recordsFrom : (nodes at : ℕ) → (words : List ℕ) → List Node

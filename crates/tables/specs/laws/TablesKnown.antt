@@ -4,7 +4,6 @@ use mathlib.Core.Path.{_≡_, sym, _∙_}
 use mathlib.Core.List.{List}
 use mathlib.Core.Bool.{Bool, true, false, _||_}
 use Prim.Native.Nat.{ℕ, _+_, _*_, _^_, _≤_, _<_}
-use native.Mathlib.Nat.{mul-le-mul}
 use native.Mathlib.Numerals.{add-one}
 use native.Mathlib.Omega.{arith}
 use lib.Dec.{T, ltb}
@@ -16,11 +15,11 @@ use Rattle.definitions.specs.Lists.{every}
 use Rattle.definitions.specs.BookLines.{rootCount}
 use Rattle.definitions.specs.BookReading.{nodeSize}
 use Rattle.definitions.specs.Tables.{nodeOf}
-use Rattle.definitions.specs.ForeignTables.{headerKnown, questionKnown, leafKnown, nodesKnown, holdsOnly}
+use Rattle.definitions.specs.ForeignTables.{questionKnown, leafKnown, nodesKnown, holdsOnly}
 use Rattle.definitions.specs.ForeignTables.{nodeTableKnown, classTableKnown, rootTableKnown}
 use Rattle.definitions.specs.laws.Tests.{T-and}
 use Rattle.tables.specs.laws.Records.{recordsFrom, records-start, records-next, records-end}
-use Rattle.tables.specs.laws.Known.{header-ranges, holds-length}
+use Rattle.tables.specs.laws.Known.{holds-length}
 
 -- the words that count are all there
 pub holds-taken : (count : ℕ) (words : List ℕ) → holdsOnly count words ≡ true
@@ -45,11 +44,6 @@ pub root-count : (header : Header) {phones states : ℕ} → phones ≡ header .
     → phones * states ≡ rootCount header
 unfolding rootCount
 root-count header e f = rw (e, f)
-
-pub roots-few : (header : Header) → T (headerKnown header) → rootCount header ≤ 192
-unfolding rootCount
-roots-few header h =
-    let ranges = header-ranges header h in mul-le-mul (ranges .phones-range .high) (ranges .states-range .high)
 
 module _ (header : Header) (words : List ℕ) {count : ℕ} (e : count ≡ rootCount header) where
   pub roots-refused : holdsOnly count words ≡ false → false ≡ rootTableKnown header words
@@ -103,6 +97,6 @@ module _ {header : Header} {words : List ℕ} {at : ℕ} (j : Judged header word
   unfolding nodesKnown
   nodes-stop h e foreign = sym (j .rest ∙ rw (records-next (header .nodes) at words h, ← e, foreign))
 
-  pub nodes-all : header .nodes ≤ at → true ≡ nodeTableKnown header words
+  pub nodes-end : header .nodes ≤ at → true ≡ nodeTableKnown header words
   unfolding nodesKnown
-  nodes-all h = sym (j .rest ∙ rw (records-end (header .nodes) at words h))
+  nodes-end h = sym (j .rest ∙ rw (records-end (header .nodes) at words h))

@@ -2,9 +2,8 @@
 use mathlib.Core.Path.{_≡_, refl, sym, ap, _∙_}
 use mathlib.Core.List.{List, _++_}
 use mathlib.Core.Bool.{Bool, true, false, _&&_, false≢true}
-use Prim.Native.Nat.{ℕ, zero, suc, _-_, _*_, _/_, _≤_, _<_}
-use native.Mathlib.Nat.{div-lt-iff-lt-mul, sub-zero}
-use native.Mathlib.Numerals.{unary-clauses}
+use Prim.Native.Nat.{ℕ, _-_, _*_, _/_, _≤_, _<_}
+use native.Mathlib.Nat.{div-lt-iff-lt-mul}
 use native.Mathlib.Omega.{arith}
 use lib.Dec.{T, leb, ltb, eqb, ltb→lt}
 use lib.ListN.{length, drop}
@@ -23,11 +22,12 @@ use Rattle.definitions.specs.Lookup.{leafReached, lookupKnown, isContext, leafL
 use Rattle.definitions.specs.TreesGive.{silentEnds}
 use Rattle.definitions.specs.Transcription.{transcription, isUtterance, transcribe}
 use Rattle.definitions.specs.laws.Tests.{T-three, by-test}
+use Rattle.definitions.specs.laws.Lists.{drop-cleared}
 use Rattle.trees.specs.declared.Lookup.the-variants as lookup
 use Rattle.trees.specs.declared.Transcript.{Transcript}
 use Rattle.trees.specs.declared.Transcript.the-variants as transcript
 use Rattle.trees.specs.Answers.{lookupOf, transcriptOf}
-use Rattle.trees.specs.laws.Nodes.{treeNodes}
+use Rattle.tables.specs.laws.Records.{treeNodes}
 use Rattle.trees.specs.laws.Fitting.{classes-wide, tables-fit}
 use Rattle.trees.specs.laws.Models.{transcription-length}
 
@@ -79,11 +79,6 @@ module _ (header : Header) (nodes classes : List ℕ) (root : ℕ) (context : Li
         (first .0, first .2, classes-wide header classes (last .1), ltb→lt _ _ (last .2))
 
 -- ---- the transcription: 18, then 41, then 33
-
-drop-cleared : (count size : ℕ) → drop count (cleared size) ≡ cleared (size - count)
-drop-cleared zero size = rw sub-zero
-drop-cleared (suc count) zero = let none : 0 - suc count ≡ 0 = omega arith in rw none
-drop-cleared (suc count) (suc size) = simp unary-clauses (drop-cleared count size)
 
 -- whether so many models have room, by a division that stays in range
 module _ (count words states : ℕ) (some : 0 < states) where

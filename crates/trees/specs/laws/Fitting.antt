@@ -17,9 +17,8 @@ use Rattle.definitions.specs.Tables.{Tables, nodeRecords, tablesBook}
 use Rattle.definitions.specs.ForeignTables.{headerKnown, nodesKnown, holdsOnly, nodeTableKnown}
 use Rattle.definitions.specs.ForeignTables.{classTableKnown, rootTableKnown, namedOnce, tablesKnown}
 use Rattle.definitions.specs.laws.Tests.{T-and, T-three, every-at}
-use Rattle.definitions.specs.laws.Books.{InRange}
+use Rattle.definitions.specs.laws.Books.{InRange, roots-few}
 use Rattle.tables.specs.laws.Known.{header-ranges, holds-length}
-use Rattle.tables.specs.laws.TablesKnown.{roots-few}
 
 module _ (header : Header) where
   nodes-fit : (words : List ℕ) → T (nodeTableKnown header words)
@@ -78,7 +77,7 @@ module _ (header : Header) where
       let place = tree-place phone state a b c d in
       let root = root-fits roots h _ place in
       rw e record {
-        few = omega (arith, roots-few header known);
+        few = omega (arith, roots-few header (header-ranges header known));
         inside = root .inside;
         own = (sym (root .own), root .listed);
       }

@@ -1,17 +1,17 @@
 -- Laws about the models that contexts reach in known tables: of one state, of all states of a place, and of
 -- all places.
 use mathlib.Core.Path.{_≡_, refl, sym, ap, ap₂, _∙_}
-use mathlib.Core.List.{List, [], _++_, map, append-assoc}
-use Prim.Native.Nat.{ℕ, zero, suc, _+_, _-_, _*_, _≤_, _<_}
-use native.Mathlib.Nat.{add-zero, zero-mul, suc-mul, mul-comm, mul-le-mul-right}
+use mathlib.Core.List.{List, [], _++_, append-assoc}
+use Prim.Native.Nat.{ℕ, _+_, _-_, _*_, _≤_, _<_}
+use native.Mathlib.Nat.{zero-mul, suc-mul, mul-comm, mul-le-mul-right}
 use native.Mathlib.Numerals.{add-one}
 use native.Mathlib.Omega.{arith}
 use lib.Dec.{T, eqb}
-use lib.ListN.{length, take, drop, length-map, length-append, length-drop}
+use lib.ListN.{length, take, drop, length-append, length-drop}
 use lib.Seq.{take-at, drop-at, drop-drop, take-suc, take-all, length-take-le}
 use Rattle.definitions.specs.declared.Header.{Header}
 use Rattle.definitions.specs.declared.Node.{Node}
-use Rattle.definitions.specs.Lists.{_!_, every, concatMap, upFrom}
+use Rattle.definitions.specs.Lists.{_!_, every, concatMap}
 use Rattle.definitions.specs.BookLines.{TreeNode, rootCount, isPhone}
 use Rattle.definitions.specs.BookReading.{nodeSize}
 use Rattle.definitions.specs.Tables.{Book, nodeOf, tablesBook}
@@ -20,13 +20,13 @@ use Rattle.definitions.specs.Combinations.{rootOf}
 use Rattle.definitions.specs.TreesGive.{withSilence, contexts}
 use Rattle.definitions.specs.Transcription.{modelOf, transcription}
 use Rattle.definitions.specs.laws.Tests.{T-and, eq→eqb}
-use Rattle.definitions.specs.laws.Lists.{upFrom-length, every-split, concatMap-snoc}
+use Rattle.definitions.specs.laws.Lists.{map-upFrom-length, map-upFrom-at, every-split, concatMap-snoc}
 use Rattle.definitions.specs.laws.Records.{flat-length}
 use Rattle.definitions.specs.laws.Contexts.{contextAt, contexts-length, context-length, context-window}
 use Rattle.definitions.specs.laws.Contexts.{around-phones}
 use Rattle.tables.specs.Lending.{lentTables}
 use Rattle.trees.specs.Answers.{stateModels}
-use Rattle.trees.specs.laws.Nodes.{treeNodes}
+use Rattle.tables.specs.laws.Records.{treeNodes}
 use Rattle.trees.specs.laws.Walking.{model-is}
 
 -- the record at the leaf that the walk from the root reaches holds the model
@@ -48,24 +48,14 @@ model-reached header nodes classes roots context state phone root count leaf x p
 
 -- ---- the states of a context
 
-upFrom-map-at : (f : ℕ → ℕ) (a count i : ℕ) → i < count → map f (upFrom a count) ! i ≡ f (a + i)
-unfolding upFrom
-upFrom-map-at f a zero i h = absurd (omega arith)
-upFrom-map-at f a (suc count) zero h = rw add-zero
-upFrom-map-at f a (suc count) (suc i) h =
-    upFrom-map-at f (suc a) count i (omega arith) ∙ ap f {x = suc a + i} {y = a + suc i} (omega arith)
-
 module _ (book : Book) (context : List ℕ) where
   pub states-length : length (stateModels book context) ≡ book .states
-  states-length =
-      length-map (upFrom 1 (book .states)) (λ state. modelOf book context state)
-      ∙ upFrom-length 1 (book .states)
+  states-length = map-upFrom-length (λ state. modelOf book context state) 1 (book .states)
 
   -- the model of state i+1
   pub state-at : (i : ℕ) → i < book .states → modelOf book context (i + 1) ≡ stateModels book context ! i
   state-at i h =
-      ap (modelOf book context) {x = i + 1} {y = 1 + i} (omega arith)
-      ∙ sym (upFrom-map-at (λ state. modelOf book context state) 1 (book .states) i h)
+      sym (map-upFrom-at (λ state. modelOf book context state) 1 (book .states) i (i + 1) h (omega arith))
 
 -- ---- the context of a place, in the front of a window
 
@@ -134,13 +124,13 @@ module _ (book : Book) (S : List ℕ) where
         ∙ ap (λ (n : ℕ). n * book .states)
         (length-take-le place places (rw (contexts-length (book .half) S) (p .within)))
 
-    pub placed-turn : length S * book .states ≤ length d → place < length S
+    pub placed-more : length S * book .states ≤ length d → place < length S
         → (states count : ℕ) → states ≡ book .states → count ≡ states → (ys : List ℕ)
         → ys ≡ stateModels book (contextAt (book .half) S place)
         → Placed book S d (place + 1)
         (take (place * states) s ++ (ys ++ drop count (drop (place * states) s)))
     unfolding concatMap
-    placed-turn wide inside states count e k ys own =
+    placed-more wide inside states count e k ys own =
         let w : ℕ = book .states in
         let front : List ℕ = concatMap (stateModels book) (take place places) in
         let fits : place * w + w ≤ length d = room d wide place w inside refl in

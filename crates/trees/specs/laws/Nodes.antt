@@ -2,73 +2,40 @@
 -- has its class, its position and its children in range. And about a context: each column holds a phone.
 use mathlib.Core.Path.{_≡_, sym, ap, _∙_}
 use mathlib.Core.Logic.{⊎-elim}
-use mathlib.Core.List.{List, [], _∷_, map}
+use mathlib.Core.List.{List, [], _∷_}
 use mathlib.Core.Bool.{Bool, _&&_, _||_}
 use Prim.Native.Nat.{ℕ, zero, suc, _+_, _*_, _≤_, _<_}
-use native.Mathlib.Nat.{mul-zero, mul-suc}
 use native.Mathlib.Omega.{arith}
-use lib.Dec.{T, leb, ltb, eqb, leb→le, ltb→lt, eqb→eq, lit<}
-use lib.ListN.{length, take, drop, getD, length-map, List·getD-map}
-use lib.Seq.{drop-drop, getD-take}
+use lib.Dec.{T, leb, ltb, eqb, leb→le, ltb→lt, eqb→eq}
+use lib.ListN.{length, drop, getD, List·getD-map}
 use Rattle.definitions.specs.declared.Header.{Header}
 use Rattle.definitions.specs.declared.Node.{Node}
 use Rattle.definitions.specs.Lists.{_!_, every, records}
-use Rattle.definitions.specs.BookLines.{TreeNode, isPhone}
+use Rattle.definitions.specs.BookLines.{isPhone}
 use Rattle.definitions.specs.BookReading.{nodeSize}
 use Rattle.definitions.specs.Tables.{nodeOf, treeNode, nodeRecords}
 use Rattle.definitions.specs.ForeignTables.{questionKnown, leafKnown, nodesKnown}
 use Rattle.definitions.specs.Lookup.{nodeAt, isContext}
 use Rattle.definitions.specs.laws.Tests.{T-and, T-three, T-or, every-at}
 use Rattle.definitions.specs.laws.Ranges.{phone-range}
-use Rattle.definitions.specs.laws.Records.{records-length}
+use Rattle.definitions.specs.laws.Records.{record-at}
+use Rattle.definitions.specs.laws.Tables.{node-of-first, node-records-length}
 use Rattle.definitions.specs.laws.Accepted.{QuestionFits}
+use Rattle.tables.specs.laws.Records.{treeNodes}
 
 -- ---- the record of a node
 
-record-at : (size count : ℕ) (l : List ℕ) (i : ℕ) → i < count
-    → getD (records size count l) i [] ≡ take size (drop (size * i) l)
-unfolding records
-record-at size zero l i h = absurd (omega arith)
-record-at size (suc count) l zero h = rw (mul-zero size)
-record-at size (suc count) l (suc i) h =
-    let next : size + size * i ≡ size * suc i = omega (arith, mul-suc size i) in
-    record-at size count (drop size l) i (omega arith) ∙ ap (take size) (drop-drop (size * i) size l ∙ rw next)
-
-first-words : (words : List ℕ) → nodeOf (take nodeSize words) ≡ nodeOf words
-unfolding nodeOf
-first-words words = rw (
-  getD-take nodeSize words 0 0 (lit< tt),
-  getD-take nodeSize words 1 0 (lit< tt),
-  getD-take nodeSize words 2 0 (lit< tt),
-  getD-take nodeSize words 3 0 (lit< tt),
-  getD-take nodeSize words 4 0 (lit< tt),
-)
-
--- the nodes of the tree in a table
-abbrev pub treeNodes : Header → (words : List ℕ) → List TreeNode
-treeNodes header words = map treeNode (nodeRecords header words)
-
-module _ (header : Header) (words : List ℕ) where
-  records-count : length (nodeRecords header words) ≡ header .nodes
+module _ (header : Header) (words : List ℕ) (node : ℕ) (listed : node < header .nodes) where
+  record-listed : getD (nodeRecords header words) node (nodeOf []) ≡ nodeOf (drop (nodeSize * node) words)
   unfolding nodeRecords
-  records-count =
-      length-map (records nodeSize (header .nodes) words) nodeOf
-      ∙ records-length nodeSize (header .nodes) words
+  record-listed =
+      List·getD-map nodeOf (records nodeSize (header .nodes) words) node []
+      ∙ ap nodeOf (record-at nodeSize (header .nodes) words node listed) ∙ node-of-first _
 
-  pub tree-length : length (treeNodes header words) ≡ header .nodes
-  tree-length = length-map (nodeRecords header words) treeNode ∙ records-count
-
-  module _ (node : ℕ) (listed : node < header .nodes) where
-    record-listed : getD (nodeRecords header words) node (nodeOf []) ≡ nodeOf (drop (nodeSize * node) words)
-    unfolding nodeRecords
-    record-listed =
-        List·getD-map nodeOf (records nodeSize (header .nodes) words) node []
-        ∙ ap nodeOf (record-at nodeSize (header .nodes) words node listed) ∙ first-words _
-
-    pub node-is : nodeAt (treeNodes header words) node ≡ treeNode (nodeOf (drop (nodeSize * node) words))
-    unfolding treeNode nodeOf
-    node-is =
-        List·getD-map treeNode (nodeRecords header words) node (nodeOf []) ∙ ap treeNode record-listed
+  pub node-is : nodeAt (treeNodes header words) node ≡ treeNode (nodeOf (drop (nodeSize * node) words))
+  unfolding treeNode nodeOf
+  node-is =
+      List·getD-map treeNode (nodeRecords header words) node (nodeOf []) ∙ ap treeNode record-listed
 
 -- ---- what is known of it
 
@@ -128,7 +95,7 @@ module _ (header : Header) (words : List ℕ) (known : T (nodesKnown header 0 (n
   question-fits node listed x e kind =
       let own : x ≡ getD (nodeRecords header words) node (nodeOf []) =
       e ∙ sym (record-listed header words node listed) in
-      let inside : node < length (nodeRecords header words) = omega (arith, records-count header words) in
+      let inside : node < length (nodeRecords header words) = omega (arith, node-records-length header words) in
       let either = known-at header 0 (nodeRecords header words) (nodeOf []) known node node inside
       (omega arith) in
       ⊎-elim (λ q. question-facts header node x q) (λ l. absurd (omega (arith, leaf-kind x l)))

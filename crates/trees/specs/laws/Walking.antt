@@ -22,8 +22,10 @@ use Rattle.definitions.specs.ForeignTables.{headerKnown}
 use Rattle.definitions.specs.Lookup.{nodeAt, holdsAt, walk, leafReached, modelAt, isContext}
 use Rattle.definitions.specs.laws.Accepted.{QuestionFits}
 use Rattle.definitions.specs.laws.Walks.{walk-leaf, walk-question, either-node}
+use Rattle.definitions.specs.laws.Tables.{tree-nodes-length}
+use Rattle.tables.specs.laws.Records.{treeNodes}
 use Rattle.tables.specs.laws.Known.{header-ranges}
-use Rattle.trees.specs.laws.Nodes.{treeNodes, tree-length, node-is, column-fits}
+use Rattle.trees.specs.laws.Nodes.{node-is, column-fits}
 
 -- the bit worth 2^(phone-1)
 pub has-bit : (phone set : ℕ) → 1 ≤ phone → eqb (bitAnd (set / 2 ^ (phone - 1)) 1) 1 ≡ has phone set
@@ -49,7 +51,7 @@ module _ (header : Header) (words classes context : List ℕ) where
   walk-starts : (root : ℕ)
       → leafReached (treeNodes header words) classes context root ≡ walked (header .nodes) root
   unfolding leafReached
-  walk-starts root = rw (tree-length header words)
+  walk-starts root = rw (tree-nodes-length header words)
 
   module _ (node : ℕ) (listed : node < header .nodes) (x : Node)
       (own : x ≡ nodeOf (drop (nodeSize * node) words))

@@ -3,8 +3,8 @@ use mathlib.Core.Path.{subst, sym}
 use lib.Dec.{T}
 use borrow.Author.Needs.{needs}
 use Rattle.definitions.specs.BookReading.{bookTests}
+use Rattle.definitions.specs.laws.Tests.{held, failed}
 use Rattle.book.specs.States.{testsIn, verdictOf}
-use Rattle.book.specs.laws.Judged.{passes, fails}
 use Rattle.book.proofs.judging.judge_line.Statement.{statement}
 use Rattle.book.proofs.judging.judge_line.Tie as tie
 
@@ -17,7 +17,7 @@ returns c =
     let start = c .before .before in
     rw (
       ← start .pre .2,
-      fails (c .before .follows .ensures) (c .if1 .taken),
+      failed (c .before .follows .ensures) (c .if1 .taken),
     )
 
 in-fixed-ranges-requires : tie.Need-in-fixed-ranges-requires
@@ -30,8 +30,8 @@ returns-2 c =
     let start = at1 .before .before in
     rw (
       ← start .pre .2,
-      passes (at1 .before .follows .ensures) (at1 .if1 .left),
-      fails (c .before .in-fixed-ranges .ensures) (c .if2 .taken),
+      held (at1 .before .follows .ensures) (at1 .if1 .left),
+      failed (c .before .in-fixed-ranges .ensures) (c .if2 .taken),
     )
 
 within-header-requires : tie.Need-within-header-requires
@@ -45,9 +45,9 @@ returns-3 c =
     let start = at1 .before .before in
     rw (
       ← start .pre .2,
-      passes (at1 .before .follows .ensures) (at1 .if1 .left),
-      passes (at2 .before .in-fixed-ranges .ensures) (at2 .if2 .left),
-      fails (c .before .within-header .ensures) (c .if3 .taken),
+      held (at1 .before .follows .ensures) (at1 .if1 .left),
+      held (at2 .before .in-fixed-ranges .ensures) (at2 .if2 .left),
+      failed (c .before .within-header .ensures) (c .if3 .taken),
     )
 
 in-order-requires : tie.Need-in-order-requires
@@ -55,7 +55,7 @@ in-order-requires c κs =
     let at2 = c .before .before .before in
     let at1 = at2 .before .before in
     let start = at1 .before .before in
-    let follows = passes (at1 .before .follows .ensures) (at1 .if1 .left) in
+    let follows = held (at1 .before .follows .ensures) (at1 .if1 .left) in
     (start .pre .0, start .pre .1, subst T (sym follows) tt)
 
 returns-4 : tie.Need-returns-4
@@ -67,10 +67,10 @@ returns-4 c =
     let start = at1 .before .before in
     rw (
       ← start .pre .2,
-      passes (at1 .before .follows .ensures) (at1 .if1 .left),
-      passes (at2 .before .in-fixed-ranges .ensures) (at2 .if2 .left),
-      passes (at3 .before .within-header .ensures) (at3 .if3 .left),
-      fails (c .before .in-order .ensures) (c .if4 .taken),
+      held (at1 .before .follows .ensures) (at1 .if1 .left),
+      held (at2 .before .in-fixed-ranges .ensures) (at2 .if2 .left),
+      held (at3 .before .within-header .ensures) (at3 .if3 .left),
+      failed (c .before .in-order .ensures) (c .if4 .taken),
     )
 
 children-greater-requires : tie.Need-children-greater-requires
@@ -86,11 +86,11 @@ returns-5 c =
     let start = at1 .before .before in
     rw (
       ← start .pre .2,
-      passes (at1 .before .follows .ensures) (at1 .if1 .left),
-      passes (at2 .before .in-fixed-ranges .ensures) (at2 .if2 .left),
-      passes (at3 .before .within-header .ensures) (at3 .if3 .left),
-      passes (at4 .before .in-order .ensures) (at4 .if4 .left),
-      fails (c .before .children-greater .ensures) (c .if5 .taken),
+      held (at1 .before .follows .ensures) (at1 .if1 .left),
+      held (at2 .before .in-fixed-ranges .ensures) (at2 .if2 .left),
+      held (at3 .before .within-header .ensures) (at3 .if3 .left),
+      held (at4 .before .in-order .ensures) (at4 .if4 .left),
+      failed (c .before .children-greater .ensures) (c .if5 .taken),
     )
 
 tables-fit-requires : tie.Need-tables-fit-requires
@@ -107,12 +107,12 @@ returns-6 c =
     let start = at1 .before .before in
     rw (
       ← start .pre .2,
-      passes (at1 .before .follows .ensures) (at1 .if1 .left),
-      passes (at2 .before .in-fixed-ranges .ensures) (at2 .if2 .left),
-      passes (at3 .before .within-header .ensures) (at3 .if3 .left),
-      passes (at4 .before .in-order .ensures) (at4 .if4 .left),
-      passes (at5 .before .children-greater .ensures) (at5 .if5 .left),
-      fails (c .before .tables-fit .ensures) (c .if6 .taken),
+      held (at1 .before .follows .ensures) (at1 .if1 .left),
+      held (at2 .before .in-fixed-ranges .ensures) (at2 .if2 .left),
+      held (at3 .before .within-header .ensures) (at3 .if3 .left),
+      held (at4 .before .in-order .ensures) (at4 .if4 .left),
+      held (at5 .before .children-greater .ensures) (at5 .if5 .left),
+      failed (c .before .tables-fit .ensures) (c .if6 .taken),
     )
 
 returns-7 : tie.Need-returns-7
@@ -126,12 +126,12 @@ returns-7 c =
     let start = at1 .before .before in
     rw (
       ← start .pre .2,
-      passes (at1 .before .follows .ensures) (at1 .if1 .left),
-      passes (at2 .before .in-fixed-ranges .ensures) (at2 .if2 .left),
-      passes (at3 .before .within-header .ensures) (at3 .if3 .left),
-      passes (at4 .before .in-order .ensures) (at4 .if4 .left),
-      passes (at5 .before .children-greater .ensures) (at5 .if5 .left),
-      passes (c .before .tables-fit .ensures) (c .if6 .left),
+      held (at1 .before .follows .ensures) (at1 .if1 .left),
+      held (at2 .before .in-fixed-ranges .ensures) (at2 .if2 .left),
+      held (at3 .before .within-header .ensures) (at3 .if3 .left),
+      held (at4 .before .in-order .ensures) (at4 .if4 .left),
+      held (at5 .before .children-greater .ensures) (at5 .if5 .left),
+      held (c .before .tables-fit .ensures) (c .if6 .left),
     )
 
 pub judge-line-spec : {M : Type 1} → statement M

@@ -1,3 +1,4 @@
+-- `reader::read` meets its contract: tables are cleared before reading, and again where it refuses.
 use borrow.Author.Needs.{needs}
 use Rattle.book.specs.laws.Answering.{tables-clear, accepted-returns, refused-returns}
 use Rattle.book.proofs.reader.read.Statement.{statement}
@@ -8,8 +9,8 @@ clear-tables-requires c κs = search needs
 
 read-lines-requires : tie.Need-read-lines-requires
 read-lines-requires c κs =
-    let cleared = c .before .before .before .before .before .before .before .before .before .clear-tables .ensures in
-    tables-clear cleared
+    let first = c .before .before .before .before .before .before .before .before .before in
+    tables-clear (first .clear-tables .ensures)
 
 enum-known-answer : tie.Need-enum-known-answer
 enum-known-answer c = search needs
@@ -26,8 +27,8 @@ same-length-3 c = search needs
 returns : tie.Need-returns
 returns c =
     let read = c .before .before .before .before .before .before .before .before .before in
-    let cleared = read .before .before .before .before .before .before .before .before .before .before .clear-tables .ensures in
-    accepted-returns cleared
+    let first = read .before .before .before .before .before .before .before .before .before .before in
+    accepted-returns (first .clear-tables .ensures)
     (read .read-lines .ensures .0) (read .read-lines .ensures .1) _ (c .before .answer .given .1)
 
 enum-known-answer-2 : tie.Need-enum-known-answer-2
@@ -48,13 +49,12 @@ same-length-6 c = search needs
 returns-2 : tie.Need-returns-2
 returns-2 c =
     let again = c .before .before .before .before .before .before in
-    let read = again .before .before .before .before .before .before .before .before .before .before .before .before .before in
-    let cleared = read .before .before .before .before .before .before .before .before .before .before .clear-tables .ensures in
-    let last = again .clear-tables2 .ensures in
-    refused-returns cleared
-    (read .read-lines .ensures .0) (read .read-lines .ensures .1) _
-    (again .before .before .before .before .before .answer2 .given .1)
-    last
+    let refused = again .before .before .before .before .before in
+    let read = refused .before .before .before .before .before .before .before .before in
+    let first = read .before .before .before .before .before .before .before .before .before .before in
+    refused-returns (first .clear-tables .ensures)
+    (read .read-lines .ensures .0) (read .read-lines .ensures .1) _ (refused .answer2 .given .1)
+    (again .clear-tables2 .ensures)
 
 pub read-spec : {M : Type 1} → statement M
 read-spec =

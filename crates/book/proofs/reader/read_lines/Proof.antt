@@ -1,23 +1,28 @@
-use Prim.Native.Nat.{_-_, _/_, _≤_}
-use mathlib.Core.Path.{_≡_, refl}
+-- `reader::read_lines` meets its contract. The loop's invariant: the first `i` lines were taken.
+use Prim.Native.Nat.{_-_, _/_}
 use native.Mathlib.Omega.{arith}
 use lib.ListN.{length}
 use borrow.Author.Needs.{needs}
+use Rattle.definitions.specs.laws.Tests.{held, failed}
 use Rattle.tables.specs.Lending.{lengthsOf}
-use Rattle.book.specs.laws.Reading.{Turn, first-turn, next-bytes, turn-ready, turn-next}
-use Rattle.book.specs.laws.Reading.{torn-returns, stop-returns, end-returns, turn-endable, turn-lengths}
-use Rattle.tables.specs.laws.Known.{failed, held}
+use Rattle.book.specs.laws.Reading.{Turn, first-turn, next-bytes, turn-ready, turn-endable, turn-next}
+use Rattle.book.specs.laws.Reading.{torn-returns, stop-returns, end-returns}
 use Rattle.book.proofs.reader.read_lines.Statement.{statement}
 use Rattle.book.proofs.reader.read_lines.Tie as tie
 
 abbrev Inv-loop : tie.InvT-loop
 Inv-loop text nodes₀ classes₀ roots₀ counts₀ state₀ i₀ nodes classes roots counts state i =
-    (length nodes ≡ length nodes₀) × (length classes ≡ length classes₀) × (length roots ≡ length roots₀)
-    × (length counts ≡ 4096) × (i ≤ length text / 32)
-    × Turn (lengthsOf nodes₀ classes₀ roots₀) text i state nodes classes roots counts
+    Turn (lengthsOf nodes₀ classes₀ roots₀) text i state nodes classes roots counts
 
 abbrev μ-loop : tie.MeasureT-loop
 μ-loop text nodes₀ classes₀ roots₀ counts₀ state₀ i₀ nodes classes roots counts state i = length text / 32 - i
+
+-- from either arm: the call that took the line, and the turn that it stands in
+abbrev called : tie.After-counts2 Inv-loop μ-loop → tie.After-take-line Inv-loop μ-loop
+called c = c .before .before .before .before .before .before .before
+
+abbrev inside : tie.After-take-line Inv-loop μ-loop → tie.In-loop Inv-loop μ-loop
+inside c = c .before .before .before .before .before .before
 
 whole-lines-requires : tie.Need-whole-lines-requires Inv-loop μ-loop
 whole-lines-requires c κs = search needs
@@ -31,7 +36,8 @@ no-lines-requires c κs = search needs
 loop-holds : tie.Need-loop-holds Inv-loop μ-loop
 loop-holds c =
     let whole = held (c .before .before .whole-lines .ensures) (c .before .if1 .left) in
-    (refl, refl, refl, refl, omega arith, first-turn _ _ _ _ _ whole (c .no-lines .ensures) (c .before .before .before .before .before .before .before .pre))
+    let start = c .before .before .before .before .before .before .before in
+    first-turn _ _ _ _ _ whole (c .no-lines .ensures) (start .pre)
 
 mul-from : tie.Need-mul-from Inv-loop μ-loop
 mul-from c = search needs
@@ -53,8 +59,9 @@ slice-aggregate-take-line c = search needs
 
 take-line-requires : tie.Need-take-line-requires Inv-loop μ-loop
 take-line-requires c κs =
-    let at = c .before .before .before .before .before .before .loop in
-    turn-ready (at .inv .5) _ (next-bytes _ (at .i)) (c .before .before .before .before .before .loop-test .taken) (omega arith)
+    let turn = c .before .before .before .before .before in
+    let at = turn .before .loop in
+    turn-ready (at .inv) _ (next-bytes _ (at .i)) (turn .loop-test .taken) (omega arith)
 
 enum-known-step : tie.Need-enum-known-step Inv-loop μ-loop
 enum-known-step c = search needs
@@ -76,33 +83,34 @@ same-length-3 c = search needs
 
 returns-2 : tie.Need-returns-2 Inv-loop μ-loop
 returns-2 c =
-    let taken = c .before .before .before .before .before .before .before .before .before .before .take-line .ensures in
-    let inside = c .before .before .before .before .before .before .before .before .before .before .before .before .before .before .before .before in
-    let at = inside .before .loop in
-    stop-returns (at .inv .5) _ _ _ _ _ _ (next-bytes _ (at .i)) (inside .loop-test .taken) (taken .0)
+    let call = called (c .before .before .before) in
+    let taken = call .take-line .ensures in
+    let at = inside call .before .loop in
+    stop-returns (at .inv) _ _ _ _ _ _ (next-bytes _ (at .i)) (inside call .loop-test .taken) (taken .0)
     (c .before .step2 .given .1) (taken .1 .0) (taken .1 .1 .0) (taken .1 .1 .1 .0)
 
 add-i : tie.Need-add-i Inv-loop μ-loop
-add-i c = omega (arith, c .before .before .before .before .before .before .before .before .before .before .before .before .before .before .before .before .loop-test .taken, c .before .before .before .before .before .before .before .before .before .before .before .before .before .before .before .before .before .before .before .before .before .before .before .before .before .good)
+add-i c =
+    let turn = inside (called (c .before .before .before)) in
+    let start = turn .before .before .before .before .before .before .before .before .before in
+    omega (arith, turn .loop-test .taken, start .good)
 
 loop-less : tie.Need-loop-less Inv-loop μ-loop
 loop-less c = search needs
 
 loop-again : tie.Need-loop-again Inv-loop μ-loop
 loop-again c =
-    let taken = c .before .before .before .before .before .before .before .before .before .before .take-line .ensures in
-    let inside = c .before .before .before .before .before .before .before .before .before .before .before .before .before .before .before .before in
-    let at = inside .before .loop in
-    let turn = turn-next (at .inv .5) _ _ _ _ _ _ _ (next-bytes _ (at .i)) (inside .loop-test .taken) (taken .0)
-    (c .before .step .given .1) (taken .1 .0) (taken .1 .1 .0) (taken .1 .1 .1 .0) (taken .1 .1 .1 .1) in
-    let (nodes, classes, roots, counts) = turn-lengths turn in
-    (nodes, classes, roots, counts, turn .taking .within, turn)
+    let call = called (c .before .before .before) in
+    let taken = call .take-line .ensures in
+    let at = inside call .before .loop in
+    turn-next (at .inv) _ _ _ _ _ _ _ (next-bytes _ (at .i)) (inside call .loop-test .taken) (taken .0)
+    (c .before .step .given .1) (taken .1 .0) (taken .1 .1 .0) (taken .1 .1 .1 .0) (taken .1 .1 .1 .1)
 
 slice-aggregate-finish : tie.Need-slice-aggregate-finish Inv-loop μ-loop
 slice-aggregate-finish c = search needs
 
 finish-requires : tie.Need-finish-requires Inv-loop μ-loop
-finish-requires c κs = turn-endable (c .before .before .loop .inv .5) (omega arith)
+finish-requires c κs = turn-endable (c .before .before .loop .inv) (omega arith)
 
 same-length-4 : tie.Need-same-length-4 Inv-loop μ-loop
 same-length-4 c = search needs
@@ -114,7 +122,9 @@ same-length-6 : tie.Need-same-length-6 Inv-loop μ-loop
 same-length-6 c = search needs
 
 returns-3 : tie.Need-returns-3 Inv-loop μ-loop
-returns-3 c = end-returns (c .before .before .before .loop .inv .5) _ (c .before .before .loop-test .left) (c .finish .ensures)
+returns-3 c =
+    let head = c .before .before in
+    end-returns (head .before .loop .inv) _ (head .loop-test .left) (c .finish .ensures)
 
 pub read-lines-spec : {M : Type 1} → statement M
 read-lines-spec =

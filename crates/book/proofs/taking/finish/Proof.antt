@@ -3,7 +3,7 @@ use mathlib.Core.Path.{sym}
 use native.Mathlib.Omega.{arith}
 use lib.Seq.{length-take-le}
 use borrow.Author.Needs.{needs}
-use Rattle.book.specs.laws.Judged.{passes, fails}
+use Rattle.definitions.specs.laws.Tests.{held, failed}
 use Rattle.book.specs.laws.Taking.{finish-early, finish-orphan, finish-fine}
 use Rattle.book.proofs.taking.finish.Statement.{statement}
 use Rattle.book.proofs.taking.finish.Tie as tie
@@ -15,7 +15,7 @@ add-t9 : tie.Need-add-t9
 add-t9 c = search needs
 
 returns : tie.Need-returns
-returns c = finish-early _ _ (fails (c .before .before .complete .ensures) (c .before .if1 .taken))
+returns c = finish-early _ _ (failed (c .before .before .complete .ensures) (c .before .if1 .taken))
 
 wide-requires : tie.Need-wide-requires
 wide-requires c κs = search needs
@@ -35,7 +35,7 @@ returns-2 : tie.Need-returns-2
 returns-2 c =
     let found = c .before .before in
     let whole = found .before .before .before in
-    let all = passes (whole .before .complete .ensures) (whole .if1 .left) in
+    let all = held (whole .before .complete .ensures) (whole .if1 .left) in
     let node = rw (found .before .before .wide .ensures) at (found .first-misnamed .ensures) in
     finish-orphan _ _ _ all node (omega arith)
 
@@ -43,7 +43,7 @@ returns-3 : tie.Need-returns-3
 returns-3 c =
     let found = c .before .before in
     let whole = found .before .before .before in
-    let all = passes (whole .before .complete .ensures) (whole .if1 .left) in
+    let all = held (whole .before .complete .ensures) (whole .if1 .left) in
     let node = rw (found .before .before .wide .ensures) at (found .first-misnamed .ensures) in
     finish-fine _ _ _ all node (omega arith)
 

@@ -1,19 +1,19 @@
--- `lines::clearing::clear_sets` meets its contract. Invariant: all before `i` is 0, the rest is as it came.
+-- `clearing::clear_sets` meets its contract. The loop's invariant: all before `i` is 0, the rest is as it came.
 use Prim.Native.Nat.{_-_}
 use lib.ListN.{length}
 use borrow.Author.Needs.{needs}
-use Rattle.lines.specs.laws.Filling.{Filled, fill-start, fill-turn, fill-end}
+use Rattle.lines.specs.laws.Filling.{FilledWith, fill-start, with-more, with-end}
 use Rattle.lines.proofs.clearing.clear_sets.Statement.{statement}
 use Rattle.lines.proofs.clearing.clear_sets.Tie as tie
 
 abbrev Inv-loop : tie.InvT-loop
-Inv-loop sets₀ i₀ sets i = Filled 0 sets₀ i sets
+Inv-loop sets₀ i₀ sets i = FilledWith 0 sets₀ i sets
 
 abbrev μ-loop : tie.MeasureT-loop
 μ-loop sets₀ i₀ sets i = length sets₀ - i
 
 loop-holds : tie.Need-loop-holds Inv-loop μ-loop
-loop-holds c = fill-start 0 _
+loop-holds c = fill-start _ _
 
 mul-sets : tie.Need-mul-sets Inv-loop μ-loop
 mul-sets c = search needs
@@ -28,13 +28,13 @@ loop-less : tie.Need-loop-less Inv-loop μ-loop
 loop-less c = search needs
 
 loop-again : tie.Need-loop-again Inv-loop μ-loop
-loop-again c = fill-turn (c .before .loop .inv) (c .loop-test .taken)
+loop-again c = with-more 0 (c .before .loop .inv) (c .loop-test .taken)
 
 same-length : tie.Need-same-length Inv-loop μ-loop
 same-length c = search needs
 
 returns : tie.Need-returns Inv-loop μ-loop
-returns c = fill-end (c .before .loop .inv) (c .loop-test .left)
+returns c = with-end 0 (c .before .loop .inv) (c .loop-test .left)
 
 pub clear-sets-spec : {M : Type 1} → statement M
 clear-sets-spec =

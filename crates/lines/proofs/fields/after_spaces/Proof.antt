@@ -1,4 +1,4 @@
--- `lines::fields::after_spaces` meets its contract. Invariant: the bytes before `i` are spaces.
+-- `fields::after_spaces` meets its contract. The loop's invariant: the bytes before `i` are spaces.
 use mathlib.Core.Path.{_≡_, refl, sym, _∙_}
 use Prim.Native.Nat.{_-_, _≤_}
 use native.Mathlib.Omega.{arith}

@@ -1,4 +1,4 @@
--- `lines::fields::digits` meets its contract. Invariant: the bytes before `i` are digits of `value`.
+-- `fields::digits` meets its contract. The loop's invariant: the bytes before `i` are digits of `value`.
 use mathlib.Core.Path.{sym}
 use mathlib.Core.Logic.{inl, inr, ⊎-elim}
 use Prim.Native.Nat.{_-_}

@@ -1,4 +1,4 @@
--- `lines::fields::read_field` meets its contract: its digits stand after its spaces.
+-- `fields::read_field` meets its contract: its digits stand after its spaces.
 use borrow.Author.Needs.{needs}
 use Rattle.lines.specs.laws.Fields.{field-read}
 use Rattle.lines.proofs.fields.read_field.Statement.{statement}

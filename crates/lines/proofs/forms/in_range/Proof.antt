@@ -1,4 +1,4 @@
--- `lines::forms::in_range` meets its contract: the constant table is the definitions', entry by entry.
+-- `forms::in_range` meets its contract: the constant table is the definitions', entry by entry.
 use native.Mathlib.Omega.{arith}
 use borrow.Author.Needs.{needs}
 use Rattle.lines.specs.laws.Tables.{below-range, above-lowest, used-few}

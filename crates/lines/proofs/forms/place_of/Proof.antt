@@ -1,4 +1,4 @@
--- `lines::forms::place_of` meets its contract. Invariant: the letter is not before `place`.
+-- `forms::place_of` meets its contract. The loop's invariant: the letter is not before `place`.
 use mathlib.Core.Path.{_≡_, ap, sym, _∙_}
 use Prim.Native.Nat.{_-_, _≤_}
 use native.Mathlib.Omega.{arith}

@@ -1,4 +1,4 @@
--- `lines::forms::used_at` meets its contract: the constant table is the definitions', entry by entry.
+-- `forms::used_at` meets its contract: the constant table is the definitions', entry by entry.
 use borrow.Author.Needs.{needs}
 use Rattle.lines.specs.laws.Tables.{used-held}
 use Rattle.lines.proofs.forms.used_at.Statement.{statement}

@@ -1,4 +1,4 @@
--- `lines::parsing::entry_at` meets its contract, by whether the letter uses the field.
+-- `parsing::entry_at` meets its contract, by whether the letter uses the field.
 use mathlib.Core.Path.{ap₂, sym, _∙_}
 use borrow.Author.Tests.{lt-ltb, le-ltb}
 use borrow.Author.Needs.{needs}

@@ -1,4 +1,4 @@
--- `lines::parsing::field_at` meets its contract: the bytes of a field, fewer where the line ends in it.
+-- `parsing::field_at` meets its contract: the bytes of a field, fewer where the line ends in it.
 use mathlib.Core.Path.{refl, sym, _∙_}
 use borrow.Author.Needs.{needs}
 use Rattle.lines.specs.Rows.{fieldIn}

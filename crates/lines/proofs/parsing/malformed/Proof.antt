@@ -1,4 +1,4 @@
--- `lines::parsing::malformed` meets its contract: the row that a malformed line has.
+-- `parsing::malformed` meets its contract: the row that a malformed line has.
 use mathlib.Core.Path.{refl}
 use Rattle.definitions.specs.Lists.{padded}
 use Rattle.lines.specs.Rows.{parsedOf, rowOf}

@@ -1,4 +1,4 @@
--- `lines::parsing::parse` meets its contract. Invariant: `numbers` has the entries before `field`.
+-- `parsing::parse` meets its contract. The loop's invariant: `numbers` has the entries before `field`.
 use mathlib.Core.Path.{refl, ap, sym, _∙_}
 use Prim.Native.Nat.{_-_}
 use native.Mathlib.Omega.{arith}

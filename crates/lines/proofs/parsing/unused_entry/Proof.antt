@@ -1,4 +1,4 @@
--- `lines::parsing::unused_entry` meets its contract, variant by variant.
+-- `parsing::unused_entry` meets its contract, variant by variant.
 use mathlib.Core.Path.{ap, sym}
 use mathlib.Core.Bool.{false}
 use borrow.Author.Needs.{needs}

@@ -1,4 +1,4 @@
--- `lines::parsing::used_entry` meets its contract, variant by variant.
+-- `parsing::used_entry` meets its contract, variant by variant.
 use mathlib.Core.Path.{ap, sym}
 use mathlib.Core.Bool.{true}
 use borrow.Author.Needs.{needs}

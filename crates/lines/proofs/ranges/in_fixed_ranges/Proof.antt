@@ -1,9 +1,10 @@
--- `lines::ranges::in_fixed_ranges` meets its contract. Invariant: numbers before `field` lie in their ranges.
+-- `ranges::in_fixed_ranges` meets its contract. The loop's invariant: numbers before `field` lie in their
+-- ranges.
 use mathlib.Core.Path.{ap, sym, _∙_}
 use Prim.Native.Nat.{_-_}
 use native.Mathlib.Omega.{arith}
-use borrow.Author.Tests.{not-true, not-false}
 use borrow.Author.Needs.{needs}
+use Rattle.definitions.specs.laws.Tests.{held, failed}
 use Rattle.lines.specs.Places.{formAt}
 use Rattle.lines.specs.laws.Ranges.{Judging, judging-start, range-passed, range-left, ranges-end}
 use Rattle.lines.specs.laws.Ranges.{row-unknown, row-short, row-full}
@@ -54,7 +55,7 @@ returns-3 c =
     let at = turn .before .before .before .before .before in
     let full = turn .before .before .before .if2 .left in
     let j = turn .before .loop .inv in
-    let out = sym (c .before .in-range .ensures) ∙ not-true _ (c .if3 .taken) in
+    let out = failed (c .before .in-range .ensures) (c .if3 .taken) in
     let known = at .before .before .place-of .ensures .1 in
     sym (row-full _ _ _ (j .known) known (omega (arith, at .used-at .ensures, full))
     ∙ range-left j (turn .loop-test .taken) out)
@@ -68,7 +69,7 @@ loop-less c = search needs
 loop-again : tie.Need-loop-again Inv-loop μ-loop
 loop-again c =
     let turn = c .before .before in
-    let in-it = sym (c .before .in-range .ensures) ∙ not-false _ (c .if3 .left) in
+    let in-it = held (c .before .in-range .ensures) (c .if3 .left) in
     range-passed (turn .before .loop .inv) (turn .loop-test .taken) in-it
 
 returns-4 : tie.Need-returns-4 Inv-loop μ-loop

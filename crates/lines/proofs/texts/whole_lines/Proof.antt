@@ -1,16 +1,19 @@
 -- `texts::whole_lines` meets its contract. The loop's invariant: the text is in whole lines where its lines
--- from `i` on end in a line feed. Assumes nothing.
-use mathlib.Core.Path.{_≡_, sym, _∙_}
-use Prim.Native.Nat.{_-_, _≤_}
+-- from `i` on end in a line feed.
+use mathlib.Core.Path.{_∙_}
+use mathlib.Core.List.{[]}
+use Prim.Native.Nat.{_-_}
+use borrow.Author.Tests.{eq-eqb, ne-eqb}
 use borrow.Author.Needs.{needs}
-use Rattle.definitions.specs.Lines.{wholeLines}
-use Rattle.lines.specs.laws.Texts.{feedsFrom, feeds-more, feeds-stop, feeds-end, whole-empty}
-use Rattle.lines.specs.laws.Texts.{whole-torn, whole-rest}
+use Rattle.definitions.specs.Lines.{linesOf, endsInLineFeed, wholeLines}
+use Rattle.lines.specs.laws.Passing.{Passed, passed-more, passed-stop, passed-end}
+use Rattle.lines.specs.laws.Texts.{lines-count, line-listed, feed-at, whole-empty, whole-torn}
+use Rattle.lines.specs.laws.Texts.{whole-rest}
 use Rattle.lines.proofs.texts.whole_lines.Statement.{statement}
 use Rattle.lines.proofs.texts.whole_lines.Tie as tie
 
 abbrev Inv-loop : tie.InvT-loop
-Inv-loop text lines i₀ i = (i ≤ lines) × (wholeLines text ≡ feedsFrom text i)
+Inv-loop text lines i₀ i = Passed endsInLineFeed (linesOf text) (wholeLines text) i
 
 abbrev μ-loop : tie.MeasureT-loop
 μ-loop text lines i₀ i = lines - i
@@ -24,7 +27,7 @@ returns-2 c = whole-torn (c .before .before .args .text .now) (c .if2 .taken)
 loop-holds : tie.Need-loop-holds Inv-loop μ-loop
 loop-holds c =
     let text = c .before .before .args .text .now in
-    (search needs, whole-rest text (c .before .if1 .left) (c .if2 .left))
+    whole-rest text (c .before .if1 .left) (c .if2 .left)
 
 mul-if3 : tie.Need-mul-if3 Inv-loop μ-loop
 mul-if3 c = search needs
@@ -39,7 +42,9 @@ returns-3 : tie.Need-returns-3 Inv-loop μ-loop
 returns-3 c =
     let text = c .before .before .before .before .before .before .args .text .now in
     let at = c .before .before .before .loop in
-    sym (at .inv .1 ∙ feeds-stop text (at .i) (c .before .before .loop-test .taken) (c .if3 .taken))
+    let line = c .before .before .loop-test .taken in
+    passed-stop [] (at .inv) (line-listed text (at .i) line)
+    (feed-at text (at .i) line ∙ ne-eqb _ _ (c .if3 .taken))
 
 add-i : tie.Need-add-i Inv-loop μ-loop
 add-i c = search needs
@@ -51,13 +56,14 @@ loop-again : tie.Need-loop-again Inv-loop μ-loop
 loop-again c =
     let text = c .before .before .before .before .before .before .args .text .now in
     let at = c .before .before .before .loop in
-    (search needs, at .inv .1 ∙ feeds-more text (at .i) (c .before .before .loop-test .taken) (c .if3 .left))
+    let line = c .before .before .loop-test .taken in
+    passed-more [] (at .inv) (line-listed text (at .i) line)
+    (feed-at text (at .i) line ∙ eq-eqb _ _ (c .if3 .left))
 
 returns-4 : tie.Need-returns-4 Inv-loop μ-loop
 returns-4 c =
     let text = c .before .before .before .before .args .text .now in
-    let at = c .before .loop in
-    sym (at .inv .1 ∙ feeds-end text (at .i) (c .loop-test .left))
+    passed-end (c .before .loop .inv) (rw (lines-count text) (c .loop-test .left))
 
 pub whole-lines-spec : {M : Type 1} → statement M
 whole-lines-spec =

@@ -1,17 +1,20 @@
 -- `writing::is_writable` meets its contract. The loop's invariant: all used numbers are small where those from
--- `i` on are. Assumes nothing.
-use mathlib.Core.Path.{_≡_, sym, _∙_}
-use Prim.Native.Nat.{_-_, _≤_}
+-- `i` on are.
+use mathlib.Core.Path.{_≡_, _∙_}
+use Prim.Native.Nat.{_-_}
 use native.Mathlib.Omega.{arith}
-use lib.ListN.{length}
+use lib.ListN.{length, take}
+use lib.Seq.{getD-take, length-take-le}
+use borrow.Author.Tests.{le-leb, lt-leb}
 use borrow.Author.Needs.{needs}
-use Rattle.lines.specs.laws.Rows.{smallFrom, small-more, small-stop, small-end, writable-many}
-use Rattle.lines.specs.laws.Rows.{writable-few}
+use Rattle.definitions.specs.Lists.{every}
+use Rattle.lines.specs.laws.Passing.{Passed, passed-start, passed-more, passed-stop, passed-end}
+use Rattle.lines.specs.laws.Rows.{isSmall, writable-many, writable-few}
 use Rattle.lines.proofs.writing.is_writable.Statement.{statement}
 use Rattle.lines.proofs.writing.is_writable.Tie as tie
 
 abbrev Inv-loop : tie.InvT-loop
-Inv-loop used numbers i₀ i = (i ≤ used) × (smallFrom used numbers 0 ≡ smallFrom used numbers i)
+Inv-loop used numbers i₀ i = Passed isSmall (take used numbers) (every isSmall (take used numbers)) i
 
 abbrev μ-loop : tie.MeasureT-loop
 μ-loop used numbers i₀ i = used - i
@@ -20,7 +23,7 @@ returns : tie.Need-returns Inv-loop μ-loop
 returns c = writable-many (c .before .args .row) (c .if1 .taken)
 
 loop-holds : tie.Need-loop-holds Inv-loop μ-loop
-loop-holds c = search needs
+loop-holds c = passed-start _ _
 
 mul-if2 : tie.Need-mul-if2 Inv-loop μ-loop
 mul-if2 c = search needs
@@ -33,8 +36,10 @@ returns-2 c =
     let row = c .before .before .before .before .before .args .row in
     let five : length (row .numbers) ≡ 5 = search needs in
     let at = c .before .before .loop in
-    sym (writable-few row (omega arith) ∙ at .inv .1
-    ∙ small-stop (row .used) (row .numbers) (omega arith) (at .i) (omega arith) (c .if2 .taken))
+    let many = length-take-le (row .used) (row .numbers) (omega arith) in
+    passed-stop 0 (at .inv) (omega (arith, many))
+    (rw (getD-take (row .used) (row .numbers) (at .i) 0 (omega arith)) (lt-leb _ _ (c .if2 .taken)))
+    ∙ writable-few row (omega arith)
 
 add-i : tie.Need-add-i Inv-loop μ-loop
 add-i c = search needs
@@ -47,16 +52,17 @@ loop-again c =
     let row = c .before .before .before .before .before .args .row in
     let five : length (row .numbers) ≡ 5 = search needs in
     let at = c .before .before .loop in
-    let more = small-more (row .used) (row .numbers) (omega arith) (at .i) (omega arith) (c .if2 .left) in
-    (omega arith, at .inv .1 ∙ more)
+    let many = length-take-le (row .used) (row .numbers) (omega arith) in
+    passed-more 0 (at .inv) (omega (arith, many))
+    (rw (getD-take (row .used) (row .numbers) (at .i) 0 (omega arith)) (le-leb _ _ (c .if2 .left)))
 
 returns-3 : tie.Need-returns-3 Inv-loop μ-loop
 returns-3 c =
     let row = c .before .before .before .before .args .row in
     let five : length (row .numbers) ≡ 5 = search needs in
     let at = c .before .loop in
-    sym (writable-few row (omega arith) ∙ at .inv .1
-    ∙ small-end (row .used) (row .numbers) (omega arith) (at .i) (omega arith))
+    let many = length-take-le (row .used) (row .numbers) (omega arith) in
+    passed-end (at .inv) (omega (arith, many)) ∙ writable-few row (omega arith)
 
 pub is-writable-spec : {M : Type 1} → statement M
 is-writable-spec =

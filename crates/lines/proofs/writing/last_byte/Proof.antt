@@ -1,4 +1,4 @@
--- `writing::last_byte` meets its contract, by whether a digit is left. Assumes nothing.
+-- `writing::last_byte` meets its contract, by whether a digit is left.
 use mathlib.Core.Path.{_∙_}
 use borrow.Author.Needs.{needs}
 use Rattle.lines.specs.laws.Writing.{last-none, last-digit}

@@ -1,13 +1,13 @@
 -- `writing::write` meets its contract: the letter, the five fields and the line feed are the line.
--- Assumes nothing.
-use mathlib.Core.Path.{_≡_, refl, sym, _∙_}
+use mathlib.Core.Path.{_≡_, refl, _∙_}
 use mathlib.Core.List.{List}
 use mathlib.Core.Bool.{true, false}
 use Prim.Native.Nat.{ℕ}
 use native.Mathlib.Omega.{arith}
 use lib.ListN.{length, length-set}
-use borrow.Author.Tests.{lt-leb, le-leb, not-true, not-false}
+use borrow.Author.Tests.{lt-leb, le-leb}
 use borrow.Author.Needs.{needs}
+use Rattle.definitions.specs.laws.Tests.{held, failed}
 use Rattle.lines.specs.Rows.{writable}
 use Rattle.lines.specs.laws.WrittenLines.{middle-length, put-length, line-put}
 use Rattle.lines.proofs.writing.write.Statement.{statement}
@@ -25,8 +25,7 @@ returns-2 : tie.Need-returns-2
 returns-2 c =
     let start = c .before .before .before .before in
     let called = c .before .is-writable in
-    let refused : called .result ≡ false = not-true (called .result) (c .if2 .taken) in
-    let unfit : writable (start .args .row) ≡ false = sym (called .ensures) ∙ refused in
+    let unfit : writable (start .args .row) ≡ false = failed (called .ensures) (c .if2 .taken) in
     (rw (le-leb 32 (length (start .args .bytes .now)) (omega arith), unfit), refl)
 
 slice-write-bytes : tie.Need-slice-write-bytes
@@ -43,36 +42,38 @@ part-write-fields-end c = simp length-set (omega arith)
 
 -- the row fits a line where the test did not refuse it
 fit : (c : tie.Else2) → writable (c .before .before .before .before .args .row) ≡ true
-fit c =
-    let called = c .before .is-writable in
-    sym (called .ensures) ∙ not-false (called .result) (c .if2 .left)
+fit c = held (c .before .is-writable .ensures) (c .if2 .left)
 
 write-fields-requires : tie.Need-write-fields-requires
 write-fields-requires c κs =
     let start = c .before .before .before .before .before in
     (fit (c .before), middle-length (start .args .bytes .now) (start .args .row .letter) (omega arith))
 
+-- the entry
+abbrev entry : tie.After-slice-known2 → tie.Start
+entry c = c .before .before .before .before .before .before .before .before
+
 -- what was lent came back as long as it was, and so has the whole its length
 thirty : (c : tie.After-slice-known2) → length (c .before .before .write-fields .last .1 .0) ≡ 30
 thirty c =
-    let a = c .before .before .before .before .before .before .before .before .args in
+    let a = entry c .args in
     c .before .before .write-fields .kept .1 .0 ∙ middle-length (a .bytes .now) (a .row .letter) (omega arith)
 
 slice-write-bytes-2 : tie.Need-slice-write-bytes-2
 slice-write-bytes-2 c =
-    let a = c .before .before .before .before .before .before .before .before .args in
+    let a = entry c .args in
     let part : List ℕ = c .before .before .write-fields .last .1 .0 in
     omega (arith, put-length (a .bytes .now) part (a .row .letter) (omega arith) (thirty c))
 
 same-length : tie.Need-same-length
 same-length c =
-    let a = c .before .before .before .before .before .before .before .before .args in
+    let a = entry c .args in
     let part : List ℕ = c .before .before .write-fields .last .1 .0 in
     rw length-set (put-length (a .bytes .now) part (a .row .letter) (omega arith) (thirty c))
 
 returns-3 : tie.Need-returns-3
 returns-3 c =
-    let a = c .before .before .before .before .before .before .before .before .args in
+    let a = entry c .args in
     let part = c .before .before .write-fields in
     let line = line-put (a .row) (a .bytes .now) (part .last .1 .0) (omega arith) (thirty c) (part .ensures) in
     (rw (le-leb 32 (length (a .bytes .now)) (omega arith), fit (c .before .before .before .before)), line)

@@ -1,5 +1,4 @@
 -- `writing::write_field` meets its contract: the six bytes are those of the field in the text of all five.
--- Assumes nothing.
 use mathlib.Core.Path.{_≡_, _∙_}
 use native.Mathlib.Omega.{arith}
 use lib.ListN.{length}

@@ -1,27 +1,27 @@
 -- `writing::write_fields` meets its contract. The loop's invariant: the fields before `field` are written, the
--- other bytes as they were. Assumes nothing.
-use mathlib.Core.Path.{_≡_, refl, _∙_}
-use mathlib.Core.List.{List, _++_}
-use Prim.Native.Nat.{ℕ, _-_, _*_, _≤_}
+-- other bytes as they were.
+use mathlib.Core.Path.{_≡_, sym, _∙_}
+use mathlib.Core.List.{List}
+use Prim.Native.Nat.{ℕ, _-_, _*_}
 use native.Mathlib.Omega.{arith}
-use lib.ListN.{length, take, drop}
+use lib.ListN.{length}
 use borrow.Author.Needs.{needs}
 use Rattle.lines.specs.Rows.{lineIn}
 use Rattle.lines.specs.Writing.{fieldsText}
-use Rattle.lines.specs.laws.WrittenLines.{row-length, field-put, fields-done}
+use Rattle.lines.specs.laws.Filling.{Filled, fill-start, fill-end}
+use Rattle.lines.specs.laws.WrittenLines.{row-length, field-put}
 use Rattle.lines.proofs.writing.write_fields.Statement.{statement}
 use Rattle.lines.proofs.writing.write_fields.Tie as tie
 
 abbrev Inv-loop : tie.InvT-loop
 Inv-loop row bytes₀ field₀ bytes field =
-    (field ≤ 5) × (length bytes ≡ 30)
-    × (bytes ≡ take (6 * field) (fieldsText (lineIn row .numbers)) ++ drop (6 * field) bytes₀)
+    Filled (fieldsText (lineIn row .numbers)) bytes₀ (6 * field) bytes
 
 abbrev μ-loop : tie.MeasureT-loop
 μ-loop row bytes₀ field₀ bytes field = 5 - field
 
 loop-holds : tie.Need-loop-holds Inv-loop μ-loop
-loop-holds c = (omega arith, search needs, refl)
+loop-holds c = fill-start _ _
 
 mul-from : tie.Need-mul-from Inv-loop μ-loop
 mul-from c = search needs
@@ -56,20 +56,21 @@ loop-again c =
     let size : length text ≡ 30 = row-length (start .args .row) (start .pre .0) five in
     let part = c .before .before .write-field in
     let put = field-put (at .field) text (start .args .bytes .now) (at .bytes) (part .last .1 .1 .0) in
-    (omega arith, search needs, put (omega arith) (at .inv .2) (part .ensures))
+    record {
+      within = omega arith;
+      sized = search needs;
+      holds = put (omega arith) (at .inv .holds) (part .ensures);
+    }
 
 same-length : tie.Need-same-length Inv-loop μ-loop
 same-length c = search needs
 
 returns : tie.Need-returns Inv-loop μ-loop
 returns c =
-    let at = c .before .loop in
     let start = c .before .before .before in
-    let text : List ℕ = fieldsText (lineIn (start .args .row) .numbers) in
     let five : length (start .args .row .numbers) ≡ 5 = search needs in
-    let size : length text ≡ 30 = row-length (start .args .row) (start .pre .0) five in
-    let bytes₀ : List ℕ = start .args .bytes .now in
-    at .inv .2 ∙ fields-done (at .field) text bytes₀ (omega arith) size (omega arith)
+    let size = row-length (start .args .row) (start .pre .0) five in
+    fill-end (size ∙ sym (start .pre .1)) (c .before .loop .inv) (search needs)
 
 pub write-fields-spec : {M : Type 1} → statement M
 write-fields-spec =

@@ -1,5 +1,5 @@
 -- `writing::write_number` meets its contract. The loop's invariant: the field's text is the bytes that are
--- still to be written, and those of the buffer from `i` on. Assumes nothing.
+-- still to be written, and those of the buffer from `i` on.
 use mathlib.Core.Path.{_≡_, sym, _∙_}
 use mathlib.Core.List.{_++_}
 use Prim.Native.Nat.{_≤_}
@@ -8,7 +8,7 @@ use lib.ListN.{length, drop, length-set}
 use borrow.Author.Needs.{needs}
 use Rattle.definitions.specs.Lines.{fieldText}
 use Rattle.lines.specs.Writing.{leading}
-use Rattle.lines.specs.laws.Writing.{leading-first, leading-more, leading-done}
+use Rattle.lines.specs.laws.Writing.{leading-first, leading-more, leading-end}
 use Rattle.lines.proofs.writing.write_number.Statement.{statement}
 use Rattle.lines.proofs.writing.write_number.Tie as tie
 
@@ -56,7 +56,7 @@ same-length c = search needs
 returns : tie.Need-returns Inv-loop μ-loop
 returns c =
     let at = c .before .loop in
-    sym (at .inv .2 ∙ leading-done (at .i) (at .rest) (at .field) (c .loop-test .left))
+    sym (at .inv .2 ∙ leading-end (at .i) (at .rest) (at .field) (c .loop-test .left))
 
 pub write-number-spec : {M : Type 1} → statement M
 write-number-spec =

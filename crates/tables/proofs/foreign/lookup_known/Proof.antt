@@ -1,9 +1,9 @@
--- `foreign::lookup_known` meets its contract: each answer by the first test that fails. Assumes nothing.
+-- `foreign::lookup_known` meets its contract: each answer by the first test that fails.
 use mathlib.Core.Path.{_≡_}
 use mathlib.Core.Bool.{true}
 use borrow.Author.Needs.{needs}
 use Rattle.definitions.specs.ForeignTables.{headerKnown, nodeTableKnown, classTableKnown}
-use Rattle.tables.specs.laws.Known.{failed, held}
+use Rattle.definitions.specs.laws.Tests.{held, failed}
 use Rattle.tables.specs.laws.Foreign.{lookup-header, lookup-nodes, lookup-classes, lookup-root}
 use Rattle.tables.proofs.foreign.lookup_known.Statement.{statement}
 use Rattle.tables.proofs.foreign.lookup_known.Tie as tie

@@ -1,8 +1,8 @@
 -- `foreign::name_all_children` meets its contract. The loop's invariant: the children of the records before
--- `at` are counted. Assumes nothing.
+-- `at` are counted.
 use Prim.Native.Nat.{_-_}
 use borrow.Author.Needs.{needs}
-use Rattle.tables.specs.laws.NamingTables.{ChildrenNamed, children-start, children-more, children-done}
+use Rattle.tables.specs.laws.NamingTables.{ChildrenNamed, children-start, children-more, children-end}
 use Rattle.tables.proofs.foreign.name_all_children.Statement.{statement}
 use Rattle.tables.proofs.foreign.name_all_children.Tie as tie
 
@@ -38,7 +38,7 @@ same-length : tie.Need-same-length Inv-loop μ-loop
 same-length c = c .before .before .loop .inv .sized
 
 returns : tie.Need-returns Inv-loop μ-loop
-returns c = children-done (c .before .before .loop .inv) (search needs)
+returns c = children-end (c .before .before .loop .inv) (search needs)
 
 pub name-all-children-spec : {M : Type 1} → statement M
 name-all-children-spec =

@@ -1,4 +1,4 @@
--- `foreign::name_children` meets its contract, by whether the record is a question. Assumes nothing.
+-- `foreign::name_children` meets its contract, by whether the record is a question.
 use borrow.Author.Needs.{needs}
 use Rattle.tables.specs.laws.NamingTables.{children-none, children-both}
 use Rattle.tables.proofs.foreign.name_children.Statement.{statement}

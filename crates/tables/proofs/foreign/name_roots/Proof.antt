@@ -1,9 +1,8 @@
 -- `foreign::name_roots` meets its contract. The loop's invariant: the roots before `i` are counted.
--- Assumes nothing.
 use Prim.Native.Nat.{_-_}
 use lib.ListN.{length}
 use borrow.Author.Needs.{needs}
-use Rattle.tables.specs.laws.NamingTables.{RootsNamed, roots-start, roots-more, roots-done}
+use Rattle.tables.specs.laws.NamingTables.{RootsNamed, roots-start, roots-more, roots-end}
 use Rattle.tables.proofs.foreign.name_roots.Statement.{statement}
 use Rattle.tables.proofs.foreign.name_roots.Tie as tie
 
@@ -40,7 +39,7 @@ same-length : tie.Need-same-length Inv-loop μ-loop
 same-length c = c .before .loop .inv .sized
 
 returns : tie.Need-returns Inv-loop μ-loop
-returns c = roots-done (c .before .loop .inv) (search needs)
+returns c = roots-end (c .before .loop .inv) (search needs)
 
 pub name-roots-spec : {M : Type 1} → statement M
 name-roots-spec =

@@ -1,10 +1,10 @@
 -- `foreign::named_once` meets its contract: the counts of children and roots tell the first orphan.
--- Assumes nothing.
 use mathlib.Core.Path.{sym}
 use native.Mathlib.Omega.{arith}
 use lib.Seq.{length-take-le}
 use borrow.Author.Needs.{needs}
-use Rattle.tables.specs.laws.TablesKnown.{root-count, roots-few, roots-taken}
+use Rattle.definitions.specs.laws.Books.{roots-few}
+use Rattle.tables.specs.laws.TablesKnown.{root-count, roots-taken}
 use Rattle.tables.specs.laws.NamingTables.{once-counted}
 use Rattle.tables.specs.laws.Known.{header-ranges}
 use Rattle.tables.proofs.foreign.named_once.Statement.{statement}
@@ -26,7 +26,7 @@ mul-used : tie.Need-mul-used
 mul-used c =
     let start = c .before .before .before .before .before .before .before in
     let count = root-count (start .args .header) (c .before .wide .ensures) (c .wide2 .ensures) in
-    let few = roots-few (start .args .header) (start .pre .0) in
+    let few = roots-few (start .args .header) (header-ranges (start .args .header) (start .pre .0)) in
     record { fits = omega (arith, count, few) }
 
 slice-aggregate-name-roots : tie.Need-slice-aggregate-name-roots

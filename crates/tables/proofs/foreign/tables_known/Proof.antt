@@ -1,9 +1,9 @@
--- `foreign::tables_known` meets its contract: each answer by the first test that fails. Assumes nothing.
+-- `foreign::tables_known` meets its contract: each answer by the first test that fails.
 use mathlib.Core.Path.{_≡_, _∙_}
 use mathlib.Core.Bool.{true}
 use borrow.Author.Needs.{needs}
 use Rattle.definitions.specs.ForeignTables.{headerKnown, nodeTableKnown, classTableKnown, rootTableKnown}
-use Rattle.tables.specs.laws.Known.{failed, held}
+use Rattle.definitions.specs.laws.Tests.{held, failed}
 use Rattle.tables.specs.laws.Foreign.{tables-header, tables-nodes, tables-classes, tables-roots}
 use Rattle.tables.specs.laws.Foreign.{tables-names}
 use Rattle.tables.proofs.foreign.tables_known.Statement.{statement}

@@ -1,5 +1,4 @@
 -- `known::all_below` meets its contract. The loop's invariant: the words before `i` are below the bound.
--- Assumes nothing.
 use mathlib.Core.Bool.{Bool}
 use Prim.Native.Nat.{ℕ, _-_}
 use lib.Dec.{ltb}
@@ -7,7 +6,7 @@ use lib.ListN.{length}
 use borrow.Author.Tests.{lt-ltb, le-ltb}
 use borrow.Author.Needs.{needs}
 use Rattle.definitions.specs.Lists.{every}
-use Rattle.tables.specs.laws.Known.{Passed, passed-none, passed-more, passed-stop, passed-all}
+use Rattle.lines.specs.laws.Passing.{Passed, passed-start, passed-more, passed-stop, passed-end}
 use Rattle.tables.proofs.known.all_below.Statement.{statement}
 use Rattle.tables.proofs.known.all_below.Tie as tie
 
@@ -19,7 +18,7 @@ abbrev μ-loop : tie.MeasureT-loop
 μ-loop words bound i₀ i = length words - i
 
 loop-holds : tie.Need-loop-holds Inv-loop μ-loop
-loop-holds c = passed-none _ _
+loop-holds c = passed-start _ _
 
 mul-if1 : tie.Need-mul-if1 Inv-loop μ-loop
 mul-if1 c = search needs
@@ -29,7 +28,7 @@ shared-slice-read-if1 c = search needs
 
 returns : tie.Need-returns Inv-loop μ-loop
 returns c =
-    passed-stop (c .before .before .before .loop .inv) (search needs) (le-ltb _ _ (c .if1 .taken))
+    passed-stop 0 (c .before .before .before .loop .inv) (search needs) (le-ltb _ _ (c .if1 .taken))
 
 add-i : tie.Need-add-i Inv-loop μ-loop
 add-i c = search needs
@@ -39,10 +38,10 @@ loop-less c = search needs
 
 loop-again : tie.Need-loop-again Inv-loop μ-loop
 loop-again c =
-    passed-more (c .before .before .before .loop .inv) (search needs) (lt-ltb _ _ (c .if1 .left))
+    passed-more 0 (c .before .before .before .loop .inv) (search needs) (lt-ltb _ _ (c .if1 .left))
 
 returns-2 : tie.Need-returns-2 Inv-loop μ-loop
-returns-2 c = passed-all (c .before .loop .inv) (search needs)
+returns-2 c = passed-end (c .before .loop .inv) (search needs)
 
 pub all-below-spec : {M : Type 1} → statement M
 all-below-spec =

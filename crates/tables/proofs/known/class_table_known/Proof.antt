@@ -1,7 +1,8 @@
--- `known::class_table_known` meets its contract. Assumes nothing.
+-- `known::class_table_known` meets its contract.
 use mathlib.Core.Path.{sym, _∙_}
 use borrow.Author.Needs.{needs}
-use Rattle.tables.specs.laws.Known.{failed, held, header-ranges}
+use Rattle.definitions.specs.laws.Tests.{held, failed}
+use Rattle.tables.specs.laws.Known.{header-ranges}
 use Rattle.tables.specs.laws.TablesKnown.{holds-taken, classes-refused, classes-judged}
 use Rattle.tables.proofs.known.class_table_known.Statement.{statement}
 use Rattle.tables.proofs.known.class_table_known.Tie as tie

@@ -1,4 +1,4 @@
--- `known::header_known` meets its contract: the ranges of an H line are those of the header. Assumes nothing.
+-- `known::header_known` meets its contract: the ranges of an H line are those of the header.
 use borrow.Author.Needs.{needs}
 use Rattle.definitions.specs.Lines.{inFixedRanges, formOf}
 use Rattle.definitions.specs.ForeignTables.{headerKnown}

@@ -1,13 +1,12 @@
 -- `known::holds_only` meets its contract. The loop's invariant: the words from `count` up to `i` are 0.
--- Assumes nothing.
 use mathlib.Core.Path.{sym}
 use Prim.Native.Nat.{_-_}
 use lib.ListN.{length}
 use borrow.Author.Tests.{eq-eqb, ne-eqb}
 use borrow.Author.Needs.{needs}
 use Rattle.definitions.specs.ForeignTables.{holdsOnly}
-use Rattle.tables.specs.laws.Known.{isZero, Passed, passed-more, passed-stop, passed-all, holds-short}
-use Rattle.tables.specs.laws.Known.{holds-from}
+use Rattle.lines.specs.laws.Passing.{Passed, passed-more, passed-stop, passed-end}
+use Rattle.tables.specs.laws.Known.{isZero, holds-short, holds-from}
 use Rattle.tables.proofs.known.holds_only.Statement.{statement}
 use Rattle.tables.proofs.known.holds_only.Tie as tie
 
@@ -31,7 +30,7 @@ shared-slice-read-if2 c = search needs
 
 returns-2 : tie.Need-returns-2 Inv-loop μ-loop
 returns-2 c =
-    passed-stop (c .before .before .before .loop .inv) (search needs) (ne-eqb _ _ (c .if2 .taken))
+    passed-stop 0 (c .before .before .before .loop .inv) (search needs) (ne-eqb _ _ (c .if2 .taken))
 
 add-i : tie.Need-add-i Inv-loop μ-loop
 add-i c = search needs
@@ -41,10 +40,10 @@ loop-less c = search needs
 
 loop-again : tie.Need-loop-again Inv-loop μ-loop
 loop-again c =
-    passed-more (c .before .before .before .loop .inv) (search needs) (eq-eqb _ _ (c .if2 .left))
+    passed-more 0 (c .before .before .before .loop .inv) (search needs) (eq-eqb _ _ (c .if2 .left))
 
 returns-3 : tie.Need-returns-3 Inv-loop μ-loop
-returns-3 c = passed-all (c .before .loop .inv) (search needs)
+returns-3 c = passed-end (c .before .loop .inv) (search needs)
 
 pub holds-only-spec : {M : Type 1} → statement M
 holds-only-spec =

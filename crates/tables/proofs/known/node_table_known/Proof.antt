@@ -1,10 +1,10 @@
 -- `known::node_table_known` meets its contract. The loop's invariant: the records before `at` are known.
--- Assumes nothing.
 use Prim.Native.Nat.{_-_}
 use borrow.Author.Needs.{needs}
-use Rattle.tables.specs.laws.Known.{failed, held, header-ranges}
+use Rattle.definitions.specs.laws.Tests.{held, failed}
+use Rattle.tables.specs.laws.Known.{header-ranges}
 use Rattle.tables.specs.laws.TablesKnown.{Judged, nodes-refused, nodes-held, nodes-more, nodes-stop}
-use Rattle.tables.specs.laws.TablesKnown.{nodes-all}
+use Rattle.tables.specs.laws.TablesKnown.{nodes-end}
 use Rattle.tables.proofs.known.node_table_known.Statement.{statement}
 use Rattle.tables.proofs.known.node_table_known.Tie as tie
 
@@ -62,7 +62,7 @@ loop-again c =
     (held (c .before .record-known .ensures) (c .if3 .left))
 
 returns-3 : tie.Need-returns-3 Inv-loop μ-loop
-returns-3 c = nodes-all (c .before .before .loop .inv) (search needs)
+returns-3 c = nodes-end (c .before .before .loop .inv) (search needs)
 
 pub node-table-known-spec : {M : Type 1} → statement M
 node-table-known-spec =

@@ -1,5 +1,4 @@
 -- `known::question_known` meets its contract: each answer by the first part of the test that fails.
--- Assumes nothing.
 use mathlib.Core.Path.{sym}
 use native.Mathlib.Omega.{arith}
 use borrow.Author.Needs.{needs}

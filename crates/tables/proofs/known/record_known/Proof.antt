@@ -1,4 +1,4 @@
--- `known::record_known` meets its contract: one of the two tests is enough. Assumes nothing.
+-- `known::record_known` meets its contract: one of the two tests is enough.
 use mathlib.Core.Path.{sym}
 use borrow.Author.Needs.{needs}
 use Rattle.tables.proofs.known.record_known.Statement.{statement}

@@ -1,10 +1,11 @@
 -- `known::root_table_known` meets its contract. The header's ranges keep the number of roots small.
--- Assumes nothing.
 use mathlib.Core.Path.{sym, _∙_}
 use native.Mathlib.Omega.{arith}
 use borrow.Author.Needs.{needs}
-use Rattle.tables.specs.laws.Known.{failed, held}
-use Rattle.tables.specs.laws.TablesKnown.{holds-taken, root-count, roots-few, roots-refused}
+use Rattle.definitions.specs.laws.Tests.{held, failed}
+use Rattle.definitions.specs.laws.Books.{roots-few}
+use Rattle.tables.specs.laws.Known.{header-ranges}
+use Rattle.tables.specs.laws.TablesKnown.{holds-taken, root-count, roots-refused}
 use Rattle.tables.specs.laws.TablesKnown.{roots-judged}
 use Rattle.tables.proofs.known.root_table_known.Statement.{statement}
 use Rattle.tables.proofs.known.root_table_known.Tie as tie
@@ -19,7 +20,7 @@ mul-roots : tie.Need-mul-roots
 mul-roots c =
     let start = c .before .before .before in
     let count = root-count (start .args .header) (c .before .wide .ensures) (c .wide2 .ensures) in
-    let few = roots-few (start .args .header) (start .pre) in
+    let few = roots-few (start .args .header) (header-ranges (start .args .header) (start .pre)) in
     record { fits = omega (arith, count, few) }
 
 holds-only-requires : tie.Need-holds-only-requires

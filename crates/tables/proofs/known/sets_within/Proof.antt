@@ -1,12 +1,12 @@
 -- `known::sets_within` meets its contract. The loop's invariant: the sets before `i` hold no phone beyond the
--- last. Assumes nothing.
+-- last.
 use mathlib.Core.Bool.{Bool}
 use Prim.Native.Nat.{_^_, ℕ, _-_}
 use lib.Dec.{ltb}
 use lib.ListN.{length, set}
 use borrow.Author.Needs.{needs}
 use Rattle.definitions.specs.Lists.{every}
-use Rattle.tables.specs.laws.Known.{Passed, passed-none, passed-more, passed-stop, passed-all}
+use Rattle.lines.specs.laws.Passing.{Passed, passed-start, passed-more, passed-stop, passed-end}
 use Rattle.tables.specs.laws.Known.{set-within, set-beyond}
 use Rattle.tables.proofs.known.sets_within.Statement.{statement}
 use Rattle.tables.proofs.known.sets_within.Tie as tie
@@ -19,7 +19,7 @@ abbrev μ-loop : tie.MeasureT-loop
 μ-loop sets phones i₀ i = length sets - i
 
 loop-holds : tie.Need-loop-holds Inv-loop μ-loop
-loop-holds c = passed-none _ _
+loop-holds c = passed-start _ _
 
 mul-set : tie.Need-mul-set Inv-loop μ-loop
 mul-set c = search needs
@@ -38,7 +38,7 @@ shr-if1 c = search needs
 
 returns : tie.Need-returns Inv-loop μ-loop
 returns c =
-    passed-stop (c .before .before .before .loop .inv) (search needs)
+    passed-stop 0 (c .before .before .before .loop .inv) (search needs)
     (set-beyond _ _ (search needs) (c .if1 .taken))
 
 add-i : tie.Need-add-i Inv-loop μ-loop
@@ -49,11 +49,11 @@ loop-less c = search needs
 
 loop-again : tie.Need-loop-again Inv-loop μ-loop
 loop-again c =
-    passed-more (c .before .before .before .loop .inv) (search needs)
+    passed-more 0 (c .before .before .before .loop .inv) (search needs)
     (set-within _ _ (search needs) (c .if1 .left))
 
 returns-2 : tie.Need-returns-2 Inv-loop μ-loop
-returns-2 c = passed-all (c .before .loop .inv) (search needs)
+returns-2 c = passed-end (c .before .loop .inv) (search needs)
 
 pub sets-within-spec : {M : Type 1} → statement M
 sets-within-spec =

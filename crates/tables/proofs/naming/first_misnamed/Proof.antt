@@ -1,11 +1,11 @@
 -- `naming::first_misnamed` meets its contract. The loop's invariant: the counts before `node` are 1, so the
--- first that is not 1 is looked for among the others. Assumes nothing.
+-- first that is not 1 is looked for among the others.
 use mathlib.Core.Path.{_≡_, sym, _∙_}
 use Prim.Native.Nat.{_+_, _-_, _≤_}
 use lib.ListN.{length, drop}
 use borrow.Author.Needs.{needs}
 use Rattle.tables.specs.Naming.{firstMisnamed}
-use Rattle.tables.specs.laws.Naming.{misnamed-next, misnamed-here, misnamed-none}
+use Rattle.tables.specs.laws.Naming.{misnamed-more, misnamed-here, misnamed-end}
 use Rattle.tables.proofs.naming.first_misnamed.Statement.{statement}
 use Rattle.tables.proofs.naming.first_misnamed.Tie as tie
 
@@ -39,10 +39,10 @@ loop-less c = search needs
 loop-again : tie.Need-loop-again Inv-loop μ-loop
 loop-again c =
     let at = c .before .before .before in
-    (search needs, at .loop .inv .1 ∙ misnamed-next _ _ (search needs) (search needs))
+    (search needs, at .loop .inv .1 ∙ misnamed-more _ _ (search needs) (search needs))
 
 returns-2 : tie.Need-returns-2 Inv-loop μ-loop
-returns-2 c = sym (c .before .loop .inv .1 ∙ misnamed-none _ _ (search needs))
+returns-2 c = sym (c .before .loop .inv .1 ∙ misnamed-end _ _ (search needs))
 
 pub first-misnamed-spec : {M : Type 1} → statement M
 first-misnamed-spec =

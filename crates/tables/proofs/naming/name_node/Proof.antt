@@ -1,5 +1,4 @@
 -- `naming::name_node` meets its contract, by whether the node has a count and the count has room.
--- Assumes nothing.
 use mathlib.Core.Path.{sym}
 use native.Mathlib.Omega.{arith}
 use borrow.Author.Needs.{needs}

@@ -1,8 +1,8 @@
--- `records::node_at` meets its contract: the five words are those of the record. Assumes nothing.
+-- `records::node_at` meets its contract: the five words are those of the record.
 use Prim.Native.Nat.{_*_}
 use borrow.Author.Needs.{needs}
 use Rattle.definitions.specs.BookReading.{nodeSize}
-use Rattle.tables.specs.laws.Records.{record-at}
+use Rattle.tables.specs.laws.Records.{node-from-words}
 use Rattle.tables.proofs.records.node_at.Statement.{statement}
 use Rattle.tables.proofs.records.node_at.Tie as tie
 
@@ -43,8 +43,9 @@ returns c =
     let second = third .before in
     let first = second .before in
     let args = first .before .before .args in
-    record-at (args .words .now) (nodeSize * args .node) (first .word-at .ensures) (second .word-at2 .ensures)
-    (third .word-at3 .ensures) (fourth .word-at4 .ensures) (c .word-at5 .ensures)
+    node-from-words (args .words .now) (nodeSize * args .node)
+    (first .word-at .ensures) (second .word-at2 .ensures) (third .word-at3 .ensures)
+    (fourth .word-at4 .ensures) (c .word-at5 .ensures)
 
 pub node-at-spec : {M : Type 1} → statement M
 node-at-spec =

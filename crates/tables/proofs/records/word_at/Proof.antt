@@ -1,4 +1,4 @@
--- `records::word_at` meets its contract: beyond the table a word is 0. Assumes nothing.
+-- `records::word_at` meets its contract: beyond the table a word is 0.
 use mathlib.Core.Path.{sym}
 use lib.ListN.{List·getD-eq-default}
 use borrow.Author.Needs.{needs}

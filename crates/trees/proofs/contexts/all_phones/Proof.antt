@@ -1,11 +1,11 @@
 -- `contexts::all_phones` meets its contract. The loop's invariant: the numbers before `i` are phones of the
--- book. Assumes nothing.
+-- book.
 use Prim.Native.Nat.{_-_}
 use lib.ListN.{length}
 use borrow.Author.Needs.{needs}
 use Rattle.definitions.specs.Lists.{every}
 use Rattle.definitions.specs.BookLines.{isPhone}
-use Rattle.tables.specs.laws.Known.{Passed, passed-none, passed-more, passed-stop, passed-all}
+use Rattle.lines.specs.laws.Passing.{Passed, passed-start, passed-more, passed-stop, passed-end}
 use Rattle.trees.specs.laws.Phones.{too-low, too-high, a-phone}
 use Rattle.trees.proofs.contexts.all_phones.Statement.{statement}
 use Rattle.trees.proofs.contexts.all_phones.Tie as tie
@@ -17,7 +17,7 @@ abbrev μ-loop : tie.MeasureT-loop
 μ-loop sequence phones i₀ i = length sequence - i
 
 loop-holds : tie.Need-loop-holds Inv-loop μ-loop
-loop-holds c = passed-none _ _
+loop-holds c = passed-start _ _
 
 mul-phone : tie.Need-mul-phone Inv-loop μ-loop
 mul-phone c = search needs
@@ -27,12 +27,12 @@ shared-slice-read-phone c = search needs
 
 returns : tie.Need-returns Inv-loop μ-loop
 returns c =
-    passed-stop (c .before .before .before .loop .inv) (c .before .before .loop-test .taken)
+    passed-stop 0 (c .before .before .before .loop .inv) (c .before .before .loop-test .taken)
     (too-low _ _ (c .if1 .taken))
 
 returns-2 : tie.Need-returns-2 Inv-loop μ-loop
 returns-2 c =
-    passed-stop (c .before .before .before .before .loop .inv) (c .before .before .before .loop-test .taken)
+    passed-stop 0 (c .before .before .before .before .loop .inv) (c .before .before .before .loop-test .taken)
     (too-high _ _ (c .before .if1 .left) (c .if2 .taken))
 
 add-i : tie.Need-add-i Inv-loop μ-loop
@@ -43,11 +43,11 @@ loop-less c = search needs
 
 loop-again : tie.Need-loop-again Inv-loop μ-loop
 loop-again c =
-    passed-more (c .before .before .before .before .loop .inv) (c .before .before .before .loop-test .taken)
+    passed-more 0 (c .before .before .before .before .loop .inv) (c .before .before .before .loop-test .taken)
     (a-phone _ _ (c .before .if1 .left) (c .if2 .left))
 
 returns-3 : tie.Need-returns-3 Inv-loop μ-loop
-returns-3 c = passed-all (c .before .loop .inv) (c .loop-test .left)
+returns-3 c = passed-end (c .before .loop .inv) (c .loop-test .left)
 
 pub all-phones-spec : {M : Type 1} → statement M
 all-phones-spec =

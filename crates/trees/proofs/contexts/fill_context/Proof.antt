@@ -1,11 +1,11 @@
 -- `contexts::fill_context` meets its contract. The loop's invariant: the columns before `column` hold the
--- context's phones, the others are as they were. Assumes nothing.
+-- context's phones, the others are as they were.
 use mathlib.Core.Path.{_≡_, _∙_}
 use Prim.Native.Nat.{_-_}
 use lib.ListN.{length}
 use borrow.Author.Needs.{needs}
 use Rattle.definitions.specs.laws.Contexts.{contextAt, context-length}
-use Rattle.trees.specs.laws.Filling.{Filled, fill-start, fill-turn, fill-end}
+use Rattle.lines.specs.laws.Filling.{Filled, fill-start, fill-more, fill-end}
 use Rattle.trees.proofs.contexts.fill_context.Statement.{statement}
 use Rattle.trees.proofs.contexts.fill_context.Tie as tie
 
@@ -44,7 +44,7 @@ loop-less c = search needs
 
 loop-again : tie.Need-loop-again Inv-loop μ-loop
 loop-again c =
-    fill-turn (as-many (c .before .before .before .before .before)) (c .before .before .loop .inv)
+    fill-more (as-many (c .before .before .before .before .before)) (c .before .before .loop .inv)
     (c .before .loop-test .taken) (c .phone-at .ensures)
 
 same-length : tie.Need-same-length Inv-loop μ-loop

@@ -1,4 +1,4 @@
--- `contexts::is_context` meets its contract: the width, then the phones. Assumes nothing.
+-- `contexts::is_context` meets its contract: the width, then the phones.
 use mathlib.Core.Path.{sym, _∙_}
 use borrow.Author.Needs.{needs}
 use Rattle.trees.specs.laws.Phones.{other-width, by-phones}

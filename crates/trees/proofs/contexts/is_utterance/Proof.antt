@@ -1,9 +1,9 @@
--- `contexts::is_utterance` meets its contract, test by test. Assumes nothing.
-use mathlib.Core.Path.{sym, _∙_}
+-- `contexts::is_utterance` meets its contract, test by test.
+use mathlib.Core.Path.{sym}
 use Prim.Native.Nat.{_<_}
 use lib.ListN.{length}
-use borrow.Author.Tests.{not-true, not-false}
 use borrow.Author.Needs.{needs}
+use Rattle.definitions.specs.laws.Tests.{held, failed}
 use Rattle.trees.specs.laws.Phones.{no-phone, other-phones, other-start, by-end}
 use Rattle.trees.proofs.contexts.is_utterance.Statement.{statement}
 use Rattle.trees.proofs.contexts.is_utterance.Tie as tie
@@ -17,7 +17,7 @@ all-phones-requires c κs = search needs
 returns-2 : tie.Need-returns-2
 returns-2 c =
     let q = c .before .all-phones in
-    sym (other-phones _ _ (search needs) (sym (q .ensures) ∙ not-true (q .result) (c .if2 .taken)))
+    sym (other-phones _ _ (search needs) (failed (q .ensures) (c .if2 .taken)))
 
 shared-slice-read-first : tie.Need-shared-slice-read-first
 shared-slice-read-first c = search needs
@@ -25,7 +25,7 @@ shared-slice-read-first c = search needs
 returns-3 : tie.Need-returns-3
 returns-3 c =
     let q = c .before .before .before .all-phones in
-    let all = sym (q .ensures) ∙ not-false (q .result) (c .before .before .if2 .left) in
+    let all = held (q .ensures) (c .before .before .if2 .left) in
     let some : 0 < length (c .before .before .before .before .before .before .args .sequence .now) =
     search needs in
     sym (other-start _ _ some all (c .if3 .taken))
@@ -42,7 +42,7 @@ shared-slice-read-last c = search needs
 returns-4 : tie.Need-returns-4
 returns-4 c =
     let q = c .before .before .before .before .all-phones in
-    let all = sym (q .ensures) ∙ not-false (q .result) (c .before .before .before .if2 .left) in
+    let all = held (q .ensures) (c .before .before .before .if2 .left) in
     let some : 0 < length (c .before .before .before .before .before .before .before .args .sequence .now) =
     search needs in
     sym (by-end _ _ some all (c .before .if3 .left))

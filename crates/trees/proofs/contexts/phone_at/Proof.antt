@@ -1,4 +1,4 @@
--- `contexts::phone_at` meets its contract: before the sequence, within it, after it. Assumes nothing.
+-- `contexts::phone_at` meets its contract: before the sequence, within it, after it.
 use mathlib.Core.Path.{sym}
 use borrow.Author.Needs.{needs}
 use Rattle.definitions.specs.laws.Contexts.{context-before, context-within, context-after}

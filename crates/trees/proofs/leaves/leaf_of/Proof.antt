@@ -1,13 +1,13 @@
--- `leaves::leaf_of` meets its contract, test by test. Assumes nothing.
-use mathlib.Core.Path.{_≡_, sym, _∙_}
+-- `leaves::leaf_of` meets its contract, test by test.
+use mathlib.Core.Path.{_≡_}
 use mathlib.Core.Bool.{true, _&&_}
 use Prim.Native.Nat.{_*_}
-use borrow.Author.Tests.{not-true, not-false}
 use borrow.Author.Needs.{needs}
 use Rattle.definitions.specs.BookReading.{nodeSize}
 use Rattle.definitions.specs.Tables.{nodeRecords}
 use Rattle.definitions.specs.ForeignTables.{holdsOnly}
 use Rattle.definitions.specs.Lookup.{lookupKnown}
+use Rattle.definitions.specs.laws.Tests.{held, failed}
 use Rattle.trees.specs.laws.Answering.{lookup-foreign, lookup-range, lookup-leaf, lookup-fits}
 use Rattle.trees.proofs.leaves.leaf_of.Statement.{statement}
 use Rattle.trees.proofs.leaves.leaf_of.Tie as tie
@@ -21,7 +21,7 @@ known : (c : tie.Else1)
     && lookupKnown (entry (c .before) .args .header) (entry (c .before) .args .classes .now)
     (nodeRecords (entry (c .before) .args .header) (entry (c .before) .args .nodes .now))
     (entry (c .before) .args .root)) ≡ true
-known c = sym (c .before .lookup-known .ensures) ∙ not-false (c .before .lookup-known .result) (c .if1 .left)
+known c = held (c .before .lookup-known .ensures) (c .if1 .left)
 
 lookup-known-requires : tie.Need-lookup-known-requires
 lookup-known-requires c κs = search needs
@@ -31,7 +31,7 @@ returns c =
     let a = entry (c .before) .args in
     let q = c .before .lookup-known in
     lookup-foreign (a .header) (a .nodes .now) (a .classes .now) (a .root) (a .context .now)
-    (sym (q .ensures) ∙ not-true (q .result) (c .if1 .taken))
+    (failed (q .ensures) (c .if1 .taken))
 
 is-context-requires : tie.Need-is-context-requires
 is-context-requires c κs = search needs
@@ -41,7 +41,7 @@ returns-2 c =
     let a = entry (c .before .before .before) .args in
     let q = c .before .is-context in
     lookup-range (a .header) (a .nodes .now) (a .classes .now) (a .root) (a .context .now)
-    (known (c .before .before)) (sym (q .ensures) ∙ not-true (q .result) (c .if2 .taken))
+    (known (c .before .before)) (failed (q .ensures) (c .if2 .taken))
 
 walk-requires : tie.Need-walk-requires
 walk-requires c κs =
@@ -49,7 +49,7 @@ walk-requires c κs =
     let q = c .before .is-context in
     let fits = lookup-fits (a .header) (a .nodes .now) (a .classes .now) (a .root) (a .context .now)
     (known (c .before .before)) in
-    let context = sym (q .ensures) ∙ not-false (q .result) (c .if2 .left) in
+    let context = held (q .ensures) (c .if2 .left) in
     (fits .0, fits .1, fits .2, rw context tt, fits .3)
 
 returns-3 : tie.Need-returns-3
@@ -57,7 +57,7 @@ returns-3 c =
     let a = entry (c .before .before .before .before) .args in
     let q = c .before .before .is-context in
     lookup-leaf (a .header) (a .nodes .now) (a .classes .now) (a .root) (a .context .now)
-    (known (c .before .before .before)) (sym (q .ensures) ∙ not-false (q .result) (c .before .if2 .left))
+    (known (c .before .before .before)) (held (q .ensures) (c .before .if2 .left))
     (c .walk .result) (c .walk .ensures .0)
 
 pub leaf-of-spec : {M : Type 1} → statement M

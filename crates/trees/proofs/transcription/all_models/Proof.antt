@@ -1,12 +1,12 @@
 -- `transcription::all_models` meets its contract. The loop's invariant: the buffer begins with the models of
--- the places before `place`, the other words are as they were. Assumes nothing.
+-- the places before `place`, the other words are as they were.
 use Prim.Native.Nat.{ℕ, _+_, _-_, _*_, _≤_}
 use native.Mathlib.Omega.{arith}
 use lib.ListN.{length}
 use borrow.Author.Needs.{needs}
 use Rattle.definitions.specs.Tables.{Book, tablesBook}
 use Rattle.tables.specs.Lending.{lentTables}
-use Rattle.trees.specs.laws.Models.{Placed, placed-start, room, placed-turn, placed-end}
+use Rattle.trees.specs.laws.Models.{Placed, placed-start, room, placed-more, placed-end}
 use Rattle.trees.proofs.transcription.all_models.Statement.{statement}
 use Rattle.trees.proofs.transcription.all_models.Tie as tie
 
@@ -80,7 +80,7 @@ loop-again c =
     let a = entry wide .args in
     let k : ℕ = wide .wide .result in
     let i : ℕ = turn .before .loop .place in
-    placed-turn (book (entry wide)) (a .sequence .now) (a .models .now) (turn .before .loop .models) i
+    placed-more (book (entry wide)) (a .sequence .now) (a .models .now) (turn .before .loop .models) i
     (turn .before .loop .inv) (entry wide .pre .2) (turn .loop-test .taken) k (i * k + k - i * k)
     (wide .wide .ensures) (omega arith) _ (c .before .before .models-at .ensures)
 

@@ -1,5 +1,4 @@
 -- `transcription::model_of` meets its contract: the record at the leaf that the walk from the root reaches.
--- Assumes nothing.
 use mathlib.Core.Path.{_≡_, ap, sym, _∙_}
 use Prim.Native.Nat.{ℕ, _≤_}
 use native.Mathlib.Omega.{arith}

@@ -1,5 +1,4 @@
 -- `transcription::models_at` meets its contract: the front of the window holds the context of the place.
--- Assumes nothing.
 use mathlib.Core.Path.{subst, _≡_, ap, sym, _∙_}
 use mathlib.Core.List.{List, _++_}
 use Prim.Native.Nat.{ℕ, _+_, _*_, _≤_}

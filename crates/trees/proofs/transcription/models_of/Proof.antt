@@ -1,5 +1,5 @@
--- `transcription::models_of` meets its contract. The loop's invariant: the words before `state` hold the
--- models of their states, the others are as they were. Assumes nothing.
+-- `transcription::models_of` meets its contract. The loop's invariant: the words before `state` hold the models
+-- of their states, the others are as they were.
 use mathlib.Core.Path.{_≡_, sym, _∙_}
 use mathlib.Core.List.{List}
 use Prim.Native.Nat.{ℕ, _-_, _<_}
@@ -9,7 +9,7 @@ use borrow.Author.Needs.{needs}
 use Rattle.definitions.specs.Tables.{tablesBook}
 use Rattle.tables.specs.Lending.{lentTables}
 use Rattle.trees.specs.Answers.{stateModels}
-use Rattle.trees.specs.laws.Filling.{Filled, fill-start, fill-turn, fill-end}
+use Rattle.lines.specs.laws.Filling.{Filled, fill-start, fill-more, fill-end}
 use Rattle.trees.specs.laws.Models.{states-length, state-at}
 use Rattle.trees.proofs.transcription.models_of.Statement.{statement}
 use Rattle.trees.proofs.transcription.models_of.Tie as tie
@@ -65,7 +65,7 @@ loop-again c =
     let start = entry head in
     let listed : head .loop .state < start .args .header .states =
     omega (arith, start .pre .2, c .before .loop-test .taken, head .loop .inv .sized) in
-    fill-turn (as-many start) (head .loop .inv) (c .before .loop-test .taken)
+    fill-more (as-many start) (head .loop .inv) (c .before .loop-test .taken)
     (c .model-of .ensures ∙ state-at _ _ (head .loop .state) listed)
 
 same-length : tie.Need-same-length Inv-loop μ-loop

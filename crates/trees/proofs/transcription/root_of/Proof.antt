@@ -1,4 +1,4 @@
--- `transcription::root_of` meets its contract: the tree's place is one of the roots'. Assumes nothing.
+-- `transcription::root_of` meets its contract: the tree's place is one of the roots'.
 use Prim.Native.Nat.{ℕ, _+_, _-_, _*_}
 use native.Mathlib.Omega.{arith}
 use borrow.Author.Needs.{needs}

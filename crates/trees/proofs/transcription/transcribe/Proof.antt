@@ -1,15 +1,15 @@
--- `transcription::transcribe` meets its contract, test by test. Assumes nothing.
-use mathlib.Core.Path.{subst, _≡_, refl, sym, _∙_}
+-- `transcription::transcribe` meets its contract, test by test.
+use mathlib.Core.Path.{subst, _≡_, refl}
 use mathlib.Core.List.{List}
 use mathlib.Core.Bool.{true}
 use Prim.Native.Nat.{ℕ, _*_, _≤_, _<_}
 use native.Mathlib.Omega.{arith}
 use lib.ListN.{length}
-use borrow.Author.Tests.{not-true, not-false}
 use borrow.Author.Needs.{needs}
 use Rattle.definitions.specs.Tables.{Tables}
 use Rattle.definitions.specs.ForeignTables.{tablesKnown}
 use Rattle.definitions.specs.Transcription.{isUtterance}
+use Rattle.definitions.specs.laws.Tests.{held, failed}
 use Rattle.tables.specs.Lending.{lentTables}
 use Rattle.trees.specs.laws.Answering.{ends-foreign, ends-utterance, ends-short, ends-given, some-state}
 use Rattle.trees.specs.laws.Answering.{no-room, has-room, utterance-phones}
@@ -28,14 +28,14 @@ tables c = lentTables (c .args .nodes .now) (c .args .classes .now) (c .args .ro
 
 -- the tables are known, and the sequence is an utterance
 known : (c : tie.Else1) → tablesKnown (entry (c .before) .args .header) (tables (entry (c .before))) ≡ true
-known c = sym (c .before .tables-known .ensures) ∙ not-false (c .before .tables-known .result) (c .if1 .left)
+known c = held (c .before .tables-known .ensures) (c .if1 .left)
 
 abbrev judged : tie.Else2 → tie.After-tables-known
 judged c = c .before .before .before
 
 spoken : (c : tie.Else2)
     → isUtterance (entry (judged c) .args .header .phones) (entry (judged c) .args .sequence .now) ≡ true
-spoken c = sym (c .before .is-utterance .ensures) ∙ not-false (c .before .is-utterance .result) (c .if2 .left)
+spoken c = held (c .before .is-utterance .ensures) (c .if2 .left)
 
 some : (c : tie.After-wide) → 0 < c .wide .result
 some c = omega (arith, some-state _ _ (known (c .before .before .before)), c .wide .ensures)
@@ -64,7 +64,7 @@ returns c =
     let a = entry q .args in
     ends-foreign (a .header) (tables (entry q)) (a .sequence .now) (length (a .models .now))
     (c .refuse .result) (buffer q)
-    (sym (q .tables-known .ensures) ∙ not-true (q .tables-known .result) (c .before .if1 .taken))
+    (failed (q .tables-known .ensures) (c .before .if1 .taken))
     (c .refuse .ensures) (q .before .before .before .clear-words .ensures)
 
 is-utterance-requires : tie.Need-is-utterance-requires
@@ -83,7 +83,7 @@ returns-2 c =
     let a = entry q .args in
     ends-utterance (a .header) (tables (entry q)) (a .sequence .now) (length (a .models .now))
     (c .refuse2 .result) (buffer q) (known (c .before .before .before))
-    (sym (u .ensures) ∙ not-true (u .result) (c .before .if2 .taken))
+    (failed (u .ensures) (c .before .if2 .taken))
     (c .refuse2 .ensures) (q .before .before .before .clear-words .ensures)
 
 wide-requires : tie.Need-wide-requires

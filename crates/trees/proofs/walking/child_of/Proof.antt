@@ -1,4 +1,4 @@
--- `walking::child_of` meets its contract: the side of the answer. Assumes nothing.
+-- `walking::child_of` meets its contract: the side of the answer.
 use mathlib.Core.Path.{_≡_, ap, sym, _∙_}
 use mathlib.Core.Bool.{Bool, true, false}
 use borrow.Author.Needs.{needs}

@@ -1,4 +1,4 @@
--- `walking::has_phone` meets its contract: the bit worth 2^(phone-1). Assumes nothing.
+-- `walking::has_phone` meets its contract: the bit worth 2^(phone-1).
 use lib.ListN.{set}
 use borrow.Author.Needs.{needs}
 use Rattle.trees.specs.laws.Walking.{has-bit}

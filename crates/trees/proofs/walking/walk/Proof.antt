@@ -1,5 +1,5 @@
--- `walking::walk` meets its contract. The loop's invariant: the steps that are left reach the leaf from
--- `node`, which is no less than the steps taken. So they never run out. Assumes nothing.
+-- `walking::walk` meets its contract. The loop's invariant: the steps that are left reach the leaf from `node`,
+-- which is no less than the steps taken. So they never run out.
 use Prim.Native.Nat.{_-_}
 use native.Mathlib.Omega.{arith}
 use borrow.Author.Needs.{needs}
@@ -24,15 +24,15 @@ entry c = c .before .before .before .before
 abbrev head : tie.Else2 Inv-loop μ-loop → tie.At-loop Inv-loop μ-loop
 head c = c .before .before .before .before .before
 
-abbrev record-at : tie.Else2 Inv-loop μ-loop → Node
-record-at c = c .before .before .node-at .result
+abbrev read-node : tie.Else2 Inv-loop μ-loop → Node
+read-node c = c .before .before .node-at .result
 
 fits : (c : tie.Else2 Inv-loop μ-loop)
-    → QuestionFits (entry (head c) .args .header) (head c .loop .node) (record-at c .value)
-    (record-at c .position) (record-at c .yes) (record-at c .no)
+    → QuestionFits (entry (head c) .args .header) (head c .loop .node) (read-node c .value)
+    (read-node c .position) (read-node c .yes) (read-node c .no)
 fits c =
     question-fits (entry (head c) .args .header) (entry (head c) .args .nodes .now) (entry (head c) .pre .1)
-    (head c .loop .node) (head c .loop .inv .listed) (record-at c)
+    (head c .loop .node) (head c .loop .inv .listed) (read-node c)
     (c .before .before .node-at .ensures) (c .if2 .left)
 
 loop-holds : tie.Need-loop-holds Inv-loop μ-loop
@@ -52,7 +52,7 @@ child-of-requires c κs =
     let a = entry (head c) .args in
     let p = entry (head c) .pre in
     asked-of-child (a .header) (a .nodes .now) (a .classes .now) (a .context .now) (p .0) (p .2) (p .3)
-    (head c .loop .node) (record-at c) (fits c)
+    (head c .loop .node) (read-node c) (fits c)
 
 add-steps : tie.Need-add-steps Inv-loop μ-loop
 add-steps c = search needs
