@@ -5,9 +5,11 @@ use Prim.Native.Nat.{ℕ, zero, suc, _+_, _-_, _*_, _%_, _^_, _≤_, _<_}
 use native.Mathlib.Nat.{add-zero}
 use native.Mathlib.Numerals.{add-one}
 use native.Mathlib.Omega.{arith}
+use lib.Bits.{bitOr}
 use lib.Pow.{shl-exact}
 use lib.ListN.{length, take, drop, set, length-set, take-append-drop}
 use lib.Seq.{take-suc-set, drop-set-lt}
+use Rattle.definitions.specs.Lists.{_!_}
 use Rattle.definitions.specs.PhoneSets.{alone}
 use Rattle.book.specs.Storing.{putAt}
 
@@ -42,10 +44,16 @@ put-five at a b c d e table h =
     ∙ put-more (at + 1) (at + 2) b (c ∷ d ∷ e ∷ []) one (omega arith) (simp length-set (omega arith))
     ∙ put-more at (at + 1) a (b ∷ c ∷ d ∷ e ∷ []) table (omega arith) (omega arith)
 
-pub alone-shifted : (phone : ℕ) → 1 ≤ phone → phone ≤ 64
+alone-shifted : (phone : ℕ) → 1 ≤ phone → phone ≤ 64
     → (1 * 2 ^ (phone - 1)) % 18446744073709551616 ≡ alone phone
 unfolding alone
 alone-shifted zero k l = absurd (omega arith)
 alone-shifted (suc i) k l =
     let before : suc i - 1 ≡ i = omega arith in
     rw (before, shl-exact {a = 1} 1 i 64 (omega arith) (omega arith)) (omega arith)
+
+-- a phone put into a set of the table
+pub member-put : (sets : List ℕ) (at phone : ℕ) → 1 ≤ phone → phone ≤ 64
+    → set sets at (bitOr (sets ! at) ((1 * 2 ^ (phone - 1)) % 18446744073709551616))
+    ≡ set sets at (bitOr (sets ! at) (alone phone))
+member-put sets at phone from to = ap (λ (s : ℕ). set sets at (bitOr (sets ! at) s)) (alone-shifted phone from to)

@@ -16,13 +16,13 @@ pub record Filled (t d : List ℕ) (i : ℕ) (s : List ℕ) : Type 0 where
   pub sized : length s ≡ length d
   pub holds : s ≡ take i t ++ drop i d
 
-pub fill-start : (t d : List ℕ) → Filled t d 0 d
-fill-start t d = record { within = omega arith; sized = refl; holds = refl }
+pub filled-start : (t d : List ℕ) → Filled t d 0 d
+filled-start t d = record { within = omega arith; sized = refl; holds = refl }
 
 -- a store of t's next element
-pub fill-more : {t d s : List ℕ} {i v : ℕ} → length t ≡ length d → Filled t d i s → i < length s → v ≡ t ! i
+pub filled-more : {t d s : List ℕ} {i v : ℕ} → length t ≡ length d → Filled t d i s → i < length s → v ≡ t ! i
     → Filled t d (i + 1) (set s i v)
-fill-more {t} {d} {s} {i} {v} e f l q =
+filled-more {t} {d} {s} {i} {v} e f l q =
     let inside : i < length d = omega arith in
     let listed : i < length t = omega arith in
     record {
@@ -40,8 +40,8 @@ fill-more {t} {d} {s} {i} {v} e f l q =
           );
     }
 
-pub fill-end : {t d s : List ℕ} {i : ℕ} → length t ≡ length d → Filled t d i s → length s ≤ i → s ≡ t
-fill-end {t} {d} {s} {i} e f l =
+pub filled-end : {t d s : List ℕ} {i : ℕ} → length t ≡ length d → Filled t d i s → length s ≤ i → s ≡ t
+filled-end {t} {d} {s} {i} e f l =
     f .holds ∙ rw (drop-of-length-le d {i = i} (omega arith), append-nil, take-all i t (omega arith))
 
 -- ---- one value
@@ -53,8 +53,8 @@ FilledWith v d i s = Filled (replicate (length d) v) d i s
 module _ (v : ℕ) {d s : List ℕ} {i : ℕ} (f : FilledWith v d i s) where
   pub with-more : i < length s → FilledWith v d (i + 1) (set s i v)
   with-more l =
-      fill-more (length-replicate (length d) v) f l
+      filled-more (length-replicate (length d) v) f l
       (sym (getD-replicate (length d) i v 0 (omega (arith, f .sized))))
 
   pub with-end : length s ≤ i → s ≡ replicate (length d) v
-  with-end l = fill-end (length-replicate (length d) v) f l
+  with-end l = filled-end (length-replicate (length d) v) f l

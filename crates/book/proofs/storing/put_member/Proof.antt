@@ -1,6 +1,7 @@
 -- `storing::put_member` meets its contract: a shifted 1 is the phone alone.
+use Prim.Native.Nat.{_-_}
 use borrow.Author.Needs.{needs}
-use Rattle.book.specs.laws.Putting.{alone-shifted}
+use Rattle.book.specs.laws.Putting.{member-put}
 use Rattle.book.proofs.storing.put_member.Statement.{statement}
 use Rattle.book.proofs.storing.put_member.Tie as tie
 
@@ -36,8 +37,10 @@ same-length c = search needs
 
 returns : tie.Need-returns
 returns c =
-    let (_, _, from, to) = c .before .before .before .pre in
-    rw (c .before .wide .ensures, alone-shifted _ from to)
+    let start = c .before .before .before in
+    let (_, _, from, to) = start .pre in
+    rw (c .before .wide .ensures)
+    (member-put (start .args .sets .now) (start .args .class - 1) (start .args .phone) from to)
 
 pub put-member-spec : {M : Type 1} → statement M
 put-member-spec =

@@ -2,7 +2,7 @@
 use Prim.Native.Nat.{_-_}
 use lib.ListN.{length}
 use borrow.Author.Needs.{needs}
-use Rattle.lines.specs.laws.Filling.{FilledWith, fill-start, with-more, with-end}
+use Rattle.lines.specs.laws.Filling.{FilledWith, filled-start, with-more, with-end}
 use Rattle.lines.proofs.clearing.clear_sets.Statement.{statement}
 use Rattle.lines.proofs.clearing.clear_sets.Tie as tie
 
@@ -13,7 +13,7 @@ abbrev μ-loop : tie.MeasureT-loop
 μ-loop sets₀ i₀ sets i = length sets₀ - i
 
 loop-holds : tie.Need-loop-holds Inv-loop μ-loop
-loop-holds c = fill-start _ _
+loop-holds c = filled-start _ _
 
 mul-sets : tie.Need-mul-sets Inv-loop μ-loop
 mul-sets c = search needs

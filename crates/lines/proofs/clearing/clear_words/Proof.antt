@@ -3,7 +3,7 @@
 use Prim.Native.Nat.{_-_}
 use lib.ListN.{length}
 use borrow.Author.Needs.{needs}
-use Rattle.lines.specs.laws.Filling.{FilledWith, fill-start, with-more, with-end}
+use Rattle.lines.specs.laws.Filling.{FilledWith, filled-start, with-more, with-end}
 use Rattle.lines.proofs.clearing.clear_words.Statement.{statement}
 use Rattle.lines.proofs.clearing.clear_words.Tie as tie
 
@@ -14,7 +14,7 @@ abbrev μ-loop : tie.MeasureT-loop
 μ-loop words₀ i₀ words i = length words₀ - i
 
 loop-holds : tie.Need-loop-holds Inv-loop μ-loop
-loop-holds c = fill-start _ _
+loop-holds c = filled-start _ _
 
 mul-words : tie.Need-mul-words Inv-loop μ-loop
 mul-words c = search needs

@@ -8,7 +8,7 @@ use lib.ListN.{length}
 use borrow.Author.Needs.{needs}
 use Rattle.lines.specs.Rows.{lineIn}
 use Rattle.lines.specs.Writing.{fieldsText}
-use Rattle.lines.specs.laws.Filling.{Filled, fill-start, fill-end}
+use Rattle.lines.specs.laws.Filling.{Filled, filled-start, filled-end}
 use Rattle.lines.specs.laws.WrittenLines.{row-length, field-put}
 use Rattle.lines.proofs.writing.write_fields.Statement.{statement}
 use Rattle.lines.proofs.writing.write_fields.Tie as tie
@@ -21,7 +21,7 @@ abbrev μ-loop : tie.MeasureT-loop
 μ-loop row bytes₀ field₀ bytes field = 5 - field
 
 loop-holds : tie.Need-loop-holds Inv-loop μ-loop
-loop-holds c = fill-start _ _
+loop-holds c = filled-start _ _
 
 mul-from : tie.Need-mul-from Inv-loop μ-loop
 mul-from c = search needs
@@ -70,7 +70,7 @@ returns c =
     let start = c .before .before .before in
     let five : length (start .args .row .numbers) ≡ 5 = search needs in
     let size = row-length (start .args .row) (start .pre .0) five in
-    fill-end (size ∙ sym (start .pre .1)) (c .before .loop .inv) (search needs)
+    filled-end (size ∙ sym (start .pre .1)) (c .before .loop .inv) (search needs)
 
 pub write-fields-spec : {M : Type 1} → statement M
 write-fields-spec =

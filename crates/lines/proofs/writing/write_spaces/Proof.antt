@@ -4,7 +4,7 @@ use Prim.Native.Nat.{_-_}
 use lib.ListN.{length}
 use borrow.Author.Needs.{needs}
 use Rattle.definitions.specs.Lines.{space}
-use Rattle.lines.specs.laws.Filling.{FilledWith, fill-start, with-more, with-end}
+use Rattle.lines.specs.laws.Filling.{FilledWith, filled-start, with-more, with-end}
 use Rattle.lines.proofs.writing.write_spaces.Statement.{statement}
 use Rattle.lines.proofs.writing.write_spaces.Tie as tie
 
@@ -15,7 +15,7 @@ abbrev μ-loop : tie.MeasureT-loop
 μ-loop bytes₀ i₀ bytes i = length bytes₀ - i
 
 loop-holds : tie.Need-loop-holds Inv-loop μ-loop
-loop-holds c = fill-start _ _
+loop-holds c = filled-start _ _
 
 slice-write-bytes : tie.Need-slice-write-bytes Inv-loop μ-loop
 slice-write-bytes c = search needs

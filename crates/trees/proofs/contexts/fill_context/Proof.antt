@@ -5,7 +5,7 @@ use Prim.Native.Nat.{_-_}
 use lib.ListN.{length}
 use borrow.Author.Needs.{needs}
 use Rattle.definitions.specs.laws.Contexts.{contextAt, context-length}
-use Rattle.lines.specs.laws.Filling.{Filled, fill-start, fill-more, fill-end}
+use Rattle.lines.specs.laws.Filling.{Filled, filled-start, filled-more, filled-end}
 use Rattle.trees.proofs.contexts.fill_context.Statement.{statement}
 use Rattle.trees.proofs.contexts.fill_context.Tie as tie
 
@@ -25,7 +25,7 @@ as-many c =
     context-length (a .half) (a .sequence .now) (a .place) (search needs) ∙ search needs
 
 loop-holds : tie.Need-loop-holds Inv-loop μ-loop
-loop-holds c = fill-start _ _
+loop-holds c = filled-start _ _
 
 phone-at-requires : tie.Need-phone-at-requires Inv-loop μ-loop
 phone-at-requires c κs = search needs
@@ -44,7 +44,7 @@ loop-less c = search needs
 
 loop-again : tie.Need-loop-again Inv-loop μ-loop
 loop-again c =
-    fill-more (as-many (c .before .before .before .before .before)) (c .before .before .loop .inv)
+    filled-more (as-many (c .before .before .before .before .before)) (c .before .before .loop .inv)
     (c .before .loop-test .taken) (c .phone-at .ensures)
 
 same-length : tie.Need-same-length Inv-loop μ-loop
@@ -52,7 +52,7 @@ same-length c = search needs
 
 returns : tie.Need-returns Inv-loop μ-loop
 returns c =
-    fill-end (as-many (c .before .before .before .before)) (c .before .loop .inv) (c .loop-test .left)
+    filled-end (as-many (c .before .before .before .before)) (c .before .loop .inv) (c .loop-test .left)
 
 pub fill-context-spec : {M : Type 1} → statement M
 fill-context-spec =

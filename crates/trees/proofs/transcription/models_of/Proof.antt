@@ -9,7 +9,7 @@ use borrow.Author.Needs.{needs}
 use Rattle.definitions.specs.Tables.{tablesBook}
 use Rattle.tables.specs.Lending.{lentTables}
 use Rattle.trees.specs.Answers.{stateModels}
-use Rattle.lines.specs.laws.Filling.{Filled, fill-start, fill-more, fill-end}
+use Rattle.lines.specs.laws.Filling.{Filled, filled-start, filled-more, filled-end}
 use Rattle.trees.specs.laws.Models.{states-length, state-at}
 use Rattle.trees.proofs.transcription.models_of.Statement.{statement}
 use Rattle.trees.proofs.transcription.models_of.Tie as tie
@@ -36,7 +36,7 @@ unfolding tablesBook
 as-many c = states-length _ _ ∙ sym (c .pre .2)
 
 loop-holds : tie.Need-loop-holds Inv-loop μ-loop
-loop-holds c = fill-start _ _
+loop-holds c = filled-start _ _
 
 add-model-of : tie.Need-add-model-of Inv-loop μ-loop
 add-model-of c = search needs
@@ -65,14 +65,14 @@ loop-again c =
     let start = entry head in
     let listed : head .loop .state < start .args .header .states =
     omega (arith, start .pre .2, c .before .loop-test .taken, head .loop .inv .sized) in
-    fill-more (as-many start) (head .loop .inv) (c .before .loop-test .taken)
+    filled-more (as-many start) (head .loop .inv) (c .before .loop-test .taken)
     (c .model-of .ensures ∙ state-at _ _ (head .loop .state) listed)
 
 same-length : tie.Need-same-length Inv-loop μ-loop
 same-length c = search needs
 
 returns : tie.Need-returns Inv-loop μ-loop
-returns c = fill-end (as-many (entry (c .before))) (c .before .loop .inv) (c .loop-test .left)
+returns c = filled-end (as-many (entry (c .before))) (c .before .loop .inv) (c .loop-test .left)
 
 pub models-of-spec : {M : Type 1} → statement M
 models-of-spec =
