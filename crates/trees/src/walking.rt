@@ -2,6 +2,7 @@
 use definitions::Header;
 use definitions::Node;
 use definitions::wide;
+use matrix::sets::has_phone;
 use tables::records::node_at;
 ghost use mathlib.Core.List.{map};
 ghost use mathlib.Core.Path.{_≡_};
@@ -9,26 +10,15 @@ ghost use Prim.Native.Nat.{_*_, _≤_, _<_};
 ghost use lib.Dec.{T};
 ghost use lib.ListN.{length, drop};
 ghost use Rattle.definitions.specs.BookReading.{nodeSize};
-ghost use Rattle.definitions.specs.ForeignTables.{headerKnown, nodesKnown};
-ghost use Rattle.definitions.specs.Lists.{_!_, if_then_else_};
+ghost use Rattle.definitions.specs.ForeignTables.{nodesKnown};
+ghost use Rattle.definitions.specs.Lists.{if_then_else_};
 ghost use Rattle.definitions.specs.Lookup.{holdsAt, leafReached, isContext};
-ghost use Rattle.definitions.specs.PhoneSets.{has};
 ghost use Rattle.definitions.specs.Tables.{nodeOf, nodeRecords, treeNode};
-
-// Whether a set has a phone: the bit worth 2^(phone-1).
-fn has_phone(set: u64, phone: u32) -> bool
-    requires { ⌜ (1 ≤ phone) × (phone ≤ 64) ⌝ }
-    ensures { λ r. ⌜ r ≡ has phone set ⌝ }
-{
-    let bit = (set >> (phone - 1)) & 1;
-    bit == 1
-}
 
 // The child of a question that a context goes to.
 fn child_of(node: Node, classes: &[u64], context: &[u32]) -> u32
     requires { ⌜
         (1 ≤ node .value) × (node .value ≤ length (now classes)) × (node .position < length (now context))
-        × (1 ≤ now context ! node .position) × (now context ! node .position ≤ 64)
         ⌝ }
     ensures { λ r. ⌜
         r ≡ (if holdsAt (now (classes .entry)) (node .value) (node .position) (now (context .entry))
@@ -47,7 +37,7 @@ fn child_of(node: Node, classes: &[u64], context: &[u32]) -> u32
 // as many steps as there are nodes.
 pub fn walk(header: Header, nodes: &[u32], classes: &[u64], context: &[u32], root: u32) -> u32
     requires { ⌜
-        T (headerKnown header) × T (nodesKnown header 0 (nodeRecords header (now nodes)))
+        T (nodesKnown header 0 (nodeRecords header (now nodes)))
         × (header .classes ≤ length (now classes)) × T (isContext header (now context))
         × (root < header .nodes)
         ⌝ }

@@ -66,8 +66,8 @@ module _ (header : Header) (nodes classes : List ℕ) (root : ℕ) (context : Li
     lookup-leaf e leaf own = let parts = both held known h in rw (parts .0, parts .1, e, own)
 
     -- what a walk asks of the tables
-    pub lookup-fits : T (headerKnown header) × T (nodesKnown header 0 (nodeRecords header nodes))
-        × (header .classes ≤ length classes) × (root < header .nodes)
+    pub lookup-fits : T (nodesKnown header 0 (nodeRecords header nodes)) × (header .classes ≤ length classes)
+        × (root < header .nodes)
     unfolding lookupKnown
     lookup-fits =
         let all : T known = rw (both held known h .1) tt in
@@ -76,7 +76,7 @@ module _ (header : Header) (nodes classes : List ℕ) (root : ℕ) (context : Li
         let last = T-three (headerKnown header && counted && records) (classTableKnown header classes)
         (ltb root (header .nodes)) .0 all in
         let first = T-three (headerKnown header) counted records .0 (last .0) in
-        (first .0, first .2, classes-wide header classes (last .1), ltb→lt _ _ (last .2))
+        (first .2, classes-wide header classes (last .1), ltb→lt _ _ (last .2))
 
 -- ---- the transcription: 18, then 41, then 33
 

@@ -1,14 +1,11 @@
--- Laws about a walk's turn: the bit of a phone in a set, the child that a question goes to, and a walk with
--- one step less from there.
+-- Laws about a walk's turn: the child that a question goes to, and a walk with one step less from there.
 use mathlib.Core.Path.{_≡_, refl, sym, ap, ap₂, _∙_}
 use mathlib.Core.List.{List}
 use mathlib.Core.Bool.{Bool}
-use Prim.Native.Nat.{ℕ, zero, suc, _+_, _-_, _*_, _/_, _^_, _≤_, _<_}
+use Prim.Native.Nat.{ℕ, zero, suc, _+_, _-_, _*_, _≤_, _<_}
 use native.Mathlib.Nat.{sub-zero}
-use native.Mathlib.Numerals.{unary-clauses}
 use native.Mathlib.Omega.{arith}
-use lib.Bits.{bitAnd, and-mask}
-use lib.Dec.{T, eqb}
+use lib.Dec.{T}
 use lib.ListN.{length, drop}
 use borrow.Author.Tests.{eq-eqb, ne-eqb}
 use Rattle.definitions.specs.declared.Header.{Header}
@@ -18,21 +15,12 @@ use Rattle.definitions.specs.PhoneSets.{has}
 use Rattle.definitions.specs.BookLines.{leaf}
 use Rattle.definitions.specs.BookReading.{nodeSize}
 use Rattle.definitions.specs.Tables.{nodeOf, treeNode}
-use Rattle.definitions.specs.ForeignTables.{headerKnown}
 use Rattle.definitions.specs.Lookup.{nodeAt, holdsAt, walk, leafReached, modelAt, isContext}
 use Rattle.definitions.specs.laws.Accepted.{QuestionFits}
 use Rattle.definitions.specs.laws.Walks.{walk-leaf, walk-question, either-node}
 use Rattle.definitions.specs.laws.Tables.{tree-nodes-length}
 use Rattle.tables.specs.laws.Records.{treeNodes}
-use Rattle.tables.specs.laws.Known.{header-ranges}
 use Rattle.trees.specs.laws.Nodes.{node-is, column-fits}
-
--- the bit worth 2^(phone-1)
-pub has-bit : (phone set : ℕ) → 1 ≤ phone → eqb (bitAnd (set / 2 ^ (phone - 1)) 1) 1 ≡ has phone set
-unfolding has
-has-bit zero set h = absurd (omega arith)
-has-bit (suc i) set h =
-    simp unary-clauses (ap (λ (bit : ℕ). eqb bit 1) (and-mask (set / 2 ^ i) 1))
 
 -- the answer to a question, from its class and its position as places
 pub answer-is : (node : Node) (classes context : List ℕ) (class position : ℕ) (b : Bool)
@@ -91,15 +79,13 @@ module _ (header : Header) (words classes context : List ℕ) where
   start-walking root h =
       record { listed = h; further = omega arith; reaches = rw sub-zero (walk-starts root) }
 
-  -- what is asked of a question and of a context's phone there
-  pub asked-of-child : T (headerKnown header) → header .classes ≤ length classes → T (isContext header context)
+  -- what is asked of a question: its class is listed, its position is in the context
+  pub asked-of-child : header .classes ≤ length classes → T (isContext header context)
       → (node : ℕ) (x : Node) → QuestionFits header node (x .value) (x .position) (x .yes) (x .no)
       → (1 ≤ x .value) × (x .value ≤ length classes) × (x .position < length context)
-      × (1 ≤ context ! x .position) × (context ! x .position ≤ 64)
-  asked-of-child known wide fits node x q =
+  asked-of-child wide fits node x q =
       let column = column-fits header context fits (x .position) (q .position-high) in
-      let phones = header-ranges header known .phones-range in
-      (q .class-low, omega arith, column .inside, column .low, omega arith)
+      (q .class-low, omega arith, column .inside)
 
   pub goes-on : (root node taken child : ℕ) → Walking root node taken → taken < header .nodes → (x : Node)
       → x ≡ nodeOf (drop (nodeSize * node) words) → x .kind ≡ 1

@@ -50,7 +50,7 @@ walk-requires c κs =
     let fits = lookup-fits (a .header) (a .nodes .now) (a .classes .now) (a .root) (a .context .now)
     (known (c .before .before)) in
     let context = held (q .ensures) (c .if2 .left) in
-    (fits .0, fits .1, fits .2, rw context tt, fits .3)
+    (fits .0, fits .1, rw context tt, fits .2)
 
 returns-3 : tie.Need-returns-3
 returns-3 c =

@@ -73,7 +73,7 @@ walk-requires c κs =
     let wide : start .args .header .classes
     ≤ length (take (c .before .wide3 .result) (start .args .classes .now)) =
     omega (arith, slice-aggregate-walk c, c .before .wide3 .ensures) in
-    (f .header-known, f .nodes, wide, start .pre .1, c .before .before .root-of .ensures .1)
+    (f .nodes, wide, start .pre .1, c .before .before .root-of .ensures .1)
 
 node-at-requires : tie.Need-node-at-requires
 node-at-requires c κs = search needs

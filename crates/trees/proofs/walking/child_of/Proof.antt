@@ -30,7 +30,7 @@ shared-slice-read-has-phone-2 : tie.Need-shared-slice-read-has-phone-2
 shared-slice-read-has-phone-2 c = search needs
 
 has-phone-requires : tie.Need-has-phone-requires
-has-phone-requires c κs = rw (c .before .before .wide2 .ensures) (search needs)
+has-phone-requires c κs = search needs
 
 -- the answer to the question
 abbrev entry : tie.After-has-phone → tie.Start

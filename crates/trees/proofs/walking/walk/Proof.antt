@@ -31,7 +31,7 @@ fits : (c : tie.Else2 Inv-loop μ-loop)
     → QuestionFits (entry (head c) .args .header) (head c .loop .node) (read-node c .value)
     (read-node c .position) (read-node c .yes) (read-node c .no)
 fits c =
-    question-fits (entry (head c) .args .header) (entry (head c) .args .nodes .now) (entry (head c) .pre .1)
+    question-fits (entry (head c) .args .header) (entry (head c) .args .nodes .now) (entry (head c) .pre .0)
     (head c .loop .node) (head c .loop .inv .listed) (read-node c)
     (c .before .before .node-at .ensures) (c .if2 .left)
 
@@ -51,7 +51,7 @@ child-of-requires : tie.Need-child-of-requires Inv-loop μ-loop
 child-of-requires c κs =
     let a = entry (head c) .args in
     let p = entry (head c) .pre in
-    asked-of-child (a .header) (a .nodes .now) (a .classes .now) (a .context .now) (p .0) (p .2) (p .3)
+    asked-of-child (a .header) (a .nodes .now) (a .classes .now) (a .context .now) (p .1) (p .2)
     (head c .loop .node) (read-node c) (fits c)
 
 add-steps : tie.Need-add-steps Inv-loop μ-loop

@@ -1,0 +1,74 @@
+-- `words::is_numbered` meets its contract. The loop's invariant: the words before `i` are the same.
+use mathlib.Core.Path.{_≡_, sym, _∙_}
+use mathlib.Core.List.{_∷_}
+use Prim.Native.Nat.{_-_}
+use native.Mathlib.Omega.{arith}
+use lib.ListN.{length}
+use borrow.Author.Needs.{needs}
+use Rattle.matrix.specs.laws.Words.{Alike, same-lengths, alike-start, alike-more, alike-stop, alike-end}
+use Rattle.matrix.proofs.words.is_numbered.Statement.{statement}
+use Rattle.matrix.proofs.words.is_numbered.Tie as tie
+
+abbrev Inv-loop : tie.InvT-loop
+Inv-loop words number m i₀ i = Alike words (number ∷ m .columns) i
+
+abbrev μ-loop : tie.MeasureT-loop
+μ-loop words number m i₀ i = 8 - i
+
+returns : tie.Need-returns Inv-loop μ-loop
+returns c =
+    let a = c .before .before .args in
+    let sized : length (a .m .columns) ≡ 7 = search needs in
+    same-lengths (a .words .now) (a .number ∷ a .m .columns) (λ e. c .if1 .taken (omega (arith, sized, e)))
+
+loop-holds : tie.Need-loop-holds Inv-loop μ-loop
+loop-holds c =
+    let a = c .before .before .args in
+    let sized : length (a .m .columns) ≡ 7 = search needs in
+    alike-start (a .words .now) (a .number ∷ a .m .columns) (omega (arith, sized, c .if1 .left))
+
+mul-if2 : tie.Need-mul-if2 Inv-loop μ-loop
+mul-if2 c = search needs
+
+shared-slice-read-if2 : tie.Need-shared-slice-read-if2 Inv-loop μ-loop
+shared-slice-read-if2 c = search needs
+
+word-at-requires : tie.Need-word-at-requires Inv-loop μ-loop
+word-at-requires c κs = search needs
+
+returns-2 : tie.Need-returns-2 Inv-loop μ-loop
+returns-2 c =
+    let turn = c .before .before .before in
+    alike-stop (turn .before .loop .inv) (search needs)
+    (λ e. c .if2 .taken (e ∙ sym (c .before .word-at .ensures)))
+
+add-i : tie.Need-add-i Inv-loop μ-loop
+add-i c = search needs
+
+loop-less : tie.Need-loop-less Inv-loop μ-loop
+loop-less c = search needs
+
+loop-again : tie.Need-loop-again Inv-loop μ-loop
+loop-again c =
+    let turn = c .before .before .before in
+    alike-more (turn .before .loop .inv) (search needs) (c .if2 .left ∙ c .before .word-at .ensures)
+
+returns-3 : tie.Need-returns-3 Inv-loop μ-loop
+returns-3 c = alike-end (c .before .loop .inv) (search needs)
+
+pub is-numbered-spec : {M : Type 1} → statement M
+is-numbered-spec =
+    tie.close
+    (tie.spec
+    Inv-loop
+    μ-loop
+    returns
+    loop-holds
+    mul-if2
+    shared-slice-read-if2
+    word-at-requires
+    returns-2
+    add-i
+    loop-less
+    loop-again
+    returns-3)

@@ -1,0 +1,67 @@
+// Matrices in lent words, alone and after a number: leaves and metastates are held so.
+use crate::Matrix;
+ghost use mathlib.Core.List.{_∷_};
+ghost use mathlib.Core.Path.{_≡_};
+ghost use Prim.Native.Nat.{_≤_};
+ghost use lib.ListN.{take};
+ghost use Rattle.definitions.specs.Lists.{_!_, padded, same};
+ghost use Rattle.definitions.specs.Matrices.{matrixSize};
+ghost use Rattle.matrix.specs.Words.{overwritten};
+
+// The matrix in seven words; words that are not there count as 0.
+pub fn matrix_from(words: &[u64]) -> Matrix
+    ensures { λ r. ⌜ r .columns ≡ take matrixSize (padded matrixSize (now (words .entry))) ⌝ }
+{
+    let mut columns = [0u64; 7];
+    let mut c = 0;
+    while c < 7 {
+        if words.len() <= c {
+            return Matrix { columns };
+        }
+        columns[c] = words[c];
+        c += 1;
+    }
+    Matrix { columns }
+}
+
+// A number and the columns of a matrix, by place.
+fn word_at(number: u64, m: Matrix, place: usize) -> u64
+    requires { ⌜ place ≤ matrixSize ⌝ }
+    ensures { λ r. ⌜ r ≡ (number ∷ m .columns) ! place ⌝ }
+{
+    if place == 0 {
+        return number;
+    }
+    m.columns[place - 1]
+}
+
+// Writes a number and a matrix into eight words, or as many as are lent.
+pub fn put_numbered(words: &mut [u64], number: u64, m: Matrix)
+    ensures { λ r. ⌜ now (words .exit) ≡ overwritten (now (words .entry)) (number ∷ m .columns) ⌝ }
+{
+    let mut i = 0;
+    while i < words.len() {
+        if 8 <= i {
+            return;
+        }
+        words[i] = word_at(number, m, i);
+        i += 1;
+    }
+}
+
+// Whether eight words are a number and a matrix.
+pub fn is_numbered(words: &[u64], number: u64, m: Matrix) -> bool
+    ensures { λ r. ⌜ r ≡ same (now (words .entry)) (number ∷ m .columns) ⌝ }
+{
+    if words.len() != 8 {
+        return false;
+    }
+    let mut i = 0;
+    while i < 8 {
+        if words[i] != word_at(number, m, i) {
+            return false;
+        }
+        i += 1;
+    }
+    true
+}
