@@ -22,6 +22,7 @@ pub mod Leaving
 pub mod NetworkText
 pub mod TreesGive
 pub mod Transcription
+pub mod BookBuilding
 pub mod Program
 pub mod laws
 pub mod examples

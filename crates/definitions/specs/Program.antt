@@ -9,14 +9,14 @@ use Rattle.definitions.specs.declared.Refusal.{Refusal}
 use Rattle.definitions.specs.declared.Fault.the-variants.{Long}
 use Rattle.definitions.specs.Faults.{Outcome, answered, refused, numberOf, andThen}
 use Rattle.definitions.specs.Lines.{lineText}
-use Rattle.definitions.specs.BookLines.{BookLine, headerOf}
-use Rattle.definitions.specs.BookReading.{Lent, nodeSize, readBook}
-use Rattle.definitions.specs.Tables.{tablesLeft}
+use Rattle.definitions.specs.BookLines.{headerOf}
+use Rattle.definitions.specs.BookReading.{Lent, nodeSize}
 use Rattle.definitions.specs.Combinations.{combinationSize}
 use Rattle.definitions.specs.Arcs.{arcSize}
 use Rattle.definitions.specs.Metastates.{metastateSize}
 use Rattle.definitions.specs.Connecting.{Built}
-use Rattle.definitions.specs.Building.{Space, build, networkIn, countsIn}
+use Rattle.definitions.specs.Building.{Space, networkIn, countsIn}
+use Rattle.definitions.specs.BookBuilding.{BookBuilt, buildBook}
 use Rattle.definitions.specs.NetworkText.{networkText}
 
 -- "with space for 1024 nodes"; every book's classes and roots fit
@@ -35,19 +35,13 @@ programSpace =
 abbrev pub programTurns : ℕ
 programTurns = 512
 
--- the network that is built from a book's lines, from the tables as reading left them
-unfoldable pub builtFrom : List BookLine → Outcome Built
-builtFrom lines =
-    build (headerOf lines) (tablesLeft programLent (answered lines)) programSpace programTurns
-
 unfoldable pub textOfBuilt : (states : ℕ) → Built → List ℕ
 textOfBuilt states built = networkText (countsIn states (networkIn built)) (networkIn built .arcs)
 
 -- the network's text, or the refusal of reading or building
-unfoldable pub networkOf : Outcome (List BookLine) → Outcome (List ℕ)
-networkOf reading =
-    andThen reading
-    (λ lines. andThen (builtFrom lines) (λ built. answered (textOfBuilt (headerOf lines .states) built)))
+unfoldable pub networkOf : Outcome BookBuilt → Outcome (List ℕ)
+networkOf outcome =
+    andThen outcome (λ b. answered (textOfBuilt (headerOf (b .lines) .states) (b .built)))
 
 -- "one line `X` with number and line in its first two fields"
 unfoldable pub refusalText : Refusal → List ℕ
@@ -63,5 +57,5 @@ program input =
     printed
     (elim (ltb 65536 (length input)) [
       | true ↦ refused (record { fault = Long; line = 0 })
-      | false ↦ networkOf (readBook programLent input)
+      | false ↦ networkOf (buildBook programLent programSpace programTurns input)
     ])

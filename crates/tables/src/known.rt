@@ -1,5 +1,7 @@
 // Each table by itself: whether its words are some that reading leaves under a header.
 use crate::records::node_at;
+use crate::words::holds_only;
+use crate::words::holds_only_sets;
 use definitions::Header;
 use definitions::Node;
 use definitions::wide;
@@ -10,7 +12,7 @@ ghost use mathlib.Core.Bool.{_||_};
 ghost use mathlib.Core.Path.{_≡_};
 ghost use Prim.Native.Nat.{_≤_, _^_};
 ghost use lib.Dec.{T, ltb};
-ghost use Rattle.definitions.specs.ForeignTables.{headerKnown, questionKnown, leafKnown, holdsOnly};
+ghost use Rattle.definitions.specs.ForeignTables.{headerKnown, questionKnown, leafKnown};
 ghost use Rattle.definitions.specs.ForeignTables.{nodeTableKnown, classTableKnown, rootTableKnown};
 ghost use Rattle.definitions.specs.Lists.{every};
 
@@ -32,39 +34,6 @@ pub fn header_known(header: Header) -> bool
             ],
         },
     )
-}
-
-// At least `count` words, and 0 in every word beyond them.
-pub fn holds_only(words: &[u32], count: usize) -> bool
-    ensures { λ r. ⌜ r ≡ holdsOnly count (now (words .entry)) ⌝ }
-{
-    if words.len() < count {
-        return false;
-    }
-    let mut i = count;
-    while i < words.len() {
-        if words[i] != 0 {
-            return false;
-        }
-        i += 1;
-    }
-    true
-}
-
-pub fn holds_only_sets(sets: &[u64], count: usize) -> bool
-    ensures { λ r. ⌜ r ≡ holdsOnly count (now (sets .entry)) ⌝ }
-{
-    if sets.len() < count {
-        return false;
-    }
-    let mut i = count;
-    while i < sets.len() {
-        if sets[i] != 0 {
-            return false;
-        }
-        i += 1;
-    }
-    true
 }
 
 // A record that an N line leaves as node `at`.

@@ -1,6 +1,7 @@
 // The tables that reading leaves, as other entries are lent them: their records, how often nodes are named,
-// and the test for foreign tables (18).
+// words used only up to a place, and the test for foreign tables (18).
 pub mod foreign;
 mod known;
 pub mod naming;
 pub mod records;
+pub mod words;

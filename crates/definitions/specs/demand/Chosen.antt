@@ -2,26 +2,30 @@
 -- state, and its phone in the centre of every window that it admits. The idea: choosing one leaf more keeps
 -- each of these. The proof that one combination admits a context (demand/Choices.antt) and the proof about
 -- paths use it.
-use mathlib.Core.Path.{_≡_, refl, sym, _∙_, subst}
+use mathlib.Core.Path.{_≡_, refl, sym, ap, _∙_, subst}
 use mathlib.Core.Logic.{inl, inr, ⊎-elim}
 use mathlib.Core.List.{List, [], _∷_, _++_, map}
 use Prim.Native.Nat.{ℕ, zero, suc, _+_, _-_, _≤_, _<_}
 use native.Mathlib.Omega.{arith}
-use lib.Dec.{T}
+use lib.Dec.{T, eqb→eq}
 use lib.ListN.{length, length-append}
 use Rattle.definitions.specs.Lists.{_!_, upFrom}
 use Rattle.definitions.specs.BookLines.{isPhone}
 use Rattle.definitions.specs.Tables.{Book}
+use Rattle.definitions.specs.PhoneSets.{has}
 use Rattle.definitions.specs.Matrices.{Matrix, yesSide, noSide, valid, meet}
 use Rattle.definitions.specs.Combinations.{Leaf, leavesBelow, leavesOf, rootOf, Combination, choose}
 use Rattle.definitions.specs.Combinations.{combinationsOf, combinations}
 use Rattle.definitions.specs.Metastates.{noCombination}
+use Rattle.definitions.specs.laws.Tests.{T-and}
 use Rattle.definitions.specs.laws.Lists.{upFrom-length}
 use Rattle.definitions.specs.laws.Members.{isIn, in-at, of-append, of-concatMap, of-one, of-upFrom}
 use Rattle.definitions.specs.laws.Members.{of-single}
 use Rattle.definitions.specs.laws.Ranges.{phone-range}
 use Rattle.definitions.specs.laws.Walks.{IsLeaf, by-node}
 use Rattle.definitions.specs.laws.Sound.{columnsOf, Sound}
+use Rattle.definitions.specs.laws.PhoneSets.{has-alone}
+use Rattle.definitions.specs.laws.Matrices.{meet-has, root-column}
 use Rattle.definitions.specs.laws.Matrices.{Below, meet-below, root-below, meet-length, root-length}
 use Rattle.definitions.specs.laws.Leaves.{below-leaf, below-question, phoneMatrix, leaf-inside}
 use Rattle.definitions.specs.laws.Leaves.{of-ascending}
@@ -78,6 +82,8 @@ pub record Begins (book : Book) (phone : ℕ) (leaves : List ℕ) (m : Matrix) (
   pub width : length (c .matrix) ≡ length m
   -- it admits nothing that m does not
   pub inside : (W : List ℕ) → T (admits (c .matrix) W) → T (admits m W)
+  -- and has no phone in a column that m lacks there
+  pub held : (column p : ℕ) → T (has p (c .matrix ! column)) → T (has p (m ! column))
   pub below : Below (book .phones) m → Below (book .phones) (c .matrix)
   pub count : length (c .leaves) ≡ length leaves + more
   pub each : ((node : ℕ) → isIn node leaves → LeafOf book node)
@@ -90,6 +96,7 @@ module _ (book : Book) (sound : Sound book) (phone : ℕ) where
     phone-is = refl;
     width = refl;
     inside = λ W h. h;
+    held = λ column p h. h;
     below = λ b. b;
     count = omega arith;
     each = λ h. h;
@@ -103,6 +110,9 @@ module _ (book : Book) (sound : Sound book) (phone : ℕ) where
     phone-is = b .phone-is;
     width = b .width ∙ meet-length m (l .matrix) w;
     inside = λ W h. meet-admits m (l .matrix) W w .0 (b .inside W h) .0;
+    held = λ column p h.
+        T-and (has p (m ! column)) (has p (l .matrix ! column)) .0
+        (subst T (meet-has p m (l .matrix) column) (b .held column p h)) .0;
     below = λ h. b .below (meet-below (book .phones) m (l .matrix) h);
     count = omega (arith, b .count, length-append leaves (l .node ∷ []));
     each = λ h. b .each (λ node i. ⊎-elim (h node) (one node) (of-append node leaves (l .node ∷ []) i));
@@ -135,6 +145,8 @@ pub record Chosen (book : Book) (c : Combination) : Type 0 where
   pub each-leaf : (node : ℕ) → isIn node (c .leaves) → LeafOf book node
   -- a window that it admits has its phone in the centre
   pub centre : (W : List ℕ) → T (admits (c .matrix) W) → W ! book .half ≡ c .phone
+  -- its centre holds no other phone
+  pub centre-only : (p : ℕ) → T (has p (c .matrix ! book .half)) → p ≡ c .phone
 
 chosen : (book : Book) → Sound book → (c : Combination) → isIn c (combinations book) → Chosen book c
 unfolding combinations combinationsOf
@@ -143,6 +155,10 @@ chosen book sound c i =
     of-phone p (of-upFrom 1 (book .phones) p j)
     (choose-begins book sound p (upFrom 1 (book .states)) [] (phoneMatrix book p) refl c k)
   where
+    own : (p q : ℕ) → 1 ≤ p → T (has q (phoneMatrix book p ! book .half)) → q ≡ p
+    own p q l h =
+        eqb→eq q p (subst T (ap (has q) (root-column (book .half) (book .phones) p) ∙ has-alone q p l) h)
+
     of-phone : (p : ℕ) → (1 ≤ p) × (p < 1 + book .phones)
         → Begins book p [] (phoneMatrix book p) (length (upFrom 1 (book .states))) c
         → Chosen book c
@@ -154,6 +170,7 @@ chosen book sound c i =
       each-leaf = b .each (λ node z. absurd z);
       centre =
           λ W h. root-centre (book .half) (book .phones) p (l .0) W (b .inside W h) ∙ sym (b .phone-is);
+      centre-only = λ q h. own p q (l .0) (b .held (book .half) q h) ∙ sym (b .phone-is);
     }
 
 -- a combination by its number

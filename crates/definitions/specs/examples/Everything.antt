@@ -46,7 +46,8 @@ use Rattle.definitions.specs.TreesGive.{windows, withSilence, contexts, 
 use Rattle.definitions.specs.TreesGive.{isMemberLine, putInClass, modelBelow, modelGiven, together}
 use Rattle.definitions.specs.TreesGive.{modelsAlong, treesGive, silentEnds}
 use Rattle.definitions.specs.Transcription.{modelOf, transcription, isUtterance, transcribe}
-use Rattle.definitions.specs.Program.{builtFrom, textOfBuilt, networkOf, refusalText, printed}
+use Rattle.definitions.specs.BookBuilding.{buildRead, buildBook, tablesAfter, buffersAfter}
+use Rattle.definitions.specs.Program.{textOfBuilt, networkOf, refusalText, printed}
 use Rattle.definitions.specs.Program.{program}
 
 unfoldable pub everything : Unit {0}
@@ -71,6 +72,7 @@ unfolding every atLeastOne select lastPasses concatMap upFrom occurrences same r
     networkInOrder networkTests networkComplete networkKind readNetwork arcsLeft arcKnown
     neverDescending networkKnown lineOfCounts lineOfArc networkText writeNetwork windows withSilence
     contexts rootLine nodeLine isMemberLine putInClass modelBelow modelGiven together modelsAlong
-    treesGive silentEnds modelOf transcription isUtterance transcribe builtFrom textOfBuilt networkOf
+    treesGive silentEnds modelOf transcription isUtterance transcribe buildRead buildBook tablesAfter buffersAfter
+    textOfBuilt networkOf
     refusalText printed program
 everything = tt

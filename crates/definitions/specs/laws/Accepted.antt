@@ -15,13 +15,15 @@ use Rattle.definitions.specs.Forms.{_‥_}
 use Rattle.definitions.specs.BookLines.{BookLine, H, Q, N, L, R, headerOf, TreeNode, question, leaf}
 use Rattle.definitions.specs.BookLines.{nodesOf, nodeIn, rootsOf, rootIn, Member, membersOf, memberIn}
 use Rattle.definitions.specs.BookReading.{Lent, withinHeader, bookInOrder, childrenGreater, readBook}
-use Rattle.definitions.specs.Tables.{bookOf}
+use Rattle.definitions.specs.Tables.{Book, bookOf}
 use Rattle.definitions.specs.Lookup.{nodeAt}
 use Rattle.definitions.specs.Combinations.{rootOf}
 use Rattle.definitions.specs.laws.Tests.{T-and, T-three}
 use Rattle.definitions.specs.laws.Lists.{concatMap-snoc}
 use Rattle.definitions.specs.laws.Ranges.{Within}
-use Rattle.definitions.specs.laws.Books.{Fits, Orderly, accepted-holds, accepted-orderly}
+use Rattle.definitions.specs.laws.Tables.{Heads}
+use Rattle.definitions.specs.laws.Books.{InRange, Fits, Orderly, accepted-holds, accepted-orderly}
+use Rattle.definitions.specs.laws.Books.{orderly-heads}
 use Rattle.definitions.specs.laws.Walks.{Forward}
 use Rattle.definitions.specs.laws.Sound.{Sound}
 
@@ -158,7 +160,7 @@ accepted-fit lent text lines e =
 -- ---- soundness
 
 -- beyond the list stands a leaf
-question-listed : (nodes : List TreeNode) (node class position yesNode noNode : ℕ)
+pub question-listed : (nodes : List TreeNode) (node class position yesNode noNode : ℕ)
     → nodeAt nodes node ≡ question class position yesNode noNode → node < length nodes
 question-listed [] node class position yesNode noNode e =
     let z : _≡_ {A = ℕ} 0 1 = cc in omega arith
@@ -173,42 +175,60 @@ root-listed header at [] i h a = h
 root-listed header at (root ∷ roots) zero h a = a .0
 root-listed header at (root ∷ roots) (suc i) h a = root-listed header (suc at) roots i h (a .1)
 
+-- a header with its ranges, a book with its counts, nodes and roots that fit
+module _ (header : Header) (book : Book) (ranged : InRange header) (heads : Heads header book)
+    (nodes : allFrom (NodeFits header) 0 (book .nodes)) (roots : allFrom (RootFits header) 0 (book .roots))
+  where
+    node-fits : (node : ℕ) (x : TreeNode) → nodeAt (book .nodes) node ≡ x → node < length (book .nodes)
+        → NodeFits header node x
+    node-fits node x q h =
+        subst (NodeFits header node) q (all-at _ 0 (book .nodes) (leaf 0) nodes node node h (omega arith))
+
+    question-fitting : (node class position yesNode noNode : ℕ)
+        → nodeAt (book .nodes) node ≡ question class position yesNode noNode
+        → QuestionFits header node class position yesNode noNode
+    question-fitting node class position yesNode noNode q =
+        node-fits node _ q (question-listed (book .nodes) node class position yesNode noNode q)
+
+    pub fitting-sound : Sound book
+    unfolding rootOf
+    fitting-sound = record {
+      some-state = omega (arith, ranged .states-range .low, heads .states);
+      some-phone = omega (arith, ranged .phones-range .low, heads .phones);
+      forward = forward;
+      position = λ node class position yesNode noNode q.
+          omega (arith, question-fitting node class position yesNode noNode q .position-high, heads .half);
+      model = λ node model h q. node-fits node (leaf model) q h .low;
+      root = λ phone state.
+          rw (← heads .nodes) (root-listed header 0 (book .roots) _ (ranged .nodes-range .low) roots);
+    }
+      where
+        forward : Forward (book .nodes)
+        forward node class position yesNode noNode q =
+            let f = question-fitting node class position yesNode noNode q in (
+              record { greater = f .yes-greater; listed = rw (← heads .nodes) (f .yes-listed) },
+              record { greater = f .no-greater; listed = rw (← heads .nodes) (f .no-listed) },
+            )
+
 module _ (lent : Lent) (text : List ℕ) (lines : List BookLine)
     (e : readBook lent text ≡ answered lines)
   where
-    node-fits : (node : ℕ) (x : TreeNode) → nodeAt (nodesOf lines) node ≡ x → node < length (nodesOf lines)
-        → NodeFits (headerOf lines) node x
-    node-fits node x q h =
-        let all : AllFit (headerOf lines) lines = accepted-fit lent text lines e in
-        subst (NodeFits (headerOf lines) node) q
-        (all-at _ 0 (nodesOf lines) (leaf 0) (all .nodes) node node h (omega arith))
+    orderly : Orderly lines
+    orderly = accepted-orderly lent text lines e
+
+    fit : AllFit (headerOf lines) lines
+    fit = accepted-fit lent text lines e
 
     pub accepted-question : (node class position yesNode noNode : ℕ)
         → nodeAt (nodesOf lines) node ≡ question class position yesNode noNode
         → QuestionFits (headerOf lines) node class position yesNode noNode
-    accepted-question node class position yesNode noNode q =
-        node-fits node _ q (question-listed (nodesOf lines) node class position yesNode noNode q)
+    unfolding bookOf
+    accepted-question =
+        question-fitting (headerOf lines) (bookOf lines) (orderly .in-range) (orderly-heads lines orderly)
+        (fit .nodes) (fit .roots)
 
     pub accepted-sound : Sound (bookOf lines)
-    unfolding bookOf rootOf
-    accepted-sound = record {
-      some-state = o .in-range .states-range .low;
-      some-phone = o .in-range .phones-range .low;
-      forward = forward;
-      position = λ node class position yesNode noNode q.
-          omega (arith, accepted-question node class position yesNode noNode q .position-high);
-      model = λ node model h q. node-fits node (leaf model) q h .low;
-      root = λ phone state.
-          rw (o .nodes) (root-listed (headerOf lines) 0 (rootsOf lines) _ (o .in-range .nodes-range .low)
-          (accepted-fit lent text lines e .roots));
-    }
-      where
-        o : Orderly lines
-        o = accepted-orderly lent text lines e
-
-        forward : Forward (nodesOf lines)
-        forward node class position yesNode noNode q =
-            let f = accepted-question node class position yesNode noNode q in (
-              record { greater = f .yes-greater; listed = rw (o .nodes) (f .yes-listed) },
-              record { greater = f .no-greater; listed = rw (o .nodes) (f .no-listed) },
-            )
+    unfolding bookOf
+    accepted-sound =
+        fitting-sound (headerOf lines) (bookOf lines) (orderly .in-range) (orderly-heads lines orderly)
+        (fit .nodes) (fit .roots)

@@ -31,10 +31,10 @@ use Rattle.definitions.specs.laws.NamedOnce.{ChildOnce, child-once, leav
 
 -- ---- the leaves of a tree
 
-abbrev leafNodes : List Leaf → List ℕ
+abbrev pub leafNodes : List Leaf → List ℕ
 leafNodes leaves = map (λ l. l .node) leaves
 
-nodes-below : (levels : ℕ) (book : Book) (m : Matrix) (node : ℕ)
+pub nodes-below : (levels : ℕ) (book : Book) (m : Matrix) (node : ℕ)
     → leafNodes (leavesBelow levels book m node) ≡ leavesUnder levels (book .nodes) node
 unfolding leavesBelow concatMap
 nodes-below zero book m node = refl
@@ -50,7 +50,7 @@ nodes-below (suc levels) book m node =
     (nodes-below levels book onNo noNode ∙ sym (append-nil (leavesUnder levels (book .nodes) noNode)))))
 
 -- strictly ascending by node number
-abbrev leafBefore : Leaf → Leaf → Type 0
+abbrev pub leafBefore : Leaf → Leaf → Type 0
 leafBefore x y = x .node < y .node
 
 -- a leaf of another node, put among ascending leaves
@@ -77,7 +77,7 @@ insert-rising l (first ∷ leaves) r new =
     go true less more rest = (least (less tt), r)
     go false less more rest = (λ y h. between (more tt) y (of-insert y l leaves h), rest)
 
-ascending-rising : (leaves : List Leaf) → distinct (leafNodes leaves) → Rising leafBefore (ascending leaves)
+pub ascending-rising : (leaves : List Leaf) → distinct (leafNodes leaves) → Rising leafBefore (ascending leaves)
 unfolding ascending
 ascending-rising [] u = tt
 ascending-rising (l ∷ leaves) u =

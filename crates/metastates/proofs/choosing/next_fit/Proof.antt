@@ -1,0 +1,91 @@
+-- `choosing::next_fit` meets its contract. The loop's invariant: the leaves before `place` do not fit.
+use mathlib.Core.Path.{_≡_, sym, _∙_}
+use mathlib.Core.List.{List}
+use Prim.Native.Nat.{_-_, _<_}
+use native.Mathlib.Omega.{arith}
+use lib.ListN.{length, take, getD}
+use borrow.Author.Needs.{needs}
+use Rattle.definitions.specs.Matrices.{valid, meet}
+use Rattle.definitions.specs.Combinations.{Leaf}
+use Rattle.metastates.specs.Leaves.{leavesIn}
+use Rattle.metastates.specs.Choices.{noLeaf}
+use Rattle.metastates.specs.laws.LeafLists.{leaves-length, met-valid}
+use Rattle.metastates.specs.laws.Fitting.{Passed, passed-start, passed-more, passed-found, passed-all}
+use Rattle.metastates.proofs.choosing.next_fit.Statement.{statement}
+use Rattle.metastates.proofs.choosing.next_fit.Tie as tie
+
+abbrev Inv-loop : tie.InvT-loop
+Inv-loop leaves from m width place₀ place = Passed (take width (m .columns)) (leavesIn width leaves) from place
+
+abbrev μ-loop : tie.MeasureT-loop
+μ-loop leaves from m width place₀ place = length leaves - place
+
+loop-holds : tie.Need-loop-holds Inv-loop μ-loop
+loop-holds c = passed-start _ _ _ (c .before .pre .2)
+
+leaf-matrix-requires : tie.Need-leaf-matrix-requires Inv-loop μ-loop
+leaf-matrix-requires c κs = omega arith
+
+meet-requires : tie.Need-meet-requires Inv-loop μ-loop
+meet-requires c κs = search needs
+
+valid-requires : tie.Need-valid-requires Inv-loop μ-loop
+valid-requires c κs = search needs
+
+-- the test at a turn is of the leaf at `place`
+abbrev Tested : Type 0
+Tested = tie.After-valid Inv-loop μ-loop
+
+abbrev turn : Tested → tie.In-loop Inv-loop μ-loop
+turn c = c .before .before .before
+
+abbrev entry : Tested → tie.Start Inv-loop μ-loop
+entry c = turn c .before .before .before
+
+abbrev leaves-of : Tested → List Leaf
+leaves-of c = leavesIn (entry c .args .width) (entry c .args .leaves .now)
+
+inside : (c : Tested) → turn c .before .loop .place < length (leaves-of c)
+inside c = rw leaves-length (turn c .loop-test .taken)
+
+tested : (c : Tested) → valid (meet (take (entry c .args .width) (entry c .args .m .columns))
+    (getD (leaves-of c) (turn c .before .loop .place) noLeaf .matrix)) ≡ c .valid .result
+tested c =
+    let a = entry c .args in
+    let pre = entry c .pre in
+    let seven : length (a .m .columns) ≡ 7 = search needs in
+    sym (c .valid .ensures
+    ∙ met-valid (a .width) (a .leaves .now) _ (inside c) (pre .0) (pre .1) (a .m .columns) (pre .3) seven
+    (c .before .before .leaf-matrix .ensures) (c .before .meet .ensures))
+
+returns : tie.Need-returns Inv-loop μ-loop
+returns c = passed-found (turn (c .before) .before .loop .inv) (tested (c .before) ∙ c .if1 .taken)
+
+add-place : tie.Need-add-place Inv-loop μ-loop
+add-place c = search needs
+
+loop-less : tie.Need-loop-less Inv-loop μ-loop
+loop-less c = search needs
+
+loop-again : tie.Need-loop-again Inv-loop μ-loop
+loop-again c =
+    passed-more (turn (c .before) .before .loop .inv) (inside (c .before)) (tested (c .before) ∙ c .if1 .left)
+
+returns-2 : tie.Need-returns-2 Inv-loop μ-loop
+returns-2 c = passed-all (c .before .loop .inv) (rw leaves-length (c .loop-test .left))
+
+pub next-fit-spec : {M : Type 1} → statement M
+next-fit-spec =
+    tie.close
+    (tie.spec
+    Inv-loop
+    μ-loop
+    loop-holds
+    leaf-matrix-requires
+    meet-requires
+    valid-requires
+    returns
+    add-place
+    loop-less
+    loop-again
+    returns-2)

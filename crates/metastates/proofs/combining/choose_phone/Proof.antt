@@ -1,0 +1,212 @@
+-- `combining::choose_phone` meets its contract: the lists hold the leaves of the phone's trees, and choosing
+-- starts with the matrix that the roots carry.
+use mathlib.Core.Path.{_≡_, sym, _∙_}
+use Prim.Native.Nat.{ℕ, _+_, _*_, _≤_}
+use native.Mathlib.Omega.{arith}
+use lib.Seq.{length-take-le}
+use borrow.Author.Needs.{needs}
+use Rattle.definitions.specs.Matrices.{matrixWords, rootMatrix}
+use Rattle.definitions.specs.Tables.{Book, tablesBook}
+use Rattle.definitions.specs.laws.Books.{InRange}
+use Rattle.tables.specs.Lending.{lentTables}
+use Rattle.metastates.specs.Leaves.{widthOf}
+use Rattle.metastates.specs.laws.Starting.{known-ranges, root-shaped, list-is, start-chosen, start-grown}
+use Rattle.metastates.proofs.combining.choose_phone.Statement.{statement}
+use Rattle.metastates.proofs.combining.choose_phone.Tie as tie
+
+-- the entry, and where the three lists are made
+abbrev entry : tie.After-list-leaves → tie.Start
+entry c = c .before .before .before .before .before .before .before .before .before .before .before
+
+abbrev one : tie.After-list-leaves2 → tie.After-list-leaves
+one c = c .before .before .before .before .before .before .before
+
+abbrev two : tie.After-list-leaves3 → tie.After-list-leaves2
+two c = c .before .before .before .before .before .before .before
+
+abbrev three : tie.After-wide → tie.After-list-leaves3
+three c = c .before .before .before .before .before .before .before .before
+
+abbrev start : tie.After-wide → tie.Start
+start c = entry (one (two (three c)))
+
+abbrev book : tie.Start → Book
+book c =
+    let a = c .args in
+    tablesBook (a .header) (lentTables (a .nodes .now) (a .classes .now) (a .roots .now))
+
+ranges : (c : tie.Start) → InRange (c .args .header)
+ranges c = known-ranges _ _ (c .pre .0)
+
+half-small : (c : tie.After-wide) → c .wide .result ≤ 3
+half-small c = omega (arith, ranges (start c) .half-range .high, c .wide .ensures)
+
+width-is : (c : tie.After-wide) → 2 * c .wide .result + 1 ≡ widthOf (book (start c) .half)
+unfolding tablesBook
+width-is c = omega (arith, c .wide .ensures)
+
+top-is : (c : tie.After-wide)
+    → c .before .around .result .columns
+    ≡ matrixWords (rootMatrix (book (start c) .half) (book (start c) .phones) (start c .args .phone))
+unfolding tablesBook
+top-is c =
+    let r = ranges (start c) in
+    let p = start c .pre in
+    root-shaped _ _ _ (p .1) (p .2) (r .half-range .high) (r .phones-range .high)
+    (c .before .before .before .all-phones .ensures) (c .before .before .alone .ensures)
+    (c .before .around .ensures)
+
+list-leaves-requires : tie.Need-list-leaves-requires
+list-leaves-requires c κs = search needs
+
+list-leaves-requires-2 : tie.Need-list-leaves-requires-2
+list-leaves-requires-2 c κs =
+    let first = c .before .before .before .before .before .before in
+    let p = entry first .pre in
+    let sized = first .list-leaves .ensures .2 in
+    (p .0, p .1, p .2, omega arith, sized ∙ p .4, omega (arith, sized, p .6))
+
+list-leaves-requires-3 : tie.Need-list-leaves-requires-3
+list-leaves-requires-3 c κs =
+    let second = c .before .before .before .before .before .before in
+    let p = entry (one second) .pre in
+    let sized = second .list-leaves2 .ensures .2 ∙ one second .list-leaves .ensures .2 in
+    (p .0, p .1, p .2, omega arith, sized ∙ p .4, omega (arith, sized, p .7))
+
+all-phones-requires : tie.Need-all-phones-requires
+all-phones-requires c κs = search needs
+
+alone-requires : tie.Need-alone-requires
+alone-requires c κs = search needs
+
+around-requires : tie.Need-around-requires
+around-requires c κs = search needs
+
+wide-requires : tie.Need-wide-requires
+wide-requires c κs = search needs
+
+mul-width : tie.Need-mul-width
+mul-width c = omega (arith, half-small c)
+
+add-width : tie.Need-add-width
+add-width c = omega (arith, half-small c)
+
+mul-choose : tie.Need-mul-choose
+mul-choose c =
+    let list = one (two (three c)) .list-leaves in
+    omega (arith, list .ensures .0, list .ensures .1, start c .good)
+
+slice-reshare-prefix-choose : tie.Need-slice-reshare-prefix-choose
+slice-reshare-prefix-choose c = one (two (three c)) .list-leaves .ensures .0
+
+slice-aggregate-choose : tie.Need-slice-aggregate-choose
+slice-aggregate-choose c = sym (length-take-le _ _ (one (two (three (c .before))) .list-leaves .ensures .0))
+
+mul-choose-2 : tie.Need-mul-choose-2
+mul-choose-2 c =
+    let list = two (three (c .before)) .list-leaves2 in
+    omega (arith, list .ensures .0, list .ensures .1, start (c .before) .good)
+
+slice-reshare-prefix-choose-2 : tie.Need-slice-reshare-prefix-choose-2
+slice-reshare-prefix-choose-2 c = two (three (c .before)) .list-leaves2 .ensures .0
+
+slice-aggregate-choose-2 : tie.Need-slice-aggregate-choose-2
+slice-aggregate-choose-2 c =
+    sym (length-take-le _ _ (two (three (c .before .before)) .list-leaves2 .ensures .0))
+
+mul-choose-3 : tie.Need-mul-choose-3
+mul-choose-3 c =
+    let list = three (c .before .before) .list-leaves3 in
+    omega (arith, list .ensures .0, list .ensures .1, start (c .before .before) .good)
+
+slice-reshare-prefix-choose-3 : tie.Need-slice-reshare-prefix-choose-3
+slice-reshare-prefix-choose-3 c = three (c .before .before) .list-leaves3 .ensures .0
+
+slice-aggregate-choose-3 : tie.Need-slice-aggregate-choose-3
+slice-aggregate-choose-3 c =
+    sym (length-take-le _ _ (three (c .before .before .before) .list-leaves3 .ensures .0))
+
+choose-requires : tie.Need-choose-requires
+unfolding tablesBook
+choose-requires c κs =
+    let wide = c .before .before .before .before in
+    let r = ranges (start wide) in
+    let p = start wide .pre in
+    let b : Book = book (start wide) in
+    let phone : ℕ = start wide .args .phone in
+    let width = width-is wide in
+    let narrow = r .half-range .high in
+    let list : tie.After-list-leaves3 = three wide in (
+      p .3,
+      start-chosen b phone _ width narrow _ (top-is wide) (p .1) (p .2),
+      omega (arith, r .states-range .high),
+      list-is b phone _ width narrow 1 (one (two list) .list-leaves .ensures .3),
+      list-is b phone _ width narrow 2 (two list .list-leaves2 .ensures .3),
+      list-is b phone _ width narrow 3 (list .list-leaves3 .ensures .3),
+    )
+
+same-length : tie.Need-same-length
+same-length c =
+    let list = three (c .before .before .before .before .before .before .before) in
+    list .list-leaves3 .ensures .2 ∙ two list .list-leaves2 .ensures .2
+    ∙ one (two list) .list-leaves .ensures .2
+
+same-length-2 : tie.Need-same-length-2
+same-length-2 c =
+    let list = three (c .before .before .before .before .before .before .before) in
+    one (two list) .list-leaves .ensures .1
+
+same-length-3 : tie.Need-same-length-3
+same-length-3 c = search needs
+
+same-length-4 : tie.Need-same-length-4
+same-length-4 c = search needs
+
+same-length-5 : tie.Need-same-length-5
+same-length-5 c = search needs
+
+returns : tie.Need-returns
+unfolding tablesBook
+returns c =
+    let wide = c .before .before .before .before .before .before .before in
+    let r = ranges (start wide) in
+    let list = three wide in
+    let first = one (two list) .list-leaves in
+    let second = two list .list-leaves2 in
+    let third = list .list-leaves3 in
+    let grown = start-grown (book (start wide)) (start wide .args .phone) _ (width-is wide)
+    (r .half-range .high) _ (top-is wide) (r .states-range .low) (r .states-range .high)
+    (first .ensures .3) (second .ensures .3) (third .ensures .3)
+    (c .before .before .choose .ensures) in
+    let table = third .ensures .2 ∙ second .ensures .2 ∙ first .ensures .2 in
+    (grown, (table, first .ensures .1, second .ensures .1, third .ensures .1))
+
+pub choose-phone-spec : {M : Type 1} → statement M
+choose-phone-spec =
+    tie.close
+    (tie.spec
+    list-leaves-requires
+    list-leaves-requires-2
+    list-leaves-requires-3
+    all-phones-requires
+    alone-requires
+    around-requires
+    wide-requires
+    mul-width
+    add-width
+    mul-choose
+    slice-reshare-prefix-choose
+    slice-aggregate-choose
+    mul-choose-2
+    slice-reshare-prefix-choose-2
+    slice-aggregate-choose-2
+    mul-choose-3
+    slice-reshare-prefix-choose-3
+    slice-aggregate-choose-3
+    choose-requires
+    same-length
+    same-length-2
+    same-length-3
+    same-length-4
+    same-length-5
+    returns)

@@ -1,0 +1,122 @@
+-- `combining::combine` meets its contract, test by test.
+use mathlib.Core.Path.{_≡_, refl, sym, ap, _∙_}
+use mathlib.Core.List.{List}
+use mathlib.Core.Bool.{true}
+use Prim.Native.Nat.{ℕ}
+use lib.ListN.{length}
+use borrow.Author.Needs.{needs}
+use Rattle.definitions.specs.Lists.{cleared}
+use Rattle.definitions.specs.Tables.{Tables}
+use Rattle.definitions.specs.ForeignTables.{tablesKnown}
+use Rattle.definitions.specs.laws.Tests.{held, failed}
+use Rattle.tables.specs.Lending.{lentTables}
+use Rattle.metastates.specs.laws.Combining.{ends-foreign, ends-over, ends-combined}
+use Rattle.metastates.proofs.combining.combine.Statement.{statement}
+use Rattle.metastates.proofs.combining.combine.Tie as tie
+
+-- where the code stands: its entry, the space that was cleared, and the test that the tables passed
+abbrev entry : tie.After-tables-known → tie.Start
+entry c = c .before .before .before .before .before .before .before .before .before
+
+abbrev space : tie.After-tables-known → List ℕ
+space c = c .before .before .before .clear-sets .last .0
+
+abbrev tables : tie.Start → Tables
+tables c = lentTables (c .args .nodes .now) (c .args .classes .now) (c .args .roots .now)
+
+abbrev call : tie.After-room-in → tie.After-choose-all
+call c = c .before .before .before .before
+
+abbrev passed : tie.After-choose-all → tie.Else1
+passed c = c .before .before .before
+
+known : (c : tie.Else1) → tablesKnown (entry (c .before) .args .header) (tables (entry (c .before))) ≡ true
+known c = held (c .before .tables-known .ensures) (c .if1 .left)
+
+-- the space keeps its length, and is clear
+sized : (c : tie.After-tables-known) → length (space c) ≡ length (entry c .args .space .now)
+sized c = c .before .before .before .clear-sets .kept .0
+
+clear : (c : tie.After-tables-known) → space c ≡ cleared (length (space c))
+clear c = c .before .before .before .clear-sets .ensures ∙ ap cleared (sym (sized c))
+
+clear-sets-requires : tie.Need-clear-sets-requires
+clear-sets-requires c κs = search needs
+
+tables-known-requires : tie.Need-tables-known-requires
+tables-known-requires c κs = search needs
+
+refuse-requires : tie.Need-refuse-requires
+refuse-requires c κs = search needs
+
+same-length : tie.Need-same-length
+same-length c = search needs
+
+returns : tie.Need-returns
+returns c =
+    let q = c .before .before in
+    ends-foreign (entry q .args .header) (tables (entry q)) (length (entry q .args .space .now)) _ _ _
+    (failed (q .tables-known .ensures) (c .before .if1 .taken))
+    (c .refuse .ensures) (q .before .before .before .clear-sets .ensures)
+
+slice-aggregate-choose-all : tie.Need-slice-aggregate-choose-all
+slice-aggregate-choose-all c = search needs
+
+choose-all-requires : tie.Need-choose-all-requires
+choose-all-requires c κs =
+    let passed = c .before .before in
+    (rw (known passed) tt, clear (passed .before), refl)
+
+room-in-requires : tie.Need-room-in-requires
+room-in-requires c κs = search needs
+
+clear-sets-requires-2 : tie.Need-clear-sets-requires-2
+clear-sets-requires-2 c κs = search needs
+
+refuse-requires-2 : tie.Need-refuse-requires-2
+refuse-requires-2 c κs = search needs
+
+same-length-2 : tie.Need-same-length-2
+same-length-2 c = search needs
+
+returns-2 : tie.Need-returns-2
+returns-2 c =
+    let full = c .before .before .before .before .before in
+    let room = full .before in
+    let all = call room .choose-all in
+    let q = passed (call room) .before in
+    ends-over (entry q .args .header) (tables (entry q)) (length (entry q .args .space .now)) _ _ _
+    (known (passed (call room))) (sized q) (all .ensures .0) (room .room-in .ensures) (full .if2 .taken)
+    (c .refuse2 .ensures)
+    (c .before .before .before .clear-sets2 .ensures ∙ ap cleared (all .ensures .0 .sized ∙ sized q))
+
+same-length-3 : tie.Need-same-length-3
+same-length-3 c = search needs
+
+returns-3 : tie.Need-returns-3
+returns-3 c =
+    let room = c .before in
+    let all = call room .choose-all in
+    let q = passed (call room) .before in
+    ends-combined (entry q .args .header) (tables (entry q)) (length (entry q .args .space .now)) _ _ _
+    (known (passed (call room))) (sized q) (all .ensures .0) (room .room-in .ensures) (c .if2 .left)
+    refl (all .ensures .1) refl
+
+pub combine-spec : {M : Type 1} → statement M
+combine-spec =
+    tie.close
+    (tie.spec
+    clear-sets-requires
+    tables-known-requires
+    refuse-requires
+    same-length
+    returns
+    slice-aggregate-choose-all
+    choose-all-requires
+    room-in-requires
+    clear-sets-requires-2
+    refuse-requires-2
+    same-length-2
+    returns-2
+    same-length-3
+    returns-3)

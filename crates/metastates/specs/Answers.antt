@@ -1,0 +1,27 @@
+-- What combining answers.
+use mathlib.Core.List.{List, map}
+use Prim.Native.Nat.{ℕ, suc}
+use lib.ListN.{length}
+use Rattle.definitions.specs.Faults.{Outcome, answered, refused}
+use Rattle.definitions.specs.Lists.{concatMap, upFrom, cleared, padded}
+use Rattle.definitions.specs.Tables.{Book}
+use Rattle.definitions.specs.Combinations.{Combination, combinationsOf}
+use Rattle.metastates.specs.declared.Combined.{Combined}
+use Rattle.metastates.specs.declared.Combined.the-variants as combined
+
+-- how many combinations belong to phones up to one
+unfoldable pub endOf : Book → (phone : ℕ) → ℕ
+endOf book phone = length (concatMap (λ p. combinationsOf book p) (upFrom 1 phone))
+
+-- of phone 0, which has none, and of each phone
+unfoldable pub endsOf : Book → List ℕ
+endsOf book = map (endOf book) (upFrom 0 (suc (book .phones)))
+
+-- 0 after a refusal
+unfoldable pub endsLeft : Book → Outcome (List Combination) → List ℕ
+endsLeft book (answered found) = padded 65 (endsOf book)
+endsLeft book (refused r) = cleared 65
+
+unfoldable pub combinedOf : Outcome (List Combination) → Combined
+combinedOf (answered found) = combined.Combinations (length found)
+combinedOf (refused r) = combined.Refused r

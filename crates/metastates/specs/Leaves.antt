@@ -1,0 +1,62 @@
+-- Leaves in lent words: a table with a record for each node, and lists of leaves ascending by node.
+use mathlib.Core.Path.{_≡_}
+use mathlib.Core.List.{List, [], _∷_, _++_, map}
+use mathlib.Core.Bool.{Bool, not}
+use Prim.Native.Nat.{ℕ, suc, _+_, _*_, _/_}
+use lib.Dec.{leb, eqb}
+use lib.ListN.{length, take, drop}
+use Rattle.definitions.specs.declared.Header.{Header}
+use Rattle.definitions.specs.Lists.{if_then_else_, _!_, concatMap, upFrom, select, records}
+use Rattle.definitions.specs.Matrices.{matrixSize, matrixWords}
+use Rattle.definitions.specs.Tables.{Book}
+use Rattle.definitions.specs.Combinations.{Leaf, leavesOf}
+
+-- a number and a matrix, eight words
+abbrev pub leafSize : ℕ
+leafSize = 8
+
+-- the columns of a book's matrices
+abbrev pub widthOf : (half : ℕ) → ℕ
+widthOf half = 2 * half + 1
+
+-- ---- the table: 1 and its matrix in the record of each leaf's node
+
+unfoldable pub putLeaf : (table : List ℕ) → Leaf → List ℕ
+putLeaf table l =
+    take (leafSize * l .node) table ++ (1 ∷ matrixWords (l .matrix)) ++ drop (leafSize * l .node + leafSize) table
+
+unfoldable pub putLeaves : (table : List ℕ) → List Leaf → List ℕ
+putLeaves table [] = table
+putLeaves table (l ∷ leaves) = putLeaves (putLeaf table l) leaves
+
+-- whether a node's record is used, and the node with the matrix in its record
+unfoldable pub isMarked : (table : List ℕ) → (node : ℕ) → Bool
+isMarked table node = not (eqb (table ! (leafSize * node)) 0)
+
+unfoldable pub listedAt : (table : List ℕ) → (node : ℕ) → List ℕ
+listedAt table node = node ∷ take matrixSize (drop (leafSize * node + 1) table)
+
+-- the used records in order
+unfoldable pub listed : (table : List ℕ) → List ℕ
+listed table =
+    concatMap (listedAt table) (select (isMarked table) (upFrom 0 (length table / leafSize)))
+
+-- ---- the list: the node and the matrix of each leaf
+
+unfoldable pub leafWords : Leaf → List ℕ
+leafWords l = l .node ∷ matrixWords (l .matrix)
+
+-- the leaves of a phone's tree for a state; a state that the book lacks has none
+unfoldable pub leavesFor : Book → (phone state : ℕ) → List Leaf
+leavesFor book phone state = if leb state (book .states) then leavesOf book phone state else []
+
+-- a list read back, with matrices of so many columns
+unfoldable pub leafIn : (width : ℕ) → List ℕ → Leaf
+leafIn width words = record { node = words ! 0; matrix = take width (drop 1 words) }
+
+unfoldable pub leavesIn : (width : ℕ) → (words : List ℕ) → List Leaf
+leavesIn width words = map (leafIn width) (records leafSize (length words / leafSize) words)
+
+-- words that are a list of leaves with matrices of so many columns
+abbrev pub IsList : (width : ℕ) → (words : List ℕ) → Type 0
+IsList width words = words ≡ concatMap leafWords (leavesIn width words)

@@ -1,0 +1,5 @@
+-- Leaves and combinations in lent words, what combining answers, and the laws about it.
+pub mod Leaves
+pub mod Choices
+pub mod Answers
+pub mod laws

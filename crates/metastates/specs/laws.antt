@@ -1,0 +1,16 @@
+-- The laws of this crate: leaves put into a table and listed, combinations added to the space.
+pub mod KnownTables
+pub mod PuttingLeaves
+pub mod WalkingLeaves
+pub mod ListingLeaves
+pub mod CollectingLeaves
+pub mod TreeLeaves
+pub mod Grown
+pub mod LeafLists
+pub mod Adding
+pub mod Fitting
+pub mod Choosing
+pub mod ReadBack
+pub mod Starting
+pub mod Phones
+pub mod Combining

@@ -1,0 +1,345 @@
+-- Laws about the combinations that begin with a choice: a leaf that does not meet it validly gives none, so the
+-- search may pass it over; the others give theirs one after the other. The loop over a tree's leaves, and the
+-- choice that has one leaf more, use them.
+use mathlib.Core.Path.{_≡_, refl, sym, ap, ap₂, _∙_, subst}
+use mathlib.Core.List.{List, [], _∷_, _++_, append-nil}
+use mathlib.Core.Bool.{Bool, true, false, not, _&&_}
+use Prim.Native.Nat.{ℕ, zero, suc, _+_, _-_, _/_, _≤_, _<_}
+use native.Mathlib.Nat.{suc-inj}
+use native.Mathlib.Numerals.{add-one}
+use native.Mathlib.Omega.{arith}
+use lib.Dec.{T, eqb}
+use lib.Bits.{bitAnd}
+use lib.ListN.{length, set, take, drop, getD, length-append, length-take, take-append-drop}
+use lib.Seq.{take-append-le, length-take-le, take-suc, take-add, take-all, getD-take, getD-drop, take-suc-set}
+use lib.Seq.{set-split, drop-append-add, append-snoc}
+use borrow.Author.Tests.{eqb-true}
+use Rattle.definitions.specs.Lists.{every, concatMap, cleared, padded}
+use Rattle.definitions.specs.Matrices.{Matrix, matrixSize, matrixWords, valid, meet}
+use Rattle.definitions.specs.Combinations.{Leaf, Combination, choose, combinationRoom}
+use Rattle.definitions.specs.laws.Tests.{by-test, if-true}
+use Rattle.definitions.specs.laws.Lists.{concatMap-append, concatMap-snoc, drop-cleared}
+use Rattle.definitions.specs.laws.Matrices.{meet-length}
+use Rattle.metastates.specs.declared.Choice.{Choice}
+use Rattle.metastates.specs.Leaves.{leavesIn, IsList}
+use Rattle.metastates.specs.Choices.{Holding, Grown, Chosen, FirstFit, leavesTaken, matrixMet, treesIn}
+use Rattle.metastates.specs.Choices.{chosenFrom, noLeaf}
+use Rattle.metastates.specs.laws.Grown.{Sized, choose-sized, grown-none, grown-over, grown-holding}
+use Rattle.metastates.specs.laws.Grown.{grown-then}
+use Rattle.metastates.specs.laws.Adding.{combinationOf}
+use Rattle.metastates.specs.laws.LeafLists.{leaves-length, leaf-width, met-words, met-matrix}
+
+-- ---- a matrix that is not valid gives none
+
+and-false : (a b : Bool) → b ≡ false → (a && b) ≡ false
+and-false true b e = e
+and-false false b e = refl
+
+-- an empty column stays empty
+meet-empty : (a b : Matrix) → length a ≡ length b → valid a ≡ false → valid (meet a b) ≡ false
+unfolding valid meet every
+meet-empty [] b e h = absurd (subst T h tt)
+meet-empty (x ∷ a) [] e h = absurd (omega arith)
+meet-empty (x ∷ a) (y ∷ b) e h = by-test (eqb x 0)
+    (λ t. rw (eqb-true x 0 t))
+    (λ t. and-false (not (eqb (bitAnd x y) 0)) _ (meet-empty a b (suc-inj e) (rw t at h)))
+
+-- leaves, and trees of leaves, whose matrices have one width
+abbrev Wide : (width : ℕ) → List Leaf → Type 0
+Wide width tree = (i : ℕ) → i < length tree → length (getD tree i noLeaf .matrix) ≡ width
+
+unfoldable AllWide : (width : ℕ) → List (List Leaf) → Type 0
+AllWide width [] = T true
+AllWide width (tree ∷ trees) = Wide width tree × AllWide width trees
+
+take-wide : (width count : ℕ) (trees : List (List Leaf)) → AllWide width trees → AllWide width (take count trees)
+unfolding AllWide
+take-wide width zero trees h = tt
+take-wide width (suc count) [] h = tt
+take-wide width (suc count) (tree ∷ trees) h = (h .0, take-wide width count trees (h .1))
+
+none-given : (f : Leaf → List Combination) (tree : List Leaf)
+    → ((i : ℕ) → i < length tree → f (getD tree i noLeaf) ≡ []) → concatMap f tree ≡ []
+unfolding concatMap
+none-given f [] h = refl
+none-given f (l ∷ tree) h = rw (h 0 (omega arith)) (none-given f tree (λ i k. h (suc i) (omega arith)))
+
+choose-none : (width phone : ℕ) (leaves : List ℕ) (m : Matrix) (trees : List (List Leaf)) → AllWide width trees
+    → length m ≡ width → valid m ≡ false → choose phone leaves m trees ≡ []
+unfolding choose AllWide
+choose-none width phone leaves m [] w e h = rw h
+choose-none width phone leaves m (tree ∷ trees) w e h = none-given _ tree λ i k.
+    let n : Matrix = getD tree i noLeaf .matrix in
+    let same : length m ≡ length n = e ∙ sym (w .0 i k) in
+    choose-none width phone _ (meet m n) trees (w .1) (meet-length m n same ∙ e) (meet-empty m n same h)
+
+-- ---- leaves that do not fit are passed over
+
+module _ {m : Matrix} {leaves : List Leaf} (f : Leaf → List Combination)
+    (none : (i : ℕ) → i < length leaves → valid (meet m (getD leaves i noLeaf .matrix)) ≡ false
+    → f (getD leaves i noLeaf) ≡ []) where
+  passed-over : {from place : ℕ} → FirstFit m leaves from place
+      → concatMap f (take place leaves) ≡ concatMap f (take from leaves)
+  passed-over {from} {place} fit =
+      let between : List Leaf = take (place - from) (drop from leaves) in
+      let whole : place ≡ from + (place - from) = omega (arith, fit .after) in
+      let nothing : concatMap f between ≡ [] =
+      none-given f between λ i k.
+      let short : i < place - from = omega (arith, rw length-take at k) in
+      let leaf : getD between i noLeaf ≡ getD leaves (from + i) noLeaf =
+      getD-take (place - from) (drop from leaves) i noLeaf short ∙ getD-drop from leaves i noLeaf in
+      ap f leaf
+      ∙ none (from + i) (omega (arith, fit .within))
+      (fit .passed (from + i) (omega arith) (omega arith)) in
+      ap (λ (k : ℕ). concatMap f (take k leaves)) whole
+      ∙ ap (concatMap f) (take-add from (place - from) leaves)
+      ∙ concatMap-append f (take from leaves) between
+      ∙ rw (nothing, append-nil)
+
+-- one leaf's combinations more
+taken-one : (f : Leaf → List Combination) (leaves : List Leaf) (place : ℕ) → place < length leaves
+    → concatMap f (take (place + 1) leaves) ≡ concatMap f (take place leaves) ++ f (getD leaves place noLeaf)
+taken-one f leaves place h =
+    rw (add-one, take-suc leaves place noLeaf h) (concatMap-snoc f (take place leaves) _)
+
+-- ---- the choice with one leaf more
+
+abbrev pub WithLeaf : (width : ℕ) → Choice → (words : List ℕ) → (place : ℕ) → Choice → Type 0
+WithLeaf width choice words place next =
+    (next .phone ≡ choice .phone) × (next .taken ≡ choice .taken + 1)
+    × (next .leaves ≡ set (choice .leaves) (choice .taken) (getD (leavesIn width words) place noLeaf .node))
+    × (next .matrix .columns
+    ≡ meet (choice .matrix .columns) (matrixWords (getD (leavesIn width words) place noLeaf .matrix)))
+
+module _ {width : ℕ} {choice : Choice} (chosen : Chosen width choice) (three : length (choice .leaves) ≡ 3)
+    (seven : length (choice .matrix .columns) ≡ matrixSize) (more : choice .taken < 3)
+    {words : List ℕ} (is : IsList width words) {place : ℕ} (inside : place < length (leavesIn width words))
+    {next : Choice} (w : WithLeaf width choice words place next) where
+  abbrev leaf : Leaf
+  leaf = getD (leavesIn width words) place noLeaf
+
+  next-leaves : leavesTaken next ≡ leavesTaken choice ++ (leaf .node ∷ [])
+  next-leaves =
+      rw (w .1, w .2, add-one)
+      (take-suc-set (choice .leaves) (choice .taken) (leaf .node) (omega arith))
+
+  next-matrix : matrixMet width next ≡ meet (matrixMet width choice) (leaf .matrix)
+  next-matrix =
+      met-matrix width words place inside (chosen .narrow) is (choice .matrix .columns) (chosen .matrix) seven
+      (w .3)
+
+  -- the leaves after it are still 0
+  next-padded : next .leaves ≡ padded 3 (leavesTaken next)
+  unfolding padded
+  next-padded =
+      let node : ℕ = leaf .node in
+      let used : List ℕ = leavesTaken choice in
+      let many : length used ≡ choice .taken = length-take-le (choice .taken) (choice .leaves) (omega arith) in
+      let place-is : suc (choice .taken) ≡ length used + 1 = omega (arith, many) in
+      let left : 3 - length used - 1 ≡ 3 - length (used ++ (node ∷ [])) = rw length-append (omega arith) in
+      let zeros : drop (suc (choice .taken)) (choice .leaves) ≡ cleared (3 - length (used ++ (node ∷ []))) =
+      ap₂ drop place-is (chosen .leaves) ∙ drop-append-add used (cleared (3 - length used)) 1
+      ∙ drop-cleared 1 (3 - length used) ∙ ap cleared left in
+      w .2 ∙ set-split (choice .leaves) (choice .taken) node (omega arith)
+      ∙ rw (zeros, next-leaves) (sym (append-snoc used node _))
+
+  pub next-chosen : valid (meet (matrixMet width choice) (leaf .matrix)) ≡ true → Chosen width next
+  next-chosen fits = record {
+    narrow = chosen .narrow;
+    leaves = next-padded;
+    matrix =
+        met-words width words place inside (chosen .narrow) is (choice .matrix .columns) (chosen .matrix) seven
+        (w .3)
+        ∙ ap matrixWords (sym next-matrix);
+    holds = rw next-matrix (subst T (sym fits) tt);
+  }
+
+-- no tree is left: the choice is a combination
+pub choosing-last : {width trees : ℕ} (first second third : List ℕ) {choice : Choice} {before after : List ℕ}
+    {count total : ℕ} → Chosen width choice → trees ≡ 0
+    → Grown before count (combinationOf width choice ∷ []) after total
+    → Grown before count (chosenFrom width trees first second third choice) after total
+unfolding choose
+choosing-last {width} {trees} first second third {choice} chosen e g =
+    let one : chosenFrom width trees first second third choice ≡ combinationOf width choice ∷ [] =
+    rw e (if-true (valid (matrixMet width choice)) _ _ (chosen .holds)) in
+    rw one g
+
+-- ---- the loop over the leaves of the first tree
+
+-- what a choice begins: at least one tree is left
+pub record Beginning (width trees : ℕ) (first second third : List ℕ) (choice : Choice) : Type 0 where
+  pub chosen : Chosen width choice
+  pub three : length (choice .leaves) ≡ 3
+  pub seven : length (choice .matrix .columns) ≡ matrixSize
+  pub some : trees ≡ 0 → ⊥
+  pub few : choice .taken + trees ≤ 3
+  pub first-is : IsList width first
+  pub second-is : IsList width second
+  pub third-is : IsList width third
+
+-- the trees that are left after the first
+trees-next : (trees : ℕ) (first second third : List Leaf) → (trees ≡ 0 → ⊥) → trees ≤ 3
+    → take trees (first ∷ second ∷ third ∷ []) ≡ first ∷ take (trees - 1) (second ∷ third ∷ third ∷ [])
+trees-next zero first second third some few = absurd (some refl)
+trees-next (suc n) first second third some few =
+    let fewer : suc n - 1 ≡ n = omega arith in
+    let two : List (List Leaf) = second ∷ third ∷ [] in
+    rw fewer
+    (ap (λ (l : List (List Leaf)). first ∷ l) (sym (take-append-le n two (third ∷ []) (omega arith))))
+
+-- the combinations that a leaf of the first tree gives
+abbrev pub leafGives : (width trees : ℕ) → (second third : List ℕ) → Choice → Leaf → List Combination
+leafGives width trees second third choice l =
+    choose (choice .phone) (leavesTaken choice ++ (l .node ∷ [])) (meet (matrixMet width choice) (l .matrix))
+    (treesIn width (trees - 1) second third third)
+
+module _ {width trees : ℕ} {first second third : List ℕ} {choice : Choice}
+    (b : Beginning width trees first second third choice) where
+  abbrev gives : Leaf → List Combination
+  gives = leafGives width trees second third choice
+
+  abbrev rest : List (List Leaf)
+  rest = treesIn width (trees - 1) second third third
+
+  abbrev tree : List Leaf
+  tree = leavesIn width first
+
+  taken-length : length (leavesTaken choice) ≡ choice .taken
+  taken-length = length-take-le (choice .taken) (choice .leaves) (omega (arith, b .three, b .few))
+
+  met-length : length (matrixMet width choice) ≡ width
+  met-length = length-take-le width (choice .matrix .columns) (omega (arith, b .seven, b .chosen .narrow))
+
+  rest-wide : AllWide width rest
+  unfolding AllWide
+  rest-wide =
+      let second-wide : Wide width (leavesIn width second) =
+      λ i h. leaf-width width second i h (b .chosen .narrow) in
+      let third-wide : Wide width (leavesIn width third) =
+      λ i h. leaf-width width third i h (b .chosen .narrow) in
+      take-wide width (trees - 1) _ (second-wide, (third-wide, (third-wide, tt)))
+
+  -- none for a leaf that does not fit
+  gives-none : (i : ℕ) → i < length tree
+      → valid (meet (matrixMet width choice) (getD tree i noLeaf .matrix)) ≡ false
+      → gives (getD tree i noLeaf) ≡ []
+  gives-none i h e =
+      let m : Matrix = matrixMet width choice in
+      let n : Matrix = getD tree i noLeaf .matrix in
+      let same : length m ≡ length n = met-length ∙ sym (leaf-width width first i h (b .chosen .narrow)) in
+      choose-none width (choice .phone) _ (meet m n) rest rest-wide (meet-length m n same ∙ met-length) e
+
+  gives-sized : (leaves : List Leaf) → Sized (concatMap gives leaves)
+  unfolding choose
+  gives-sized leaves =
+      let last : List Leaf = leavesIn width third in
+      let trees-left = length-take (trees - 1) (leavesIn width second ∷ last ∷ last ∷ []) in
+      let fits : length (leavesTaken choice) + length (leaves ∷ rest) ≤ 3 =
+      omega (arith, taken-length, trees-left, b .few, b .some) in
+      choose-sized (choice .phone) (leavesTaken choice) (matrixMet width choice) (leaves ∷ rest) fits
+      (omega (arith, met-length, b .chosen .narrow))
+
+  -- the whole is what all leaves of the first tree give
+  all-given : chosenFrom width trees first second third choice ≡ concatMap gives tree
+  unfolding choose
+  all-given =
+      ap (choose (choice .phone) (leavesTaken choice) (matrixMet width choice))
+      (trees-next trees tree (leavesIn width second) (leavesIn width third) (b .some) (omega (arith, b .few)))
+
+-- the leaves before a place have given theirs, and there was room for them
+pub record Choosing (width trees : ℕ) (first second third : List ℕ) (choice : Choice) (before : List ℕ) (count : ℕ)
+    (space : List ℕ) (total place : ℕ) : Type 0 where
+  pub begins : Beginning width trees first second third choice
+  pub holding : Holding before count
+  pub within : place ≤ length (leavesIn width first)
+  pub found : place < length (leavesIn width first)
+      → valid (meet (matrixMet width choice) (getD (leavesIn width first) place noLeaf .matrix)) ≡ true
+  pub roomy : total ≤ combinationRoom (length before)
+  pub grown : Grown before count
+      (concatMap (leafGives width trees second third choice) (take place (leavesIn width first))) space total
+
+module _ {width trees : ℕ} {first second third : List ℕ} {choice : Choice} {before : List ℕ} {count : ℕ} where
+  pub choosing-start : Beginning width trees first second third choice → Holding before count → {place : ℕ}
+      → FirstFit (matrixMet width choice) (leavesIn width first) 0 place
+      → Choosing width trees first second third choice before count before count place
+  unfolding concatMap
+  choosing-start b h fit = record {
+    begins = b;
+    holding = h;
+    within = fit .within;
+    found = fit .found;
+    roomy = h .roomy;
+    grown = rw (passed-over (leafGives width trees second third choice) (gives-none b) fit) (grown-none h);
+  }
+
+  module _ {space : List ℕ} {total place : ℕ}
+      (inv : Choosing width trees first second third choice before count space total place) where
+    abbrev all : List Leaf
+    all = leavesIn width first
+
+    pub choosing-end : length first / 8 ≤ place
+        → Grown before count (chosenFrom width trees first second third choice) space total
+    choosing-end h =
+        let every-leaf : length all ≤ place = rw leaves-length h in
+        rw (all-given (inv .begins)) (rw (take-all place all every-leaf) at (inv .grown))
+
+    -- a turn
+    pub choosing-inside : place < length first / 8 → place < length all
+    choosing-inside h = rw leaves-length h
+
+    pub choosing-holding : Holding space total
+    choosing-holding =
+        grown-holding (inv .holding) (inv .grown) (gives-sized (inv .begins) (take place all)) (inv .roomy)
+
+    module _ (inside : place < length all) {next : Choice} (w : WithLeaf width choice first place next) where
+      more : choice .taken < 3
+      more = omega (arith, inv .begins .few, inv .begins .some)
+
+      pub choosing-chosen : Chosen width next
+      choosing-chosen =
+          let b = inv .begins in
+          next-chosen (b .chosen) (b .three) (b .seven) more (b .first-is) inside w (inv .found inside)
+
+      -- what the next choice begins is what the leaf gives
+      leaf-given : chosenFrom width (trees - 1) second third third next
+          ≡ leafGives width trees second third choice (getD all place noLeaf)
+      leaf-given =
+          let b = inv .begins in
+          let leaves = next-leaves (b .chosen) (b .three) (b .seven) more (b .first-is) inside w in
+          let matrix = next-matrix (b .chosen) (b .three) (b .seven) more (b .first-is) inside w in
+          rw (w .0, leaves, matrix)
+
+      module _ {after : List ℕ} {sum : ℕ}
+          (g : Grown space total (chosenFrom width (trees - 1) second third third next) after sum) where
+        one-more : Grown before count
+            (concatMap (leafGives width trees second third choice) (take (place + 1) all)) after sum
+        one-more =
+            rw (taken-one (leafGives width trees second third choice) all place inside, ← leaf-given)
+            (grown-then (inv .holding) (inv .grown) (gives-sized (inv .begins) (take place all)) (inv .roomy) g)
+
+        -- no room
+        pub choosing-over : combinationRoom (length after) < sum
+            → Grown before count (chosenFrom width trees first second third choice) after sum
+        choosing-over over =
+            let gives = leafGives width trees second third choice in
+            let done : List Leaf = take (place + 1) all in
+            let left : List Leaf = drop (place + 1) all in
+            let whole : chosenFrom width trees first second third choice
+            ≡ concatMap gives done ++ concatMap gives left =
+            all-given (inv .begins) ∙ ap (concatMap gives) (sym (take-append-drop (place + 1) all))
+            ∙ concatMap-append gives done left in
+            rw whole (grown-over (inv .holding) one-more (concatMap gives left) (rw (← one-more .sized) over))
+
+        pub choosing-again : sum ≤ combinationRoom (length after) → {last : ℕ}
+            → FirstFit (matrixMet width choice) all (place + 1) last
+            → Choosing width trees first second third choice before count after sum last
+        choosing-again fits fit = record {
+          begins = inv .begins;
+          holding = inv .holding;
+          within = fit .within;
+          found = fit .found;
+          roomy = rw (← one-more .sized) fits;
+          grown =
+              rw (passed-over (leafGives width trees second third choice) (gives-none (inv .begins)) fit) one-more;
+        }

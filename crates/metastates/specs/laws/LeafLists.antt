@@ -1,0 +1,138 @@
+-- Laws about a list of leaves read back from its words: how many leaves there are, where the node and the
+-- matrix of each stand, and how its matrix meets another in seven words.
+use mathlib.Core.Path.{_≡_, refl, sym, ap, _∙_}
+use mathlib.Core.List.{List, [], _∷_, map, append-nil}
+use Prim.Native.Nat.{ℕ, zero, suc, _+_, _-_, _*_, _/_, _≤_, _<_}
+use native.Mathlib.Omega.{arith}
+use lib.ListN.{length, take, drop, getD, length-map, length-take, length-drop}
+use lib.Seq.{take-nil, drop-drop, getD-drop, getD-take, length-take-le}
+use Rattle.definitions.specs.Lists.{_!_, concatMap, records}
+use Rattle.definitions.specs.Matrices.{Matrix, matrixSize, matrixWords, valid, meet}
+use Rattle.definitions.specs.Combinations.{Leaf}
+use Rattle.definitions.specs.laws.Lists.{concatMap-map}
+use Rattle.definitions.specs.laws.Records.{records-length, record-at, flat-records}
+use Rattle.definitions.specs.laws.Matrices.{meet-length}
+use Rattle.definitions.specs.laws.SevenWords.{words-length, words-meet, words-take}
+use Rattle.matrix.specs.laws.Words.{firstSeven, matrix-words}
+use Rattle.metastates.specs.Leaves.{leafSize, leafWords, leafIn, leavesIn, IsList}
+use Rattle.metastates.specs.Choices.{noLeaf}
+
+-- an element that each of a list gives
+map-at : {A B : Type 0} (f : A → B) (l : List A) (a : A) (b : B) (i : ℕ) → i < length l
+    → getD (map f l) i b ≡ f (getD l i a)
+map-at f [] a b i h = absurd (omega arith)
+map-at f (x ∷ l) a b zero h = refl
+map-at f (x ∷ l) a b (suc i) h = map-at f l a b i (omega arith)
+
+-- where that changes no list, it changes no element
+same-at : {A : Type 0} (f : A → A) (l : List A) (a : A) (i : ℕ) → i < length l → map f l ≡ l
+    → f (getD l i a) ≡ getD l i a
+same-at f l a i h e = sym (map-at f l a a i h) ∙ ap (λ (k : List _). getD k i a) e
+
+drop-take : (count : ℕ) (l : List ℕ) → drop 1 (take (suc count) l) ≡ take count (drop 1 l)
+drop-take count [] = sym (take-nil count)
+drop-take count (x ∷ l) = refl
+
+-- the seven words after a node, taken as a part
+pub part-columns : (words : List ℕ) (place : ℕ) → leafSize * place + leafSize ≤ length words
+    → firstSeven (take (leafSize * place + 8 - (leafSize * place + 1)) (drop (leafSize * place + 1) words))
+    ≡ take matrixSize (drop (leafSize * place + 1) words)
+part-columns words place h =
+    let seven : leafSize * place + 8 - (leafSize * place + 1) ≡ matrixSize = omega arith in
+    let from : List ℕ = drop (leafSize * place + 1) words in
+    rw seven (matrix-words (take matrixSize from) (length-take-le matrixSize from (rw length-drop (omega arith))))
+
+module _ (width : ℕ) (words : List ℕ) where
+  abbrev parts : List (List ℕ)
+  parts = records leafSize (length words / leafSize) words
+
+  pub leaves-length : length (leavesIn width words) ≡ length words / leafSize
+  unfolding leavesIn
+  leaves-length =
+      length-map parts (leafIn width) ∙ records-length leafSize (length words / leafSize) words
+
+  -- the words of the leaf at a place
+  module _ (place : ℕ) (h : place < length (leavesIn width words)) where
+    abbrev pub leafAt : Leaf
+    leafAt = getD (leavesIn width words) place noLeaf
+
+    listed : place < length words / leafSize
+    listed = omega (arith, leaves-length)
+
+    pub leaf-within : leafSize * place + leafSize ≤ length words
+    leaf-within = omega (arith, listed)
+
+    leaf-is : leafAt ≡ leafIn width (take leafSize (drop (leafSize * place) words))
+    unfolding leavesIn
+    leaf-is =
+        map-at (leafIn width) parts [] noLeaf place (rw records-length listed)
+        ∙ ap (leafIn width) (record-at leafSize (length words / leafSize) words place listed)
+
+    pub leaf-node : words ! (leafSize * place) ≡ leafAt .node
+    unfolding leafIn
+    leaf-node =
+        let first : leafSize * place + 0 ≡ leafSize * place = omega arith in
+        let words-from : List ℕ = drop (leafSize * place) words in
+        sym (ap (λ (l : Leaf). l .node) leaf-is ∙ getD-take leafSize words-from 0 0 (omega arith)
+        ∙ getD-drop (leafSize * place) words 0 0 ∙ rw first)
+
+    pub leaf-width : width ≤ matrixSize → length (leafAt .matrix) ≡ width
+    unfolding leafIn
+    leaf-width narrow =
+        ap (λ (l : Leaf). length (l .matrix)) leaf-is
+        ∙ simp (length-take, length-drop) (omega (arith, leaf-within))
+
+    -- where the words are such a list, its matrix stands as seven words
+    module _ (narrow : width ≤ matrixSize) (is : IsList width words) where
+      again : List ℕ → List ℕ
+      again part = leafWords (leafIn width part)
+
+      again-length : (part : List ℕ) → length (again part) ≡ leafSize
+      unfolding again leafWords leafIn
+      again-length part =
+          let m : Matrix = take width (drop 1 part) in
+          ap suc (words-length m (simp length-take (omega arith)))
+
+      all-again : map again parts ≡ parts
+      unfolding again leavesIn
+      all-again =
+          let joined : concatMap again parts ≡ words = sym (is ∙ concatMap-map leafWords (leafIn width) parts) in
+          let count : length parts ≡ length words / leafSize = records-length leafSize _ words in
+          sym (flat-records again leafSize again-length parts [])
+          ∙ rw (append-nil, joined, count)
+
+      pub leaf-columns : take matrixSize (drop (leafSize * place + 1) words) ≡ matrixWords (leafAt .matrix)
+      unfolding again leafWords
+      leaf-columns =
+          let from : List ℕ = drop (leafSize * place) words in
+          let count : ℕ = length words / leafSize in
+          let here : getD parts place [] ≡ take leafSize from = record-at leafSize count words place listed in
+          let back = same-at again parts [] place (rw records-length listed) all-again in
+          ap (take matrixSize) (sym (drop-drop 1 (leafSize * place) words)) ∙ sym (drop-take matrixSize from)
+          ∙ ap (drop 1) (sym here ∙ sym back ∙ ap again here)
+          ∙ ap (λ (l : Leaf). matrixWords (l .matrix)) (sym leaf-is)
+
+      -- met with seven words of a matrix of that width
+      module _ (columns : List ℕ) (e : columns ≡ matrixWords (take width columns))
+          (seven : length columns ≡ matrixSize) where
+        widths : length (take width columns) ≡ length (leafAt .matrix)
+        widths = length-take-le width columns (omega (arith, seven)) ∙ sym (leaf-width narrow)
+
+        pub met-words : {met : List ℕ} → met ≡ meet columns (matrixWords (leafAt .matrix))
+            → met ≡ matrixWords (meet (take width columns) (leafAt .matrix))
+        met-words q =
+            q ∙ ap (λ (m : Matrix). meet m (matrixWords (leafAt .matrix))) e
+            ∙ sym (words-meet (take width columns) (leafAt .matrix) widths)
+
+        pub met-matrix : {met : List ℕ} → met ≡ meet columns (matrixWords (leafAt .matrix))
+            → take width met ≡ meet (take width columns) (leafAt .matrix)
+        met-matrix {met} q =
+            let m : Matrix = meet (take width columns) (leafAt .matrix) in
+            let wide : length m ≡ width = meet-length _ (leafAt .matrix) widths ∙ widths ∙ leaf-width narrow in
+            ap (take width) (met-words q) ∙ ap (λ (k : ℕ). take k (matrixWords m)) (sym wide) ∙ words-take m
+
+        -- the test of what they meet in
+        pub met-valid : {leaf met : List ℕ} → leaf ≡ take matrixSize (drop (leafSize * place + 1) words)
+            → met ≡ meet columns leaf
+            → valid (take width met) ≡ valid (meet (take width columns) (leafAt .matrix))
+        met-valid l q = ap valid (met-matrix (q ∙ ap (meet columns) (l ∙ leaf-columns)))

@@ -1,0 +1,127 @@
+-- Laws about the choice that a phone starts with: no leaf, and the matrix that its roots carry. It may be made,
+-- and the combinations that begin with it are the phone's.
+use mathlib.Core.Path.{_≡_, refl, sym, ap, _∙_, subst}
+use mathlib.Core.List.{List, [], _∷_}
+use mathlib.Core.Bool.{Bool, _&&_}
+use Prim.Native.Nat.{ℕ, _≤_, _<_, min}
+use native.Mathlib.Omega.{arith}
+use lib.Dec.{T, leb, eqb}
+use lib.ListN.{length, take}
+use borrow.Author.Tests.{le-leb, lt-ltb, eqb-true, eqb-false, eq-eqb}
+use Rattle.definitions.specs.declared.Header.{Header}
+use Rattle.definitions.specs.Lists.{if_then_else_, _!_, concatMap, padded}
+use Rattle.definitions.specs.PhoneSets.{has, alone, allPhones}
+use Rattle.definitions.specs.Matrices.{Matrix, matrixSize, matrixWords, rootMatrix, valid}
+use Rattle.definitions.specs.Tables.{Book, Tables, tablesBook}
+use Rattle.definitions.specs.ForeignTables.{headerKnown, nodeTableKnown, classTableKnown, rootTableKnown}
+use Rattle.definitions.specs.ForeignTables.{namedOnce, tablesKnown}
+use Rattle.definitions.specs.Combinations.{Leaf, Combination, combinationsOf}
+use Rattle.definitions.specs.laws.Tests.{by-test, T-three}
+use Rattle.definitions.specs.laws.Books.{InRange}
+use Rattle.definitions.specs.laws.PhoneSets.{has-alone, has-all}
+use Rattle.definitions.specs.laws.Matrices.{root-column, root-other, root-length, valid-columns}
+use Rattle.definitions.specs.laws.SevenWords.{words-take}
+use Rattle.tables.specs.laws.Known.{header-ranges}
+use Rattle.matrix.specs.declared.Matrix as shaped
+use Rattle.matrix.specs.Shapes.{columnsAround}
+use Rattle.matrix.specs.laws.Shapes.{root-around, around-words}
+use Rattle.metastates.specs.declared.Choice.{Choice}
+use Rattle.metastates.specs.Choices.{Grown, Chosen, chosenFrom}
+use Rattle.metastates.specs.Leaves.{widthOf, leafWords, leavesFor, leavesIn, IsList}
+use Rattle.metastates.specs.laws.ReadBack.{read-back, is-list, for-wide, trees-for}
+
+-- ---- the matrix that a phone's roots carry
+
+module _ (half phones p : ℕ) (low : 1 ≤ p) (high : p ≤ phones) where
+  abbrev root : Matrix
+  root = rootMatrix half phones p
+
+  -- the phone itself is in every column
+  root-member : (c : ℕ) → c < length root → T (has p (root ! c))
+  root-member c k = by-test (eqb c half)
+      (λ t. rw (eqb-true c half t, root-column half phones p, has-alone p p low, eq-eqb p p refl) tt)
+      (λ t. rw (
+        root-other half phones p c (omega (arith, root-length half phones p)) (eqb-false c half t),
+        has-all p phones,
+        lt-ltb 0 p low,
+        le-leb p phones high,
+      ) tt)
+
+  pub root-valid : T (valid (rootMatrix half phones p))
+  root-valid = valid-columns root .1 (λ c k. (p, root-member c k))
+
+  -- as the code shapes it
+  pub root-shaped : half ≤ 3 → phones ≤ 64 → {all centre : ℕ} {columns : List ℕ}
+      → all ≡ allPhones (min phones 64) → centre ≡ (if leb p 64 then alone p else 0)
+      → columns ≡ take matrixSize (matrixWords (columnsAround half all centre all))
+      → columns ≡ matrixWords (rootMatrix half phones p)
+  root-shaped narrow few {all} {centre} a e s =
+      let most : min phones 64 ≡ phones = omega arith in
+      let sides : all ≡ allPhones phones = a ∙ ap allPhones most in
+      let own : centre ≡ alone p = e ∙ rw (le-leb p 64 (omega arith)) in
+      s ∙ around-words half all centre all narrow
+      ∙ rw (sides, own) (ap matrixWords (sym (root-around half phones p)))
+
+-- ---- the header of known tables
+
+pub known-ranges : (header : Header) (tables : Tables) → T (tablesKnown header tables) → InRange header
+unfolding tablesKnown
+known-ranges header tables h =
+    let nodes : Bool = nodeTableKnown header (tables .nodes) in
+    let classes : Bool = classTableKnown header (tables .classes) in
+    let roots : Bool = rootTableKnown header (tables .roots) in
+    let once : Bool = namedOnce (tablesBook header tables) in
+    let first = T-three (headerKnown header && nodes && classes) roots once .0 h .0 in
+    header-ranges header (T-three (headerKnown header) nodes classes .0 first .0)
+
+-- ---- the choice that a phone of a book starts with, over the lists of its leaves
+
+abbrev pub startOf : (phone : ℕ) → (top : shaped.Matrix) → Choice
+startOf phone top = record { phone = phone; taken = 0; leaves = 0 ∷ 0 ∷ 0 ∷ []; matrix = top }
+
+module _ (book : Book) (phone width : ℕ) (e : width ≡ widthOf (book .half)) (narrow : book .half ≤ 3) where
+  list-leaves : (state : ℕ) {words : List ℕ} → words ≡ concatMap leafWords (leavesFor book phone state)
+      → leavesIn width words ≡ leavesFor book phone state
+  list-leaves state l =
+      let leaves : List Leaf = leavesFor book phone state in
+      rw (l, e) (read-back (widthOf (book .half)) (omega arith) leaves (for-wide book phone state))
+
+  pub list-is : (state : ℕ) {words : List ℕ} → words ≡ concatMap leafWords (leavesFor book phone state)
+      → IsList width words
+  list-is state l =
+      let leaves : List Leaf = leavesFor book phone state in
+      rw (l, e) (is-list (widthOf (book .half)) (omega arith) leaves (for-wide book phone state))
+
+  module _ (top : shaped.Matrix) (t : top .columns ≡ matrixWords (rootMatrix (book .half) (book .phones) phone))
+    where
+      top-met : take width (top .columns) ≡ rootMatrix (book .half) (book .phones) phone
+      top-met =
+          let root : Matrix = rootMatrix (book .half) (book .phones) phone in
+          let wide : width ≡ length root = omega (arith, e, root-length (book .half) (book .phones) phone) in
+          rw (t, wide) (words-take root)
+
+      pub start-chosen : 1 ≤ phone → phone ≤ book .phones → Chosen width (startOf phone top)
+      unfolding padded
+      start-chosen low high = record {
+        narrow = omega arith;
+        leaves = refl;
+        matrix = t ∙ ap matrixWords (sym top-met);
+        holds = rw top-met (root-valid (book .half) (book .phones) phone low high);
+      }
+
+      module _ (some : 1 ≤ book .states) (few : book .states ≤ 3) {first second third : List ℕ}
+          (a : first ≡ concatMap leafWords (leavesFor book phone 1))
+          (b : second ≡ concatMap leafWords (leavesFor book phone 2))
+          (c : third ≡ concatMap leafWords (leavesFor book phone 3))
+        where
+          start-all : chosenFrom width (book .states) first second third (startOf phone top)
+              ≡ combinationsOf book phone
+          unfolding combinationsOf
+          start-all =
+              rw (top-met, list-leaves 1 a, list-leaves 2 b, list-leaves 3 c, trees-for book phone some few)
+
+          pub start-grown : {before after : List ℕ} {count total : ℕ}
+              → Grown before count (chosenFrom width (book .states) first second third (startOf phone top))
+              after total → Grown before count (combinationsOf book phone) after total
+          start-grown {before} {after} {count} {total} g =
+              subst (λ (l : List Combination). Grown before count l after total) start-all g

@@ -1,0 +1,167 @@
+-- Laws about the list of a tree's leaves: they stand in the table, no two at one node, whatever roots the book
+-- has; the matrix that the walk starts from is the root's; and the used records are the leaves ascending.
+use mathlib.Core.Path.{_≡_, refl, sym, ap, ap₂, _∙_, subst}
+use mathlib.Core.Logic.{⊎-elim}
+use mathlib.Core.List.{List, [], _++_}
+use Prim.Native.Nat.{ℕ, zero, suc, _+_, _-_, _*_, _≤_, _<_, min}
+use native.Mathlib.Omega.{arith}
+use lib.Dec.{leb}
+use lib.ListN.{length, take}
+use borrow.Author.Tests.{le-leb, lt-leb}
+use Rattle.definitions.specs.declared.Header.{Header}
+use Rattle.definitions.specs.Lists.{if_then_else_, _!_, concatMap, cleared}
+use Rattle.definitions.specs.BookLines.{rootCount}
+use Rattle.definitions.specs.Tables.{Book, Tables, tablesBook}
+use Rattle.definitions.specs.PhoneSets.{alone, allPhones}
+use Rattle.definitions.specs.Matrices.{Matrix, matrixSize, matrixWords, rootMatrix, yesSide, noSide}
+use Rattle.definitions.specs.Combinations.{Leaf, leavesBelow, ascending, rootOf, leavesOf}
+use Rattle.definitions.specs.laws.Members.{distinct, of-append, of-single}
+use Rattle.definitions.specs.laws.Walks.{Forward, by-node}
+use Rattle.definitions.specs.laws.Leaves.{below-leaf, below-question}
+use Rattle.definitions.specs.laws.Matrices.{yes-length, no-length, root-length}
+use Rattle.definitions.specs.laws.SevenWords.{words-take}
+use Rattle.definitions.specs.laws.Tables.{tree-nodes-length}
+use Rattle.definitions.specs.laws.NamedOnce.{leaves-once}
+use Rattle.definitions.specs.laws.Ascending.{leafNodes, nodes-below}
+use Rattle.matrix.specs.Shapes.{columnsAround}
+use Rattle.matrix.specs.laws.Shapes.{root-around, around-words}
+use Rattle.tables.specs.Lending.{lentTables}
+use Rattle.tables.specs.laws.Records.{treeNodes}
+use Rattle.metastates.specs.Leaves.{leafSize, widthOf, putLeaves, listed, leafWords, leavesFor}
+use Rattle.metastates.specs.laws.KnownTables.{Fit, known-forward}
+use Rattle.metastates.specs.laws.PuttingLeaves.{InTable, AllInTable}
+use Rattle.metastates.specs.laws.WalkingLeaves.{Words}
+use Rattle.metastates.specs.laws.ListingLeaves.{all-listed}
+
+-- ---- the leaves below a node
+
+below-in-table : (book : Book) → Forward (book .nodes) → (levels : ℕ) (m : Matrix) (node : ℕ)
+    → node < length (book .nodes) → length m ≤ 7
+    → AllInTable (length (book .nodes)) (leavesBelow levels book m node)
+unfolding leavesBelow
+below-in-table book forward zero m node h k l i = absurd i
+below-in-table book forward (suc levels) m node h k l i =
+    by-node (book .nodes) node
+    (λ model e.
+    let same = of-single (record { node = node; matrix = m }) l
+    (rw (below-leaf book levels m node model e) at i) in
+    subst (λ x. InTable (length (book .nodes)) x) (sym same) (record { listed = h; narrow = k }))
+    (λ class position yesNode noNode e.
+    let s : ℕ = book .classes ! (class - 1) in
+    let onYes : Matrix = yesSide position s m in
+    let onNo : Matrix = noSide position s m in
+    let (yesLater, noLater) = forward node class position yesNode noNode e in
+    ⊎-elim
+    (below-in-table book forward levels onYes yesNode (yesLater .listed) (rw (yes-length position s m) k) l)
+    (below-in-table book forward levels onNo noNode (noLater .listed) (rw (no-length position s m) k) l)
+    (of-append l (leavesBelow levels book onYes yesNode) (leavesBelow levels book onNo noNode)
+    (rw (below-question book levels m node class position yesNode noNode e) at i)))
+
+-- they depend on the nodes and the classes only
+below-same : (a b : Book) → a .nodes ≡ b .nodes → a .classes ≡ b .classes → (levels : ℕ) (m : Matrix) (node : ℕ)
+    → leavesBelow levels a m node ≡ leavesBelow levels b m node
+unfolding leavesBelow
+below-same a b e f zero m node = refl
+below-same a b e f (suc levels) m node =
+    by-node (a .nodes) node
+    (λ model q. below-leaf a levels m node model q ∙ sym (below-leaf b levels m node model (rw e at q)))
+    (λ class position yesNode noNode q.
+    let s : ℕ = a .classes ! (class - 1) in
+    let t : ℕ = b .classes ! (class - 1) in
+    let sets : s ≡ t = ap (λ (sets : List ℕ). sets ! (class - 1)) f in
+    below-question a levels m node class position yesNode noNode q
+    ∙ ap₂ _++_ (below-same a b e f levels (yesSide position s m) yesNode)
+    (below-same a b e f levels (noSide position s m) noNode)
+    ∙ ap (λ (z : ℕ). leavesBelow levels b (yesSide position z m) yesNode
+    ++ leavesBelow levels b (noSide position z m) noNode) sets
+    ∙ sym (below-question b levels m node class position yesNode noNode (rw e at q)))
+
+-- ---- the matrix of a root
+
+-- seven words that are the matrix of a phone's roots
+pub record Top (header : Header) (phone : ℕ) (columns : List ℕ) : Type 0 where
+  pub words : Words (widthOf (header .half)) columns
+  pub taken : take (widthOf (header .half)) columns ≡ rootMatrix (header .half) (header .phones) phone
+
+pub top-words : (header : Header) (tables : Tables) → Fit header tables → (phone : ℕ) → phone ≤ header .phones
+    → (all one : ℕ) (columns : List ℕ) → all ≡ allPhones (min (header .phones) 64)
+    → one ≡ (if leb phone 64 then alone phone else 0)
+    → columns ≡ take matrixSize (matrixWords (columnsAround (header .half) all one all))
+    → Top header phone columns
+top-words header tables fit phone h all one columns e f g =
+    let half : ℕ = header .half in
+    let top : Matrix = rootMatrix half (header .phones) phone in
+    let range = fit .ranges in
+    let fewest : min (header .phones) 64 ≡ header .phones = omega (arith, range .phones-range .high) in
+    let every-phone : all ≡ allPhones (header .phones) = e ∙ ap allPhones fewest in
+    let own-phone : one ≡ alone phone = f ∙ rw (le-leb phone 64 (omega (arith, range .phones-range .high))) in
+    let own : columns ≡ matrixWords top =
+    g ∙ around-words half all one all (range .half-range .high)
+    ∙ rw (every-phone, own-phone, root-around half (header .phones) phone) in
+    let width : length top ≡ widthOf half = root-length half (header .phones) phone ∙ omega arith in
+    let taken : take (widthOf half) columns ≡ top =
+    ap (take (widthOf half)) own ∙ ap (λ (n : ℕ). take n (matrixWords top)) (sym width) ∙ words-take top in
+    record { words = own ∙ ap matrixWords (sym taken); taken = taken }
+
+-- ---- the leaves of a phone's tree for a state
+
+pub none-listed : (header : Header) (tables : Tables) (phone state : ℕ) → header .states < state
+    → [] ≡ concatMap leafWords (leavesFor (tablesBook header tables) phone state)
+unfolding leavesFor concatMap tablesBook
+none-listed header tables phone state h = rw (lt-leb state (header .states) h)
+
+module _ (header : Header) (nodes classes roots : List ℕ)
+    (fit : Fit header (lentTables nodes classes roots)) (phone state : ℕ) (few : state ≤ header .states)
+    (root : ℕ)
+    (own : root ≡ take (rootCount header) roots ! ((phone - 1) * header .states + (state - 1)))
+    (inside : root < header .nodes) (columns : List ℕ) (top : Top header phone columns)
+  where
+    abbrev book : Book
+    book = tablesBook header (lentTables nodes classes roots)
+
+    abbrev bare : Book
+    bare = tablesBook header (lentTables nodes classes [])
+
+    abbrev matrix : Matrix
+    matrix = take (widthOf (header .half)) columns
+
+    abbrev found : List Leaf
+    found = leavesBelow (header .nodes) bare matrix root
+
+    forward : Forward (treeNodes header nodes)
+    forward = known-forward header nodes (fit .nodes)
+
+    found-fit : AllInTable (header .nodes) found
+    unfolding tablesBook
+    found-fit =
+        let count = tree-nodes-length header nodes in
+        let narrow : length matrix ≤ 7 =
+        rw (top .taken) (omega (
+          arith,
+          root-length (header .half) (header .phones) phone,
+          fit .ranges .half-range .high,
+        )) in
+        rw count at (below-in-table bare forward (header .nodes) matrix root (omega arith) narrow)
+
+    found-apart : distinct (leafNodes found)
+    unfolding tablesBook
+    found-apart =
+        subst distinct (sym (nodes-below (header .nodes) bare matrix root))
+        (leaves-once (treeNodes header nodes) forward (fit .once) (header .nodes) root)
+
+    found-are : ascending found ≡ leavesFor book phone state
+    unfolding leavesFor leavesOf rootOf tablesBook
+    found-are =
+        let count = tree-nodes-length header nodes in
+        rw (le-leb state (header .states) few, top .taken, count, ← own)
+        (ap ascending (below-same bare book refl refl (header .nodes) _ root))
+
+    pub leaves-listed : (empty table : List ℕ) → empty ≡ cleared (leafSize * header .nodes)
+        → table ≡ putLeaves empty (leavesBelow (header .nodes)
+        (tablesBook header (lentTables nodes classes [])) (take (widthOf (header .half)) columns) root)
+        → listed table ≡ concatMap leafWords
+        (leavesFor (tablesBook header (lentTables nodes classes roots)) phone state)
+    leaves-listed empty table e f =
+        ap listed (f ∙ ap (λ (t : List ℕ). putLeaves t found) e)
+        ∙ all-listed (header .nodes) found found-fit found-apart
+        ∙ ap (concatMap leafWords) found-are

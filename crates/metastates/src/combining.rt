@@ -1,0 +1,191 @@
+// The combinations of a book, in lent space: 18, then 30.
+use crate::ByPhone;
+use crate::Choice;
+use crate::Combined;
+use crate::choosing::choose;
+use crate::choosing::room_in;
+use crate::collecting::list_leaves;
+use definitions::Fault;
+use definitions::Header;
+use definitions::Refusal;
+use definitions::wide;
+use lines::clearing::clear_sets;
+use matrix::sets::all_phones;
+use matrix::sets::alone;
+use matrix::shaping::around;
+use tables::foreign::tables_known;
+ghost use mathlib.Core.Path.{_≡_};
+ghost use Prim.Native.Nat.{_*_, _≤_};
+ghost use lib.Dec.{T};
+ghost use lib.ListN.{length};
+ghost use Rattle.definitions.specs.Combinations.{combinationsOf, combinations, combine};
+ghost use Rattle.definitions.specs.Combinations.{combinationSpace, combinationRoom};
+ghost use Rattle.definitions.specs.ForeignTables.{tablesKnown};
+ghost use Rattle.definitions.specs.Lists.{cleared, padded};
+ghost use Rattle.definitions.specs.Tables.{tablesBook};
+ghost use Rattle.tables.specs.Lending.{lentTables};
+ghost use Rattle.metastates.specs.Answers.{combinedOf, endsOf, endsLeft};
+ghost use Rattle.metastates.specs.Choices.{Holding, Grown};
+ghost use Rattle.metastates.specs.Leaves.{leafSize};
+
+// Adds the combinations of a phone; answers how many there are then, or one more than have room.
+fn choose_phone(
+    header: Header,
+    nodes: &[u32],
+    classes: &[u64],
+    roots: &[u32],
+    phone: u32,
+    table: &mut [u64],
+    first: &mut [u64],
+    second: &mut [u64],
+    third: &mut [u64],
+    space: &mut [u64],
+    count: usize,
+) -> usize
+    requires { ⌜
+        T (tablesKnown header (lentTables (now nodes) (now classes) (now roots)))
+        × (1 ≤ phone) × (phone ≤ header .phones) × Holding (now space) count
+        × (length (now table) ≡ leafSize * header .nodes) × (length (now table) ≤ length (now first))
+        × (length (now table) ≤ length (now second)) × (length (now table) ≤ length (now third))
+        ⌝ }
+    ensures space { λ r. ⌜
+        Grown (now (space .entry)) count
+        (combinationsOf (tablesBook header (lentTables (now (nodes .entry)) (now (classes .entry)) (now (roots .entry)))) phone)
+        (now (space .exit)) r
+        ⌝ }
+    ensures lists { λ r. ⌜
+        (length (now (table .exit)) ≡ length (now (table .entry)))
+        × (length (now (first .exit)) ≡ length (now (first .entry)))
+        × (length (now (second .exit)) ≡ length (now (second .entry)))
+        × (length (now (third .exit)) ≡ length (now (third .entry)))
+        ⌝ }
+{
+    let a = list_leaves(header, nodes, classes, roots, phone, 1, table, first);
+    let b = list_leaves(header, nodes, classes, roots, phone, 2, table, second);
+    let c = list_leaves(header, nodes, classes, roots, phone, 3, table, third);
+    let all = all_phones(header.phones);
+    let top = around(header.half, all, alone(phone), all);
+    let start = Choice {
+        phone,
+        taken: 0,
+        leaves: [0, 0, 0],
+        matrix: top,
+    };
+    let width = 2 * wide(header.half) + 1;
+    choose(
+        &first[..8 * a],
+        &second[..8 * b],
+        &third[..8 * c],
+        header.states,
+        width,
+        start,
+        space,
+        count,
+    )
+}
+
+// Adds the combinations of all phones, and notes how many there are after each; answers how many there are, or one more than
+// have room.
+fn choose_all(
+    header: Header,
+    nodes: &[u32],
+    classes: &[u64],
+    roots: &[u32],
+    space: &mut [u64],
+    ends: &mut [u32],
+) -> usize
+    requires { ⌜
+        T (tablesKnown header (lentTables (now nodes) (now classes) (now roots)))
+        × (now space ≡ cleared (length (now space))) × (now ends ≡ cleared 65)
+        ⌝ }
+    ensures space { λ r. ⌜
+        Grown (now (space .entry)) 0
+        (combinations (tablesBook header (lentTables (now (nodes .entry)) (now (classes .entry)) (now (roots .entry)))))
+        (now (space .exit)) r
+        ⌝ }
+    ensures ends { λ r. ⌜
+        (r ≤ combinationRoom (length (now (space .entry)))
+        → now (ends .exit) ≡ padded 65 (endsOf (tablesBook header (lentTables (now (nodes .entry)) (now (classes .entry)) (now (roots .entry))))))
+        ⌝ }
+{
+    let mut table = [0u64; 32768];
+    let mut first = [0u64; 32768];
+    let mut second = [0u64; 32768];
+    let mut third = [0u64; 32768];
+    let size = 8 * wide(header.nodes);
+    let mut count = 0;
+    let mut phone = 1;
+    while phone <= header.phones {
+        count = choose_phone(
+            header,
+            nodes,
+            classes,
+            roots,
+            phone,
+            &mut table[..size],
+            &mut first,
+            &mut second,
+            &mut third,
+            space,
+            count,
+        );
+        if room_in(space.len()) < count {
+            return count;
+        }
+        ends[wide(phone)] = count as u32;
+        phone += 1;
+    }
+    count
+}
+
+// The refusal of a fault.
+fn refuse(fault: Fault) -> ByPhone
+    ensures { λ r. ⌜
+        (r .answer ≡ Combined.Refused (record { fault = fault; line = 0 })) × (r .ends ≡ cleared 65)
+        ⌝ }
+{
+    let answer = Combined::Refused(Refusal { fault, line: 0 });
+    ByPhone {
+        answer,
+        ends: [0; 65],
+    }
+}
+
+// The combinations of a book, as records in the lent space, 0 after the last.
+pub fn combine(
+    header: Header,
+    nodes: &[u32],
+    classes: &[u64],
+    roots: &[u32],
+    space: &mut [u64],
+) -> ByPhone
+    ensures answer { λ r. ⌜
+        r .answer ≡ combinedOf
+        (combine header (lentTables (now (nodes .entry)) (now (classes .entry)) (now (roots .entry)))
+        (length (now (space .entry))))
+        ⌝ }
+    ensures ends { λ r. ⌜
+        r .ends ≡ endsLeft
+        (tablesBook header (lentTables (now (nodes .entry)) (now (classes .entry)) (now (roots .entry))))
+        (combine header (lentTables (now (nodes .entry)) (now (classes .entry)) (now (roots .entry)))
+        (length (now (space .entry))))
+        ⌝ }
+    ensures leaves { λ r. ⌜
+        now (space .exit) ≡ combinationSpace (length (now (space .entry)))
+        (combine header (lentTables (now (nodes .entry)) (now (classes .entry)) (now (roots .entry)))
+        (length (now (space .entry))))
+        ⌝ }
+{
+    clear_sets(space);
+    if !tables_known(header, nodes, classes, roots) {
+        return refuse(Fault::Foreign);
+    }
+    let mut ends = [0u32; 65];
+    let count = choose_all(header, nodes, classes, roots, space, &mut ends);
+    if room_in(space.len()) < count {
+        clear_sets(space);
+        return refuse(Fault::Choices);
+    }
+    let answer = Combined::Combinations(count);
+    ByPhone { answer, ends }
+}

@@ -1,0 +1,28 @@
+// The leaf matrices of a book's trees, and the valid combinations of leaves.
+mod choosing;
+mod collecting;
+pub mod combining;
+mod walking;
+
+use definitions::Refusal;
+use matrix::Matrix;
+
+// What combining answers: how many combinations there are, or the refusal.
+pub enum Combined {
+    Combinations(usize),
+    Refused(Refusal),
+}
+
+// The answer, and how many combinations belong to phones up to each phone; all 0 after a refusal.
+pub struct ByPhone {
+    pub answer: Combined,
+    pub ends: [u32; 65],
+}
+
+// A phone with the leaves chosen so far, one from each of its first trees, and the meet of their matrices.
+struct Choice {
+    phone: u32,
+    taken: usize,
+    leaves: [u64; 3],
+    matrix: Matrix,
+}

@@ -1,0 +1,74 @@
+// The depth-first walk of a tree that computes the matrices of its leaves.
+use definitions::Header;
+use definitions::wide;
+use matrix::Matrix;
+use matrix::cutting::no_side;
+use matrix::cutting::yes_side;
+use matrix::words::put_numbered;
+use tables::records::node_at;
+ghost use mathlib.Core.List.{[], _∷_, _++_};
+ghost use mathlib.Core.Path.{_≡_};
+ghost use Prim.Native.Nat.{_+_, _*_, _≤_, _<_};
+ghost use lib.Dec.{T};
+ghost use lib.ListN.{length, take, drop};
+ghost use Rattle.definitions.specs.Combinations.{leavesBelow};
+ghost use Rattle.definitions.specs.ForeignTables.{headerKnown, nodesKnown};
+ghost use Rattle.definitions.specs.Matrices.{matrixWords};
+ghost use Rattle.definitions.specs.Tables.{nodeRecords, tablesBook};
+ghost use Rattle.tables.specs.Lending.{lentTables};
+ghost use Rattle.metastates.specs.Leaves.{leafSize, widthOf, putLeaves};
+
+// Writes 1 and a matrix into the record of a node.
+fn put_leaf(table: &mut [u64], node: u32, m: Matrix)
+    requires { ⌜ leafSize * node + leafSize ≤ length (now table) ⌝ }
+    ensures { λ r. ⌜
+        now (table .exit)
+        ≡ take (leafSize * node) (now (table .entry)) ++ (1 ∷ m .columns)
+        ++ drop (leafSize * node + leafSize) (now (table .entry))
+        ⌝ }
+{
+    let from = 8 * wide(node);
+    let end = from + 8;
+    put_numbered(&mut table[from..end], 1, m);
+}
+
+// Puts the matrix of each leaf below a node into the leaf's record, 1 before it. Children are greater than
+// their node, so the node count minus the node falls at each call.
+pub fn walk(header: Header, nodes: &[u32], classes: &[u64], node: u32, m: Matrix, table: &mut [u64])
+    requires { ⌜
+        T (headerKnown header) × T (nodesKnown header 0 (nodeRecords header (now nodes)))
+        × (header .classes ≤ length (now classes)) × (node < header .nodes)
+        × (m .columns ≡ matrixWords (take (widthOf (header .half)) (m .columns)))
+        × (length (now table) ≡ leafSize * header .nodes)
+        ⌝ }
+    ensures { λ r. ⌜
+        now (table .exit)
+        ≡ putLeaves (now (table .entry)) (leavesBelow (header .nodes)
+        (tablesBook header (lentTables (now (nodes .entry)) (now (classes .entry)) []))
+        (take (widthOf (header .half)) (m .columns)) node)
+        ⌝ }
+{
+    let record = node_at(nodes, node);
+    if record.kind != 1 {
+        put_leaf(table, node, m);
+        return;
+    }
+    let class = wide(record.value) - 1;
+    let set = classes[class];
+    walk(
+        header,
+        nodes,
+        classes,
+        record.yes,
+        yes_side(m, record.position, set),
+        table,
+    );
+    walk(
+        header,
+        nodes,
+        classes,
+        record.no,
+        no_side(m, record.position, set),
+        table,
+    );
+}
