@@ -1,0 +1,113 @@
+-- `building::connect_in` meets its contract: what connecting leaves, cleared where it refuses.
+use mathlib.Core.Path.{sym}
+use lib.Seq.{length-take-le}
+use borrow.Author.Needs.{needs}
+use Rattle.network.specs.laws.Building.{finished-returns, stopped-returns, refused-returns}
+use Rattle.network.proofs.building.connect_in.Statement.{statement}
+use Rattle.network.proofs.building.connect_in.Tie as tie
+
+mul-used : tie.Need-mul-used
+mul-used c = search needs
+
+slice-reshare-prefix-connect : tie.Need-slice-reshare-prefix-connect
+slice-reshare-prefix-connect c = search needs
+
+slice-aggregate-connect : tie.Need-slice-aggregate-connect
+slice-aggregate-connect c =
+    let start = c .before .before .before .before .before .before in
+    sym (length-take-le _ (start .args .combinations .now) (start .pre .0))
+
+connect-requires : tie.Need-connect-requires
+connect-requires c κs = search needs
+
+enum-known-answer : tie.Need-enum-known-answer
+enum-known-answer c = search needs
+
+same-length : tie.Need-same-length
+same-length c = search needs
+
+same-length-2 : tie.Need-same-length-2
+same-length-2 c = search needs
+
+same-length-3 : tie.Need-same-length-3
+same-length-3 c = search needs
+
+returns : tie.Need-returns
+returns c =
+    let connected = c .before .before .before .before .before .before .before in
+    finished-returns (connected .connect .ensures) _ (c .before .answer .given .1)
+
+enum-known-answer-2 : tie.Need-enum-known-answer-2
+enum-known-answer-2 c = search needs
+
+same-length-4 : tie.Need-same-length-4
+same-length-4 c = search needs
+
+same-length-5 : tie.Need-same-length-5
+same-length-5 c = search needs
+
+same-length-6 : tie.Need-same-length-6
+same-length-6 c = search needs
+
+returns-2 : tie.Need-returns-2
+returns-2 c =
+    let connected = c .before .before .before .before .before .before .before in
+    stopped-returns (connected .connect .ensures) _ (c .before .answer2 .given .1)
+
+enum-known-answer-3 : tie.Need-enum-known-answer-3
+enum-known-answer-3 c = search needs
+
+clear-sets-requires : tie.Need-clear-sets-requires
+clear-sets-requires c κs = search needs
+
+clear-sets-requires-2 : tie.Need-clear-sets-requires-2
+clear-sets-requires-2 c κs = search needs
+
+clear-words-requires : tie.Need-clear-words-requires
+clear-words-requires c κs = search needs
+
+same-length-7 : tie.Need-same-length-7
+same-length-7 c = search needs
+
+same-length-8 : tie.Need-same-length-8
+same-length-8 c = search needs
+
+same-length-9 : tie.Need-same-length-9
+same-length-9 c = search needs
+
+returns-3 : tie.Need-returns-3
+returns-3 c =
+    let third = c .before .before in
+    let second = third .before .before .before .before in
+    let first = second .before .before .before .before in
+    let refused = first .before .before .before in
+    let connected = refused .before .before .before .before .before .before in
+    refused-returns (connected .connect .ensures) _ (refused .answer3 .given .1)
+    (first .clear-sets .ensures) (second .clear-sets2 .ensures) (third .clear-words .ensures)
+
+pub connect-in-spec : {M : Type 1} → statement M
+connect-in-spec =
+    tie.close
+    (tie.spec
+    mul-used
+    slice-reshare-prefix-connect
+    slice-aggregate-connect
+    connect-requires
+    enum-known-answer
+    same-length
+    same-length-2
+    same-length-3
+    returns
+    enum-known-answer-2
+    same-length-4
+    same-length-5
+    same-length-6
+    returns-2
+    enum-known-answer-3
+    clear-sets-requires
+    clear-sets-requires-2
+    clear-words-requires
+    same-length-7
+    same-length-8
+    same-length-9
+    returns-3)

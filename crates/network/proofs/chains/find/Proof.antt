@@ -1,0 +1,138 @@
+-- `chains::find` meets its contract. The loop's invariant: the metastate stands nowhere from `at` on, and
+-- `at` has its key.
+use mathlib.Core.List.{_∷_}
+use native.Mathlib.Omega.{arith}
+use borrow.Author.Needs.{needs}
+use Rattle.network.specs.Chains.{rowsIn}
+use Rattle.network.specs.laws.Finding.{Passed, find-start, find-here, find-end, link-within}
+use Rattle.network.specs.laws.Finding.{find-less, find-next, part-within, part-is, part-other}
+use Rattle.network.proofs.chains.find.Statement.{statement}
+use Rattle.network.proofs.chains.find.Tie as tie
+
+abbrev Inv-loop : tie.InvT-loop
+Inv-loop metastates chains number m at₀ at = Passed (rowsIn metastates) (number ∷ m .columns) at
+
+abbrev μ-loop : tie.MeasureT-loop
+μ-loop metastates chains number m at₀ at = at
+
+key-of-requires : tie.Need-key-of-requires Inv-loop μ-loop
+key-of-requires c κs = search needs
+
+mul-wide : tie.Need-mul-wide Inv-loop μ-loop
+mul-wide c = search needs
+
+shared-slice-read-wide : tie.Need-shared-slice-read-wide Inv-loop μ-loop
+shared-slice-read-wide c =
+    let linked = c .before .before .before .before .pre in
+    omega (arith, linked .sized, c .before .key-of .ensures .1)
+
+wide-requires : tie.Need-wide-requires Inv-loop μ-loop
+wide-requires c κs = search needs
+
+loop-holds : tie.Need-loop-holds Inv-loop μ-loop
+loop-holds c =
+    let start = c .before .before .before .before .before in
+    find-start (start .pre) (start .args .number ∷ start .args .m .columns)
+    (c .before .before .key-of .ensures .0) (c .wide .ensures)
+
+sub-from : tie.Need-sub-from Inv-loop μ-loop
+sub-from c = search needs
+
+mul-from : tie.Need-mul-from Inv-loop μ-loop
+mul-from c = search needs
+
+add-is-numbered : tie.Need-add-is-numbered Inv-loop μ-loop
+add-is-numbered c = search needs
+
+mul-is-numbered : tie.Need-mul-is-numbered Inv-loop μ-loop
+mul-is-numbered c = search needs
+
+sub-is-numbered : tie.Need-sub-is-numbered Inv-loop μ-loop
+sub-is-numbered c = search needs
+
+part-is-numbered-start : tie.Need-part-is-numbered-start Inv-loop μ-loop
+part-is-numbered-start c = search needs
+
+part-is-numbered-end : tie.Need-part-is-numbered-end Inv-loop μ-loop
+part-is-numbered-end c =
+    let start = c .before .before .before .before .before .before .before in
+    part-within (start .args .metastates .now) (c .before .loop .inv) (c .loop-test .taken)
+
+is-numbered-requires : tie.Need-is-numbered-requires Inv-loop μ-loop
+is-numbered-requires c κs = search needs
+
+returns : tie.Need-returns Inv-loop μ-loop
+returns c =
+    let turn = c .before .before .before in
+    let inv = turn .before .loop .inv in
+    let start = turn .before .before .before .before .before .before .before in
+    let row = start .args .number ∷ start .args .m .columns in
+    find-here (start .pre) row inv (turn .loop-test .taken)
+    (part-is (start .args .metastates .now) inv (turn .loop-test .taken) (c .before .is-numbered .ensures)
+    (c .if1 .taken))
+
+add-wide : tie.Need-add-wide Inv-loop μ-loop
+add-wide c = search needs
+
+mul-wide-2 : tie.Need-mul-wide-2 Inv-loop μ-loop
+mul-wide-2 c = search needs
+
+shared-slice-read-wide-2 : tie.Need-shared-slice-read-wide-2 Inv-loop μ-loop
+shared-slice-read-wide-2 c =
+    let turn = c .before .before .before .before in
+    let start = turn .before .before .before .before .before .before .before in
+    link-within (start .pre) (start .args .number ∷ start .args .m .columns) (turn .before .loop .inv)
+
+wide-requires-2 : tie.Need-wide-requires-2 Inv-loop μ-loop
+wide-requires-2 c κs = search needs
+
+loop-less : tie.Need-loop-less Inv-loop μ-loop
+loop-less c =
+    let turn = c .before .before .before .before .before in
+    let start = turn .before .before .before .before .before .before .before in
+    find-less (start .pre) (start .args .number ∷ start .args .m .columns) (turn .before .loop .inv)
+    (turn .loop-test .taken) (c .wide2 .ensures)
+
+loop-again : tie.Need-loop-again Inv-loop μ-loop
+loop-again c =
+    let turn = c .before .before .before .before .before in
+    let inv = turn .before .loop .inv in
+    let start = turn .before .before .before .before .before .before .before in
+    let row = start .args .number ∷ start .args .m .columns in
+    find-next (start .pre) row inv (turn .loop-test .taken) (c .wide2 .ensures)
+    (part-other (start .args .metastates .now) inv (turn .loop-test .taken)
+    (c .before .before .before .is-numbered .ensures) (c .before .before .if1 .left))
+
+returns-2 : tie.Need-returns-2 Inv-loop μ-loop
+returns-2 c =
+    let start = c .before .before .before .before .before .before .before in
+    find-end (start .pre) (start .args .number ∷ start .args .m .columns) (c .before .loop .inv)
+    (c .loop-test .left)
+
+pub find-spec : {M : Type 1} → statement M
+find-spec =
+    tie.close
+    (tie.spec
+    Inv-loop
+    μ-loop
+    key-of-requires
+    mul-wide
+    shared-slice-read-wide
+    wide-requires
+    loop-holds
+    sub-from
+    mul-from
+    add-is-numbered
+    mul-is-numbered
+    sub-is-numbered
+    part-is-numbered-start
+    part-is-numbered-end
+    is-numbered-requires
+    returns
+    add-wide
+    mul-wide-2
+    shared-slice-read-wide-2
+    wide-requires-2
+    loop-less
+    loop-again
+    returns-2)

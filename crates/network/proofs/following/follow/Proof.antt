@@ -1,0 +1,158 @@
+-- `following::follow` meets its contract. The loop's invariant: the followers before `number` were entered.
+use Prim.Native.Nat.{_-_, _/_}
+use native.Mathlib.Omega.{arith}
+use lib.ListN.{length}
+use borrow.Author.Needs.{needs}
+use Rattle.definitions.specs.Combinations.{combinationSize}
+use Rattle.network.specs.laws.RecordWords.{record-within, number-in, number-out}
+use Rattle.network.specs.laws.Followers.{narrow, met-matrix, met-seven}
+use Rattle.network.specs.laws.Following.{Followed, followed-start, followed-end, followed-stop}
+use Rattle.network.specs.laws.Following.{followed-next}
+use Rattle.network.proofs.following.follow.Statement.{statement}
+use Rattle.network.proofs.following.follow.Tie as tie
+
+abbrev Inv-loop : tie.InvT-loop
+Inv-loop header nodes combinations ends metastates₀ arcs₀ chains₀ from shifted now₀ number₀
+    metastates arcs chains now number =
+    Followed header nodes combinations (shifted .columns) from metastates₀ arcs₀ chains₀ now₀
+    metastates arcs chains now number
+
+abbrev μ-loop : tie.MeasureT-loop
+μ-loop header nodes combinations ends metastates₀ arcs₀ chains₀ from shifted now₀ number₀
+    metastates arcs chains now number =
+    length combinations / combinationSize - number
+
+-- from either arm: the call that entered a follower, the turn that it stands in, and where the function begins
+abbrev called : tie.After-slice-known6 Inv-loop μ-loop → tie.After-enter Inv-loop μ-loop
+called c = c .before .before .before .before .before .before
+
+abbrev inside : tie.After-enter Inv-loop μ-loop → tie.In-loop Inv-loop μ-loop
+inside c = c .before .before .before .before .before .before
+
+abbrev start : tie.In-loop Inv-loop μ-loop → tie.Start Inv-loop μ-loop
+start c = c .before .before .before .before .before .before .before .before .before
+
+next-follower-requires : tie.Need-next-follower-requires Inv-loop μ-loop
+next-follower-requires c κs =
+    let pre = c .before .before .before .before .before .before .pre in
+    (pre .0, pre .2, search needs, pre .3)
+
+loop-holds : tie.Need-loop-holds Inv-loop μ-loop
+loop-holds c =
+    let pre = c .before .before .before .before .before .before .before .pre in
+    followed-start _ _ (pre .4) (c .next-follower .ensures)
+
+matrix-of-requires : tie.Need-matrix-of-requires Inv-loop μ-loop
+matrix-of-requires c κs =
+    record-within _ _ (start c .pre .0) _ (number-in _ _ (c .loop-test .taken))
+
+meet-requires : tie.Need-meet-requires Inv-loop μ-loop
+meet-requires c κs = search needs
+
+enter-requires : tie.Need-enter-requires Inv-loop μ-loop
+enter-requires c κs =
+    let met = c .before .before .before in
+    let turn = met .before .before in
+    let pre = start turn .pre in
+    let here = number-in _ _ (turn .loop-test .taken) in (
+      pre .0,
+      pre .1,
+      here,
+      met-seven _ _ (pre .0) _ (pre .3) _ here (met .before .matrix-of .ensures) (met .meet .ensures),
+      turn .before .loop .inv .holds,
+    )
+
+enum-known-step : tie.Need-enum-known-step Inv-loop μ-loop
+enum-known-step c = search needs
+
+enum-known-step-2 : tie.Need-enum-known-step-2 Inv-loop μ-loop
+enum-known-step-2 c = search needs
+
+same-length : tie.Need-same-length Inv-loop μ-loop
+same-length c = search needs
+
+same-length-2 : tie.Need-same-length-2 Inv-loop μ-loop
+same-length-2 c = search needs
+
+same-length-3 : tie.Need-same-length-3 Inv-loop μ-loop
+same-length-3 c = search needs
+
+returns : tie.Need-returns Inv-loop μ-loop
+returns c =
+    let call = called (c .before .before .before) in
+    let turn = inside call in
+    let pre = start turn .pre in
+    let here = number-in _ _ (turn .loop-test .taken) in
+    let met = call .before .before .before .before in
+    let matrix =
+    met-matrix _ _ (pre .0) _ (pre .3) _ here (met .before .matrix-of .ensures) (met .meet .ensures) in
+    followed-stop (turn .before .loop .inv) here matrix (call .enter .ensures) (c .before .step2 .given .1)
+
+add-next-follower : tie.Need-add-next-follower Inv-loop μ-loop
+add-next-follower c =
+    let turn = inside (called (c .before .before .before)) in
+    let args = start turn .args in
+    let here = number-in (args .header) (args .combinations .now) (turn .loop-test .taken) in
+    omega (arith, start turn .pre .0 .few)
+
+next-follower-requires-2 : tie.Need-next-follower-requires-2 Inv-loop μ-loop
+next-follower-requires-2 c κs =
+    let turn = inside (called (c .before .before .before)) in
+    let args = start turn .args in
+    let pre = start turn .pre in
+    let here = number-in (args .header) (args .combinations .now) (turn .loop-test .taken) in
+    (pre .0, pre .2, omega arith, pre .3)
+
+loop-less : tie.Need-loop-less Inv-loop μ-loop
+loop-less c = search needs
+
+loop-again : tie.Need-loop-again Inv-loop μ-loop
+loop-again c =
+    let call = called (c .before .before .before .before) in
+    let turn = inside call in
+    let pre = start turn .pre in
+    let here = number-in _ _ (turn .loop-test .taken) in
+    let met = call .before .before .before .before in
+    let matrix =
+    met-matrix _ _ (pre .0) _ (pre .3) _ here (met .before .matrix-of .ensures) (met .meet .ensures) in
+    followed-next (turn .before .loop .inv) here matrix (call .enter .ensures) (narrow _ _ (pre .0))
+    (c .before .before .step .given .1) (c .next-follower2 .ensures)
+
+same-length-4 : tie.Need-same-length-4 Inv-loop μ-loop
+same-length-4 c = search needs
+
+same-length-5 : tie.Need-same-length-5 Inv-loop μ-loop
+same-length-5 c = search needs
+
+same-length-6 : tie.Need-same-length-6 Inv-loop μ-loop
+same-length-6 c = search needs
+
+returns-2 : tie.Need-returns-2 Inv-loop μ-loop
+returns-2 c =
+    followed-end (c .before .loop .inv) (number-out _ _ (c .loop-test .left))
+
+pub follow-spec : {M : Type 1} → statement M
+follow-spec =
+    tie.close
+    (tie.spec
+    Inv-loop
+    μ-loop
+    next-follower-requires
+    loop-holds
+    matrix-of-requires
+    meet-requires
+    enter-requires
+    enum-known-step
+    enum-known-step-2
+    same-length
+    same-length-2
+    same-length-3
+    returns
+    add-next-follower
+    next-follower-requires-2
+    loop-less
+    loop-again
+    same-length-4
+    same-length-5
+    same-length-6
+    returns-2)

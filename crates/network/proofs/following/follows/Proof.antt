@@ -1,0 +1,83 @@
+-- `following::follows` meets its contract: where the centre has the phone, the meet is tried.
+use mathlib.Core.Path.{sym}
+use native.Mathlib.Omega.{arith}
+use borrow.Author.Needs.{needs}
+use Rattle.definitions.specs.laws.Tests.{failed}
+use Rattle.network.specs.laws.RecordWords.{record-within, record-phone}
+use Rattle.network.specs.laws.Followers.{narrow, not-following, following-valid}
+use Rattle.network.proofs.following.follows.Statement.{statement}
+use Rattle.network.proofs.following.follows.Tie as tie
+
+wide-requires : tie.Need-wide-requires
+wide-requires c κs = search needs
+
+mul-centre : tie.Need-mul-centre
+mul-centre c = search needs
+
+element-copy-out-centre : tie.Need-element-copy-out-centre
+element-copy-out-centre c =
+    let start = c .before .before in
+    omega (arith, c .wide .ensures, narrow _ _ (start .pre .0))
+
+phone-of-requires : tie.Need-phone-of-requires
+phone-of-requires c κs =
+    let start = c .before .before .before in
+    record-phone _ _ (start .pre .0) _ (start .pre .1)
+
+has-phone-requires : tie.Need-has-phone-requires
+has-phone-requires c κs = search needs
+
+returns : tie.Need-returns
+returns c =
+    let tested = c .before in
+    let known = tested .before in
+    let start = known .before .before .before .before in
+    sym (not-following _ _ (start .pre .0) _ (start .pre .2) _ (start .pre .1) (known .phone-of .ensures)
+    (known .before .before .wide .ensures) (failed (tested .has-phone .ensures) (c .if1 .taken)))
+
+matrix-of-requires : tie.Need-matrix-of-requires
+matrix-of-requires c κs =
+    let start = c .before .before .before .before .before .before in
+    record-within _ _ (start .pre .0) _ (start .pre .1)
+
+meet-requires : tie.Need-meet-requires
+meet-requires c κs = search needs
+
+wide-requires-2 : tie.Need-wide-requires-2
+wide-requires-2 c κs = search needs
+
+mul-valid : tie.Need-mul-valid
+mul-valid c = search needs
+
+add-valid : tie.Need-add-valid
+add-valid c = search needs
+
+valid-requires : tie.Need-valid-requires
+valid-requires c κs = search needs
+
+returns-2 : tie.Need-returns-2
+returns-2 c =
+    let widened = c .before in
+    let met = widened .before in
+    let read = met .before in
+    let start = read .before .before .before .before .before .before .before in
+    following-valid _ _ (start .pre .0) _ (start .pre .2) _ (start .pre .1) (read .matrix-of .ensures)
+    (met .meet .ensures) (widened .wide2 .ensures) (c .valid .ensures)
+
+pub follows-spec : {M : Type 1} → statement M
+follows-spec =
+    tie.close
+    (tie.spec
+    wide-requires
+    mul-centre
+    element-copy-out-centre
+    phone-of-requires
+    has-phone-requires
+    returns
+    matrix-of-requires
+    meet-requires
+    wide-requires-2
+    mul-valid
+    add-valid
+    valid-requires
+    returns-2)

@@ -1,0 +1,34 @@
+-- What a build and the handing out of arcs answer, and the lent slices of their contracts.
+use mathlib.Core.List.{List}
+use Prim.Native.Nat.{ℕ}
+use lib.ListN.{length}
+use Rattle.definitions.specs.Faults.{Outcome, answered, refused, numberOf}
+use Rattle.definitions.specs.Connecting.{Network, Built, finished, stopped}
+use Rattle.definitions.specs.Building.{Space, Buffers, countsIn}
+use Rattle.definitions.specs.Leaving.{Part}
+use Rattle.network.specs.declared.Totals.{Totals}
+use Rattle.network.specs.declared.Build.{Build}
+use Rattle.network.specs.declared.Build.the-variants as build
+
+-- "with the turns done and the counts of metastates and arcs", with k
+unfoldable pub totalsOf : (states turns : ℕ) → Network → Totals
+totalsOf states turns net = record { turns = turns; counts = countsIn states net }
+
+unfoldable pub buildOf : (states : ℕ) → Outcome Built → Build
+buildOf states (answered (finished turns net)) = build.Finished (totalsOf states turns net)
+buildOf states (answered (stopped turns net)) = build.Stopped (totalsOf states turns net)
+buildOf states (refused r) = build.Refused r
+
+-- the three lent slices of a build: their lengths, and what is left in them
+abbrev pub lentSpace : (combinations metastates arcs : List ℕ) → Space
+lentSpace combinations metastates arcs =
+    record { combinations = length combinations; metastates = length metastates; arcs = length arcs }
+
+abbrev pub lentBuffers : (combinations metastates arcs : List ℕ) → Buffers
+lentBuffers combinations metastates arcs =
+    record { combinations = combinations; metastates = metastates; arcs = arcs }
+
+-- the number of the fault, 0 where a part is handed out
+unfoldable pub faultOf : Outcome Part → ℕ
+faultOf (answered part) = 0
+faultOf (refused r) = numberOf (r .fault)

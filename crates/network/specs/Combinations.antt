@@ -1,0 +1,81 @@
+-- Combinations in lent words, and what is known of them: those of a book with known tables.
+use mathlib.Core.Path.{_≡_}
+use mathlib.Core.List.{List, [], map}
+use Prim.Native.Nat.{ℕ, _+_, _*_, _/_, _≤_, _<_, _^_}
+use lib.Dec.{T}
+use lib.ListN.{length, take, drop, getD}
+use Rattle.definitions.specs.declared.Header.{Header}
+use Rattle.definitions.specs.Lists.{_!_, concatMap, records}
+use Rattle.definitions.specs.PhoneSets.{has}
+use Rattle.definitions.specs.BookLines.{leaf}
+use Rattle.definitions.specs.Tables.{Book, tablesBook}
+use Rattle.definitions.specs.ForeignTables.{headerKnown}
+use Rattle.definitions.specs.Lookup.{nodeAt}
+use Rattle.definitions.specs.Combinations.{Combination, combinationSize, combinationWords}
+use Rattle.definitions.specs.Metastates.{noCombination}
+use Rattle.tables.specs.Lending.{lentTables}
+
+-- the columns of a book's matrices
+abbrev pub widthOf : (half : ℕ) → ℕ
+widthOf half = 2 * half + 1
+
+-- a combination read back from its record
+unfoldable pub combinationIn : Header → List ℕ → Combination
+combinationIn header words =
+    record {
+      phone = words ! 0;
+      leaves = take (header .states) (drop 1 words);
+      matrix = take (widthOf (header .half)) (drop 4 words);
+    }
+
+-- the combinations in whole records
+unfoldable pub combinationsIn : Header → (words : List ℕ) → List Combination
+combinationsIn header words =
+    map (combinationIn header) (records combinationSize (length words / combinationSize) words)
+
+abbrev pub numbered : List Combination → (number : ℕ) → Combination
+numbered combinations number = getD combinations number noCombination
+
+-- what connecting needs of the book: its nodes, and not its classes and roots
+abbrev pub nodesBook : Header → (nodes : List ℕ) → Book
+nodesBook header nodes = tablesBook header (lentTables nodes [] [])
+
+-- a combination of the book: its phone, a leaf for each state, columns that hold the book's phones, the centre
+-- none but its own
+pub record IsChoice (header : Header) (c : Combination) : Type 0 where
+  pub phone : 1 ≤ c .phone
+  pub phones : c .phone ≤ header .phones
+  pub states : length (c .leaves) ≡ header .states
+  pub width : length (c .matrix) ≡ widthOf (header .half)
+  pub below : (column : ℕ) → (c .matrix ! column) < 2 ^ header .phones
+  pub centre : (p : ℕ) → T (has p (c .matrix ! header .half)) → p ≡ c .phone
+
+-- words that hold combinations of the book, and nothing else
+pub record Usable (header : Header) (words : List ℕ) : Type 0 where
+  pub header-known : T (headerKnown header)
+  pub few : length (combinationsIn header words) ≤ 65535
+  pub flat : words ≡ concatMap combinationWords (combinationsIn header words)
+  pub each : (number : ℕ) → number < length (combinationsIn header words)
+      → IsChoice header (numbered (combinationsIn header words) number)
+
+-- their leaves are leaves of the book
+abbrev pub Modelled : Header → (nodes words : List ℕ) → Type 0
+Modelled header nodes words =
+    (number state : ℕ) → number < length (combinationsIn header words) → state < header .states
+    → ((numbered (combinationsIn header words) number .leaves ! state) < header .nodes)
+    × ((model : ℕ)
+    × (nodeAt (nodesBook header nodes .nodes) (numbered (combinationsIn header words) number .leaves ! state)
+    ≡ leaf model))
+
+-- where the combinations of a phone end: from any of them on up to there, all have that phone
+pub record EndsAt (combinations : List Combination) (ends : List ℕ) (number : ℕ) : Type 0 where
+  pub later : number < (ends ! (numbered combinations number .phone))
+  pub within : (ends ! (numbered combinations number .phone)) ≤ length combinations
+  pub same-phone : (i : ℕ) → number ≤ i → i < (ends ! (numbered combinations number .phone))
+      → numbered combinations i .phone ≡ numbered combinations number .phone
+
+-- where the combinations of each phone end
+pub record Ending (header : Header) (words ends : List ℕ) : Type 0 where
+  pub sized : length ends ≡ 65
+  pub ends-at : (number : ℕ) → number < length (combinationsIn header words)
+      → EndsAt (combinationsIn header words) ends number

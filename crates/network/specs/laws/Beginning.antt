@@ -1,0 +1,83 @@
+-- Laws about the start of a build: nothing is held yet, and the start metastates are entered as followers of
+-- silence with silence to its left.
+use mathlib.Core.Path.{_≡_, refl, sym, ap, ap₂, _∙_, subst}
+use mathlib.Core.List.{List, map}
+use Prim.Native.Nat.{ℕ, min}
+use native.Mathlib.Omega.{arith}
+use lib.ListN.{length, take}
+use Rattle.definitions.specs.declared.Header.{Header}
+use Rattle.definitions.specs.Faults.{Outcome}
+use Rattle.definitions.specs.Lists.{records}
+use Rattle.definitions.specs.PhoneSets.{allPhones}
+use Rattle.definitions.specs.Arcs.{arcsIn}
+use Rattle.definitions.specs.Matrices.{Matrix, matrixSize, matrixWords}
+use Rattle.definitions.specs.Tables.{tablesBook}
+use Rattle.definitions.specs.Combinations.{Combination}
+use Rattle.definitions.specs.Metastates.{Metastate, starts, followersFrom}
+use Rattle.definitions.specs.Connecting.{Network, enter, startEvents, noNetwork, performAll}
+use Rattle.definitions.specs.laws.SevenWords.{words-take}
+use Rattle.matrix.specs.Shapes.{columnsAround}
+use Rattle.matrix.specs.laws.Shapes.{around-length, around-words}
+use Rattle.tables.specs.laws.Known.{header-ranges}
+use Rattle.network.specs.declared.Sizes.{Sizes}
+use Rattle.network.specs.declared.Step.{Step}
+use Rattle.network.specs.Combinations.{widthOf, combinationsIn, nodesBook, Usable}
+use Rattle.network.specs.Networks.{metastatesIn, networkHeld, roomOf, Holds}
+use Rattle.network.specs.Steps.{Leaves}
+use Rattle.network.specs.laws.Starting.{beforeStart, starts-follow}
+
+-- no records hold no network
+abbrev none : Sizes
+none = record { metastates = 0; arcs = 0 }
+
+none-held : (half : ℕ) (metastates arcs : List ℕ) → networkHeld half none metastates arcs ≡ noNetwork
+unfolding metastatesIn arcsIn records
+none-held half metastates arcs = refl
+
+pub holds-none : {half count : ℕ} {metastates arcs chains : List ℕ}
+    → Holds half count noNetwork metastates arcs chains
+    → Holds half count (networkHeld half none metastates arcs) metastates arcs chains
+holds-none {half} {count} {metastates} {arcs} {chains} h =
+    subst (λ (net : Network). Holds half count net metastates arcs chains)
+    (sym (none-held half metastates arcs)) h
+
+module _ {header : Header} {combinations : List ℕ} (usable : Usable header combinations) {all : ℕ}
+    {columns : List ℕ} (a : all ≡ allPhones (min (header .phones) 64))
+    (e : columns ≡ take matrixSize (matrixWords (columnsAround (header .half) 1 1 all)))
+  where
+    columns-are : columns ≡ matrixWords (beforeStart header)
+    columns-are =
+        let ranges = header-ranges header (usable .header-known) in
+        let phones : min (header .phones) 64 ≡ header .phones = omega (arith, ranges .phones-range .high) in
+        e ∙ around-words (header .half) 1 1 all (ranges .half-range .high)
+        ∙ ap (λ (n : ℕ). matrixWords (columnsAround (header .half) 1 1 n)) (a ∙ ap allPhones phones)
+
+    columns-is : take (widthOf (header .half)) columns ≡ beforeStart header
+    columns-is =
+        let width : widthOf (header .half) ≡ length (beforeStart header) =
+        omega (arith, around-length (header .half) 1 1 (allPhones (header .phones))) in
+        ap₂ take width columns-are ∙ words-take (beforeStart header)
+
+    pub before-wide : columns ≡ matrixWords (take (widthOf (header .half)) columns)
+    before-wide = columns-are ∙ ap matrixWords (sym columns-is)
+
+    abbrev cs : List Combination
+    cs = combinationsIn header combinations
+
+    pub started : (nodes : List ℕ) {metastates arcs metastates′ arcs′ chains′ : List ℕ} {answer : Step}
+        → Leaves (header .half) (length cs) metastates arcs
+        (performAll (nodesBook header nodes) cs (roomOf metastates arcs)
+        (networkHeld (header .half) none metastates arcs)
+        (map (enter 0) (followersFrom (take (widthOf (header .half)) columns) 0 cs)))
+        answer metastates′ arcs′ chains′
+        → Leaves (header .half) (length cs) metastates arcs
+        (performAll (nodesBook header nodes) cs (roomOf metastates arcs) noNetwork
+        (startEvents (nodesBook header nodes) cs))
+        answer metastates′ arcs′ chains′
+    unfolding startEvents starts tablesBook metastatesIn arcsIn records
+    started nodes {metastates} {arcs} {metastates′} {arcs′} {chains′} {answer} left =
+        let entering : (List Metastate → Outcome Network) =
+        λ l. performAll (nodesBook header nodes) cs (roomOf metastates arcs) noNetwork (map (enter 0) l) in
+        subst (λ (l : List Metastate).
+        Leaves (header .half) (length cs) metastates arcs (entering l) answer metastates′ arcs′ chains′)
+        (ap (λ (m : Matrix). followersFrom m 0 cs) columns-is ∙ sym (starts-follow header cs (usable .each))) left

@@ -1,0 +1,208 @@
+-- Laws about appending the arcs to followers: what holds before each, and what a refusal or the last leaves.
+-- The idea: what is still to be performed, from the network so far, leads to the same as all from the first.
+use mathlib.Core.Path.{_≡_, refl, sym, ap, _∙_, subst}
+use mathlib.Core.List.{List, map}
+use mathlib.Core.Bool.{true}
+use Prim.Native.Nat.{ℕ, suc, _+_, _≤_, _<_}
+use native.Mathlib.Numerals.{add-one}
+use lib.ListN.{length, take, length-map}
+use Rattle.definitions.specs.declared.Fault.{Fault}
+use Rattle.definitions.specs.declared.Header.{Header}
+use Rattle.definitions.specs.Faults.{Outcome, answered, refused, andThen}
+use Rattle.definitions.specs.Lists.{records}
+use Rattle.definitions.specs.Matrices.{Matrix, valid, meet}
+use Rattle.definitions.specs.Combinations.{Combination}
+use Rattle.definitions.specs.Arcs.{arcSize, arcOf, arcsIn}
+use Rattle.definitions.specs.Metastates.{Metastate, metastateSize}
+use Rattle.definitions.specs.Connecting.{Network, enter, perform, performAll}
+use Rattle.definitions.specs.laws.Judging.{refused-not-answered}
+use Rattle.definitions.specs.laws.Records.{records-length}
+use Rattle.network.specs.declared.Sizes.{Sizes}
+use Rattle.network.specs.declared.Step.{Step}
+use Rattle.network.specs.declared.Step.the-variants as step
+use Rattle.network.specs.Combinations.{widthOf, combinationsIn, numbered, nodesBook}
+use Rattle.network.specs.Networks.{metastateIn, metastatesIn, networkHeld, sizesOf, roomOf, Holds}
+use Rattle.network.specs.Following.{NextFollower}
+use Rattle.network.specs.Steps.{stepOf, Leaves}
+use Rattle.network.specs.laws.Followers.{followersAt, metAt, followers-skip, followers-found, followers-out}
+use Rattle.network.specs.laws.HeldBack.{held-back}
+use Rattle.network.specs.laws.Steps.{step-next, step-stop}
+
+-- the matrix in seven columns
+abbrev pub cut : Header → (columns : List ℕ) → Matrix
+cut header columns = take (widthOf (header .half)) columns
+
+-- what entering metastates leads to, in the room of the lent words
+abbrev pub entering : Header → (nodes words : List ℕ) (from : ℕ) (metastates arcs : List ℕ)
+    → Network → List Metastate → Outcome Network
+entering header nodes words from metastates arcs net xs =
+    performAll (nodesBook header nodes) (combinationsIn header words) (roomOf metastates arcs) net
+    (map (enter from) xs)
+
+-- the same for the followers from a combination on
+abbrev pub enteringFrom : Header → (nodes words columns : List ℕ) (from : ℕ) (metastates arcs : List ℕ)
+    → Network → (number : ℕ) → Outcome Network
+enteringFrom header nodes words columns from metastates arcs net number =
+    entering header nodes words from metastates arcs net
+    (followersAt (cut header columns) (combinationsIn header words) number)
+
+-- before the arc to combination `number`, which is the next follower or past the last: the network so far is
+-- held, and what is still to be performed leads to the same as all
+pub record Followed (header : Header) (nodes words columns : List ℕ) (from : ℕ)
+    (metastates₀ arcs₀ chains₀ : List ℕ) (sizes₀ : Sizes) (metastates arcs chains : List ℕ) (sizes : Sizes)
+    (number : ℕ) : Type 0 where
+  pub found : number < length (combinationsIn header words)
+      → valid (meet (cut header columns) (numbered (combinationsIn header words) number .matrix)) ≡ true
+  pub holds : Holds (header .half) (length (combinationsIn header words))
+      (networkHeld (header .half) sizes metastates arcs) metastates arcs chains
+  pub metastates-sized : length metastates ≡ length metastates₀
+  pub arcs-sized : length arcs ≡ length arcs₀
+  pub chains-sized : length chains ≡ length chains₀
+  pub rest : enteringFrom header nodes words columns from metastates₀ arcs₀
+      (networkHeld (header .half) sizes₀ metastates₀ arcs₀) 0
+      ≡ enteringFrom header nodes words columns from metastates₀ arcs₀
+      (networkHeld (header .half) sizes metastates arcs) number
+
+-- ---- before the first
+
+pub followed-start : {header : Header} {words columns metastates arcs chains : List ℕ} {sizes : Sizes}
+    {number : ℕ} (nodes : List ℕ) (from : ℕ)
+    → Holds (header .half) (length (combinationsIn header words))
+    (networkHeld (header .half) sizes metastates arcs) metastates arcs chains
+    → NextFollower (cut header columns) (combinationsIn header words) 0 number
+    → Followed header nodes words columns from metastates arcs chains sizes metastates arcs chains sizes number
+followed-start {header} {words} {columns} {metastates} {arcs} {chains} {sizes} nodes from h next = record {
+  found = next .found;
+  holds = h;
+  metastates-sized = refl;
+  arcs-sized = refl;
+  chains-sized = refl;
+  rest =
+      ap (entering header nodes words from metastates arcs (networkHeld (header .half) sizes metastates arcs))
+      (followers-skip (cut header columns) (combinationsIn header words) next);
+}
+
+-- a network read back has as many metastates and arcs as it was asked for
+sizes-held : (half : ℕ) (sizes : Sizes) (metastates arcs : List ℕ)
+    → sizesOf (networkHeld half sizes metastates arcs) ≡ sizes
+unfolding metastatesIn arcsIn
+sizes-held half sizes metastates arcs =
+    let rows : List (List ℕ) = records metastateSize (sizes .metastates) metastates in
+    let lines : List (List ℕ) = records arcSize (sizes .arcs) arcs in
+    λ i. record {
+      metastates = (length-map rows (metastateIn (widthOf half)) ∙ records-length metastateSize _ metastates) i;
+      arcs = (length-map lines arcOf ∙ records-length arcSize _ arcs) i;
+    }
+
+module _ {header : Header} {nodes words columns : List ℕ} {from : ℕ} {metastates₀ arcs₀ chains₀ : List ℕ}
+    {sizes₀ : Sizes} {metastates arcs chains : List ℕ} {sizes : Sizes} {number : ℕ}
+    (t : Followed header nodes words columns from metastates₀ arcs₀ chains₀ sizes₀ metastates arcs chains sizes
+    number)
+  where
+    abbrev cs : List Combination
+    cs = combinationsIn header words
+
+    abbrev now : Network
+    now = networkHeld (header .half) sizes metastates arcs
+
+    -- what the followers from the first on, or from one on, lead to
+    abbrev all : Outcome Network
+    all =
+        enteringFrom header nodes words columns from metastates₀ arcs₀
+        (networkHeld (header .half) sizes₀ metastates₀ arcs₀) 0
+
+    abbrev onward : (number : ℕ) → Network → Outcome Network
+    onward number net = enteringFrom header nodes words columns from metastates₀ arcs₀ net number
+
+    -- ---- past the last
+
+    answers-same : {k l : Network} → _≡_ {A = Outcome Network} (answered k) (answered l) → k ≡ l
+    answers-same e = cc
+
+    pub followed-end : length cs ≤ number
+        → Leaves (header .half) (length cs) metastates₀ arcs₀ all (step.Next sizes) metastates arcs chains
+    unfolding performAll stepOf
+    followed-end h = record {
+      answers = sym (ap stepOf done ∙ ap step.Next (sizes-held (header .half) sizes metastates arcs));
+      holds = λ net e.
+          subst (λ (n : Network). Holds (header .half) (length cs) n metastates arcs chains)
+          (answers-same (sym done ∙ e)) (t .holds);
+      metastates-sized = t .metastates-sized;
+      arcs-sized = t .arcs-sized;
+    }
+      where
+        done : all ≡ answered now
+        done =
+            t .rest
+            ∙ ap (entering header nodes words from metastates₀ arcs₀ now)
+            (followers-out (cut header columns) cs number h)
+
+    -- ---- a follower, and what entering it answers and leaves
+
+    module _ (h : number < length cs) {met : Matrix}
+        (m : met ≡ meet (cut header columns) (numbered cs number .matrix)) where
+      abbrev entered : Outcome Network
+      entered =
+          perform (nodesBook header nodes) cs (roomOf metastates arcs) now
+          (enter from (record { number = number; matrix = met }))
+
+      -- its arc first, then the others
+      first-then : all ≡ andThen entered (onward (suc number))
+      unfolding performAll
+      first-then =
+          t .rest
+          ∙ ap (entering header nodes words from metastates₀ arcs₀ now)
+          (followers-found (cut header columns) cs number (t .found) h)
+          ∙ ap (λ (o : Outcome Network). andThen o (onward (suc number))) same
+        where
+          same-room : roomOf metastates₀ arcs₀ ≡ roomOf metastates arcs
+          same-room = rw (← t .metastates-sized, ← t .arcs-sized)
+
+          same : perform (nodesBook header nodes) cs (roomOf metastates₀ arcs₀) now
+              (enter from (metAt (cut header columns) cs number)) ≡ entered
+          same = rw (same-room, ← m)
+
+      module _ {answer : Step} {metastates′ arcs′ chains′ : List ℕ}
+          (leaves : Leaves (header .half) (length cs) metastates arcs entered answer metastates′ arcs′ chains′)
+        where
+          -- it is refused
+          pub followed-stop : {fault : Fault} → answer ≡ step.Stop fault
+              → Leaves (header .half) (length cs) metastates₀ arcs₀ all (step.Stop fault) metastates′ arcs′ chains′
+          unfolding andThen stepOf
+          followed-stop {fault} stops =
+              let (r, o, f) = step-stop entered fault (sym stops ∙ leaves .answers) in
+              let over : all ≡ refused r =
+              first-then ∙ ap (λ (o : Outcome Network). andThen o (onward (suc number))) o in record {
+                answers = sym (ap stepOf over ∙ ap step.Stop f);
+                holds = λ net e. absurd (refused-not-answered all (r .fault) (r .line) net over e);
+                metastates-sized = leaves .metastates-sized ∙ t .metastates-sized;
+                arcs-sized = leaves .arcs-sized ∙ t .arcs-sized;
+              }
+
+          -- it is entered, and the next is looked for
+          pub followed-next : {next : Sizes} {number′ : ℕ} → header .half ≤ 3 → answer ≡ step.Next next
+              → NextFollower (cut header columns) cs (number + 1) number′
+              → Followed header nodes words columns from metastates₀ arcs₀ chains₀ sizes₀
+              metastates′ arcs′ chains′ next number′
+          unfolding andThen
+          followed-next {next} {number′} few goes further =
+              let (net, o, s) = step-next entered next (sym goes ∙ leaves .answers) in
+              let held = leaves .holds net o in
+              let same : networkHeld (header .half) next metastates′ arcs′ ≡ net =
+              ap (λ (k : Sizes). networkHeld (header .half) k metastates′ arcs′) (sym s) ∙ held-back few held in
+              let after : NextFollower (cut header columns) cs (suc number) number′ =
+              subst (λ (k : ℕ). NextFollower (cut header columns) cs k number′) (add-one number) further in record {
+                found = further .found;
+                holds =
+                    subst (λ (n : Network). Holds (header .half) (length cs) n metastates′ arcs′ chains′)
+                    (sym same) held;
+                metastates-sized = leaves .metastates-sized ∙ t .metastates-sized;
+                arcs-sized = leaves .arcs-sized ∙ t .arcs-sized;
+                chains-sized = held .linked .sized ∙ sym (t .holds .linked .sized) ∙ t .chains-sized;
+                rest =
+                    first-then
+                    ∙ ap (λ (o : Outcome Network). andThen o (onward (suc number))) o
+                    ∙ ap (entering header nodes words from metastates₀ arcs₀ net)
+                    (followers-skip (cut header columns) cs after)
+                    ∙ ap (onward number′) (sym same);
+              }

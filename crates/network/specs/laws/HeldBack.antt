@@ -1,0 +1,124 @@
+-- Laws about a network held in lent words: read back, it is the same network; and cleared words hold none.
+use mathlib.Core.Path.{_≡_, refl, sym, ap, ap₂, _∙_}
+use mathlib.Core.Logic.{inl, inr}
+use mathlib.Core.List.{List, [], _∷_, _++_, map}
+use Prim.Native.Nat.{ℕ, suc, _-_, _*_, _≤_}
+use native.Mathlib.Nat.{sub-zero}
+use native.Mathlib.Omega.{arith}
+use lib.Dec.{T, eqb}
+use lib.ListN.{length, take, length-replicate, getD-replicate, length-map}
+use Rattle.definitions.specs.Lists.{_!_, concatMap, records, cleared, padded}
+use Rattle.definitions.specs.Arcs.{arcsIn}
+use Rattle.definitions.specs.Matrices.{matrixWords}
+use Rattle.definitions.specs.Metastates.{Metastate, metastateSize, metastateWords}
+use Rattle.definitions.specs.Building.{roomIn}
+use Rattle.definitions.specs.Connecting.{Network, noNetwork}
+use Rattle.definitions.specs.laws.Tests.{eq→eqb}
+use Rattle.definitions.specs.laws.Members.{isIn, every-in, of-map}
+use Rattle.definitions.specs.laws.Metastates.{metastates-equal}
+use Rattle.definitions.specs.laws.SevenWords.{words-length, words-take}
+use Rattle.definitions.specs.laws.Records.{allOf, concatMap-joined, joined-length, records-joined, arcs-read}
+use Rattle.network.specs.Chains.{Latest, Linked}
+use Rattle.network.specs.Combinations.{widthOf}
+use Rattle.network.specs.Networks.{metastateIn, metastatesIn, networkHeld, sizesOf, Holds}
+
+-- matrices of one width, which eight words hold with a number
+abbrev pub AllWide : (half : ℕ) → List Metastate → Type 0
+AllWide half xs = (x : Metastate) → isIn x xs → length (x .matrix) ≡ widthOf half
+
+-- ---- a metastate and its words
+
+pub row-length : (x : Metastate) → length (x .matrix) ≤ 7 → length (metastateWords x) ≡ metastateSize
+unfolding metastateWords
+row-length x h = ap suc (words-length (x .matrix) h)
+
+row-back : (width : ℕ) (x : Metastate) → length (x .matrix) ≡ width → metastateIn width (metastateWords x) ≡ x
+unfolding metastateIn metastateWords
+row-back width x e =
+    metastates-equal _ x refl
+    (ap (λ (n : ℕ). take n (matrixWords (x .matrix))) (sym e) ∙ words-take (x .matrix))
+
+rows-back : (half : ℕ) (xs : List Metastate) → AllWide half xs
+    → map (metastateIn (widthOf half)) (map metastateWords xs) ≡ xs
+rows-back half [] w = refl
+rows-back half (x ∷ xs) w =
+    ap₂ (λ (y : Metastate) (ys : List Metastate). y ∷ ys) (row-back (widthOf half) x (w x (inl refl)))
+    (rows-back half xs (λ y i. w y (inr i)))
+
+module _ (half : ℕ) (few : half ≤ 3) (xs : List Metastate) (w : AllWide half xs) where
+  rows-sized : T (allOf metastateSize (map metastateWords xs))
+  rows-sized = every-in (λ (row : List ℕ). eqb (length row) metastateSize) (map metastateWords xs) sized
+    where
+      sized : (row : List ℕ) → isIn row (map metastateWords xs) → T (eqb (length row) metastateSize)
+      sized row i =
+          let (x, j, e) = of-map metastateWords row xs i in
+          let width = w x j in
+          eq→eqb (length row) metastateSize (ap length e ∙ row-length x (omega arith))
+
+  pub rows-words : length (concatMap metastateWords xs) ≡ metastateSize * length xs
+  rows-words =
+      ap length (concatMap-joined metastateWords xs)
+      ∙ joined-length metastateSize (map metastateWords xs) rows-sized ∙ rw length-map
+
+  -- the records at the front of words are the rows
+  pub rows-read : (rest : List ℕ)
+      → records metastateSize (length xs) (concatMap metastateWords xs ++ rest) ≡ map metastateWords xs
+  rows-read rest =
+      rw (concatMap-joined metastateWords xs, ← length-map xs metastateWords)
+      (records-joined metastateSize (map metastateWords xs) rest rows-sized)
+
+  pub metastates-read : (size : ℕ)
+      → metastatesIn (widthOf half) (length xs) (padded size (concatMap metastateWords xs)) ≡ xs
+  unfolding metastatesIn padded
+  metastates-read size =
+      let rest : List ℕ = cleared (size - length (concatMap metastateWords xs)) in
+      ap (map (metastateIn (widthOf half))) (rows-read rest) ∙ rows-back half xs w
+
+-- ---- a network
+
+networks-equal : (k l : Network) → k .metastates ≡ l .metastates → k .arcs ≡ l .arcs → k ≡ l
+networks-equal k l e f = λ i. record { metastates = e i; arcs = f i }
+
+pub held-back : {half count : ℕ} {net : Network} {metastates arcs chains : List ℕ} → half ≤ 3
+    → Holds half count net metastates arcs chains → networkHeld half (sizesOf net) metastates arcs ≡ net
+held-back {half} {count} {net} {metastates} {arcs} few h =
+    networks-equal (networkHeld half (sizesOf net) metastates arcs) net
+    (ap (metastatesIn (widthOf half) (length (net .metastates))) (h .metastate-words)
+    ∙ metastates-read half few (net .metastates) (h .widths) (length metastates))
+    (ap (arcsIn (length (net .arcs))) (h .arc-words) ∙ arcs-read (length arcs) (net .arcs))
+
+-- ---- no network
+
+no-chain : (rows : List (List ℕ)) (key end place : ℕ) → place ≡ 0 → end ≡ 0 → Latest rows key end place
+no-chain rows key end place e f = record {
+  within = omega arith;
+  own = λ i g. absurd (omega (arith, e, g));
+  none-after = λ i g h. absurd (omega (arith, f, h));
+}
+
+no-chains : Linked (cleared 131072) []
+no-chains = record {
+  sized = length-replicate {A = ℕ} 131072 0;
+  few = omega arith;
+  heads = λ key h.
+      let none : cleared 131072 ! key ≡ 0 = getD-replicate {A = ℕ} 131072 key 0 0 (omega arith) in
+      no-chain [] key 0 (cleared 131072 ! key) none refl;
+  nexts = λ i h. absurd (omega arith);
+}
+
+padded-none : (size : ℕ) → cleared size ≡ padded (length (cleared size)) []
+unfolding padded
+padded-none size = rw (length-replicate {A = ℕ} size 0, sub-zero)
+
+pub held-empty : (half count m n : ℕ) → Holds half count noNetwork (cleared m) (cleared n) (cleared 131072)
+unfolding concatMap roomIn
+held-empty half count m n = record {
+  metastate-words = padded-none m;
+  arc-words = padded-none n;
+  metastate-room = omega arith;
+  arc-room = omega arith;
+  linked = no-chains;
+  once = tt;
+  numbers = λ x h. absurd h;
+  widths = λ x h. absurd h;
+}

@@ -1,0 +1,49 @@
+-- Laws about the outcome of a step: where it answers, the words hold that network; and what connecting leaves
+-- where it is refused.
+use mathlib.Core.Path.{_≡_, sym, ap, _∙_}
+use mathlib.Core.List.{List}
+use Prim.Native.Nat.{ℕ, _≤_}
+use lib.ListN.{length}
+use Rattle.definitions.specs.declared.Fault.{Fault}
+use Rattle.definitions.specs.declared.Refusal.{Refusal}
+use Rattle.definitions.specs.Faults.{Outcome, answered, refused}
+use Rattle.definitions.specs.Connecting.{Network, Built}
+use Rattle.definitions.specs.laws.Judging.{refused-not-answered}
+use Rattle.network.specs.declared.Sizes.{Sizes}
+use Rattle.network.specs.declared.Step.{Step}
+use Rattle.network.specs.declared.Step.the-variants as step
+use Rattle.network.specs.declared.Build.the-variants as build
+use Rattle.network.specs.Answers.{buildOf}
+use Rattle.network.specs.Networks.{networkHeld}
+use Rattle.network.specs.Steps.{Leaves, Connected}
+use Rattle.network.specs.laws.Steps.{step-next}
+use Rattle.network.specs.laws.HeldBack.{held-back}
+
+pub next-answered : {half count : ℕ} {metastates arcs metastates′ arcs′ chains′ : List ℕ}
+    {outcome : Outcome Network} {answer : Step} {next : Sizes} → half ≤ 3
+    → Leaves half count metastates arcs outcome answer metastates′ arcs′ chains′ → answer ≡ step.Next next
+    → outcome ≡ answered (networkHeld half next metastates′ arcs′)
+next-answered {half} {metastates′ = metastates′} {arcs′ = arcs′} {outcome = outcome} {next = next} few left a =
+    let (net, is, sized) = step-next outcome next (sym a ∙ left .answers) in
+    let back : networkHeld half next metastates′ arcs′ ≡ net =
+    ap (λ (z : Sizes). networkHeld half z metastates′ arcs′) (sym sized)
+    ∙ held-back few (left .holds net is) in
+    is ∙ ap answered (sym back)
+
+pub refused-left : (states : ℕ) {metastates arcs metastates′ arcs′ : List ℕ} {outcome : Outcome Built}
+    {fault : Fault} (r : Refusal) → outcome ≡ refused r → r .fault ≡ fault → r .line ≡ 0
+    → length metastates′ ≡ length metastates → length arcs′ ≡ length arcs
+    → Connected states metastates arcs outcome (build.Refused (record { fault = fault; line = 0 }))
+    metastates′ arcs′
+unfolding buildOf
+refused-left states {outcome = outcome} {fault = fault} r e same line m a =
+    let refusal : r ≡ record { fault = fault; line = 0 } = λ i. record { fault = same i; line = line i } in
+    let none : ((built : Built) → outcome ≡ answered built → ⊥) =
+    λ built k. refused-not-answered outcome (r .fault) (r .line) built e k in
+    record {
+      answers = ap (λ z. build.Refused z) (sym refusal) ∙ ap (buildOf states) (sym e);
+      metastate-words = λ built k. absurd (none built k);
+      arc-words = λ built k. absurd (none built k);
+      metastates-sized = m;
+      arcs-sized = a;
+    }

@@ -1,0 +1,146 @@
+-- Where the combinations of each phone end. Those of phones up to one stand before all others, so a number
+-- below the end of a phone has a phone up to it, and a number from there on a greater one.
+use mathlib.Core.Path.{_≡_, refl, ap, ap₂, _∙_, subst}
+use mathlib.Core.List.{List, [], _∷_, _++_}
+use Prim.Native.Nat.{ℕ, zero, suc, _+_, _-_, _≤_, _<_}
+use native.Mathlib.Omega.{arith}
+use lib.Dec.{ltb}
+use lib.ListN.{length, length-append, List·getD-append}
+use lib.Seq.{getD-append-add}
+use borrow.Author.Tests.{ltb-true, ltb-false}
+use Rattle.definitions.specs.Lists.{_!_, concatMap, upFrom, padded}
+use Rattle.definitions.specs.Tables.{Book}
+use Rattle.definitions.specs.Combinations.{Combination, combinationsOf, combinations}
+use Rattle.definitions.specs.Metastates.{noCombination}
+use Rattle.definitions.specs.laws.Tests.{by-test}
+use Rattle.definitions.specs.laws.Lists.{concatMap-append, map-upFrom-length, map-upFrom-at, padded-length}
+use Rattle.definitions.specs.laws.Members.{isIn, in-at, of-concatMap, of-upFrom}
+use Rattle.definitions.specs.laws.SevenWords.{padded-column}
+use Rattle.definitions.specs.laws.Leaves.{phoneMatrix}
+use Rattle.definitions.specs.laws.Sound.{Sound}
+use Rattle.definitions.specs.demand.Chosen.{choose-begins}
+use Rattle.metastates.specs.Answers.{endOf, endsOf}
+use Rattle.network.specs.Combinations.{numbered, EndsAt}
+
+-- counting on from where the first numbers end
+upFrom-parts : (a k n : ℕ) → upFrom a (k + n) ≡ upFrom a k ++ upFrom (a + k) n
+unfolding upFrom
+upFrom-parts a zero n =
+    let here : a + 0 ≡ a = omega arith in
+    let none : 0 + n ≡ n = omega arith in
+    rw (here, none)
+upFrom-parts a (suc k) n =
+    let next : a + suc k ≡ suc a + k = omega arith in
+    let more : suc k + n ≡ suc (k + n) = omega arith in
+    rw (next, more) (ap (λ (l : List ℕ). a ∷ l) (upFrom-parts (suc a) k n))
+
+module _ (book : Book) (sound : Sound book) where
+  abbrev ofPhones : (first count : ℕ) → List Combination
+  ofPhones first count = concatMap (λ p. combinationsOf book p) (upFrom first count)
+
+  phone-range : (first count : ℕ) (c : Combination) → isIn c (ofPhones first count)
+      → (first ≤ c .phone) × (c .phone < first + count)
+  unfolding combinationsOf
+  phone-range first count c i =
+      let (p, j, k) = of-concatMap (combinationsOf book) c (upFrom first count) i in
+      let trees : List ℕ = upFrom 1 (book .states) in
+      let own = choose-begins book sound p trees [] (phoneMatrix book p) refl c k .phone-is in
+      omega (arith, of-upFrom first count p j, own)
+
+  -- the combinations of phones up to one, and the others
+  module _ (q : ℕ) (h : q ≤ book .phones) where
+    abbrev others : List Combination
+    others = ofPhones (1 + q) (book .phones - q)
+
+    parts : combinations book ≡ ofPhones 1 q ++ others
+    unfolding combinations
+    parts =
+        let all : book .phones ≡ q + (book .phones - q) = omega arith in
+        ap (ofPhones 1) all
+        ∙ ap (concatMap (combinationsOf book)) (upFrom-parts 1 q (book .phones - q))
+        ∙ concatMap-append (combinationsOf book) (upFrom 1 q) (upFrom (1 + q) (book .phones - q))
+
+    pub end-within : endOf book q ≤ length (combinations book)
+    unfolding endOf
+    end-within = rw parts (omega (arith, length-append (ofPhones 1 q) others))
+
+    pub before-end : (i : ℕ) → i < endOf book q → numbered (combinations book) i .phone ≤ q
+    unfolding endOf
+    before-end i k =
+        let c : Combination = numbered (ofPhones 1 q) i in
+        let same : numbered (combinations book) i ≡ c =
+        ap (λ cs. numbered cs i) parts ∙ List·getD-append (ofPhones 1 q) others noCombination i k in
+        rw same (omega (arith, phone-range 1 q c (in-at (ofPhones 1 q) i noCombination k)))
+
+    pub from-end : (i : ℕ) → endOf book q ≤ i → i < length (combinations book)
+        → q < numbered (combinations book) i .phone
+    unfolding endOf
+    from-end i k l =
+        let j : ℕ = i - endOf book q in
+        let c : Combination = numbered others j in
+        let place : i ≡ length (ofPhones 1 q) + j = omega arith in
+        let whole : length (combinations book) ≡ length (ofPhones 1 q) + length others =
+        ap length parts ∙ length-append (ofPhones 1 q) others in
+        let same : numbered (combinations book) i ≡ c =
+        ap₂ numbered parts place ∙ getD-append-add (ofPhones 1 q) others j noCombination in
+        let listed : isIn c others = in-at others j noCombination (omega arith) in
+        rw same (omega (arith, phone-range (1 + q) (book .phones - q) c listed))
+
+  -- ---- the table of ends
+
+  abbrev ends : List ℕ
+  ends = padded 65 (endsOf book)
+
+  pub ends-sized : book .phones ≤ 64 → length ends ≡ 65
+  unfolding endsOf
+  ends-sized h =
+      padded-length 65 (endsOf book) (omega (arith, map-upFrom-length (endOf book) 0 (suc (book .phones))))
+
+  end-at : (q : ℕ) → q ≤ book .phones → ends ! q ≡ endOf book q
+  unfolding endsOf
+  end-at q h =
+      padded-column 65 (endsOf book) q
+      ∙ map-upFrom-at (endOf book) 0 (suc (book .phones)) q q (omega arith) (omega arith)
+
+  -- a combination stands before the end of its phone, and none of its phone before the end of the one below
+  module _ (number : ℕ) (h : number < length (combinations book)) where
+    abbrev own : ℕ
+    own = numbered (combinations book) number .phone
+
+    own-range : (1 ≤ own) × (own ≤ book .phones)
+    unfolding combinations
+    own-range =
+        let c : Combination = numbered (combinations book) number in
+        omega (arith, phone-range 1 (book .phones) c (in-at (combinations book) number noCombination h))
+
+    later : number < endOf book own
+    later =
+        by-test (ltb number (endOf book own)) (ltb-true number (endOf book own)) λ t.
+        let after = from-end own (own-range .1) number (ltb-false number (endOf book own) t) h in
+        absurd (omega arith)
+
+    earlier : endOf book (own - 1) ≤ number
+    earlier =
+        by-test (ltb number (endOf book (own - 1)))
+        (λ t.
+        let below : own - 1 ≤ book .phones = omega (arith, own-range) in
+        let before = before-end (own - 1) below number (ltb-true number (endOf book (own - 1)) t) in
+        absurd (omega (arith, own-range)))
+        (ltb-false number (endOf book (own - 1)))
+
+    same-phone : (i : ℕ) → number ≤ i → i < endOf book own → numbered (combinations book) i .phone ≡ own
+    same-phone i from to =
+        let listed : i < length (combinations book) = omega (arith, end-within own (own-range .1)) in
+        let up-to = before-end own (own-range .1) i to in
+        let below : own - 1 ≤ book .phones = omega (arith, own-range) in
+        let above = from-end (own - 1) below i (omega (arith, earlier)) listed in
+        omega (arith, own-range)
+
+    pub ends-at : EndsAt (combinations book) ends number
+    ends-at =
+        let end : ends ! own ≡ endOf book own = end-at own (own-range .1) in
+        record {
+          later = rw end later;
+          within = rw end (end-within own (own-range .1));
+          same-phone = λ i from to. same-phone i from (subst (λ (e : ℕ). i < e) end to);
+        }

@@ -1,0 +1,125 @@
+-- Laws about the arcs that a turn adds first: a metastate's own, and the arc to FINAL where it may end; and
+-- that they are at most three.
+use mathlib.Core.Path.{_≡_, refl, sym, ap, _∙_, subst}
+use mathlib.Core.List.{List, [], _∷_, _++_, append-nil}
+use mathlib.Core.Bool.{Bool, true, false, not, and-false}
+use Prim.Native.Nat.{ℕ, _+_, _*_, _≤_, _<_}
+use native.Mathlib.Omega.{arith}
+use lib.Dec.{eqb}
+use lib.ListN.{length, drop, length-append, length-drop}
+use borrow.Author.Tests.{eq-eqb, ne-eqb}
+use Rattle.definitions.specs.declared.Header.{Header}
+use Rattle.definitions.specs.Lists.{_!_}
+use Rattle.definitions.specs.Arcs.{Arc, arc, firstState, lastState}
+use Rattle.definitions.specs.Combinations.{combinationSize}
+use Rattle.definitions.specs.Matrices.{endsHere}
+use Rattle.definitions.specs.Tables.{tablesBook}
+use Rattle.definitions.specs.Metastates.{Metastate, combinationOf, phoneOf, modelsOf, mayEnd}
+use Rattle.definitions.specs.Connecting.{ownArcs, finalArcs}
+use Rattle.definitions.specs.laws.Tests.{by-test, held, failed}
+use Rattle.tables.specs.laws.Known.{header-ranges}
+use Rattle.network.specs.declared.Arcs.{Arcs}
+use Rattle.network.specs.Combinations.{combinationsIn, nodesBook, Usable, Modelled}
+use Rattle.network.specs.Steps.{AreArcs}
+use Rattle.network.specs.laws.RecordWords.{phone-word, models-length}
+use Rattle.network.specs.laws.OwnArcs.{own-length, last-state}
+
+-- what a turn adds before the arcs to followers
+abbrev pub ownOf : Header → (nodes combinations : List ℕ) → (place : ℕ) → Metastate → List Arc
+ownOf header nodes combinations place x =
+    ownArcs (firstState (header .states) place)
+    (drop 1 (modelsOf (nodesBook header nodes) (combinationsIn header combinations) x))
+
+abbrev pub finalOf : Header → (nodes combinations : List ℕ) → (place : ℕ) → Metastate → List Arc
+finalOf header nodes combinations place x =
+    finalArcs (nodesBook header nodes) (combinationsIn header combinations) place x
+
+module _ (header : Header) (nodes combinations : List ℕ) (usable : Usable header combinations) (place : ℕ)
+    (x : Metastate) (h : x .number < length (combinationsIn header combinations))
+  where
+    abbrev Plain : Arcs → Type 0
+    Plain new =
+        AreArcs new (ownOf header nodes combinations place x ++ finalOf header nodes combinations place x)
+
+    -- a metastate's own arcs are those of its number
+    abbrev Own : Arcs → Type 0
+    Own new = AreArcs new (ownOf header nodes combinations place (record { number = x .number; matrix = [] }))
+
+    phone-is : {phone : ℕ} → phone ≡ combinations ! (combinationSize * x .number)
+        → phone ≡ phoneOf (combinationsIn header combinations) x
+    unfolding phoneOf combinationOf
+    phone-is e = e ∙ phone-word header combinations usable (x .number) h
+
+    no-final : {new : Arcs} → mayEnd (nodesBook header nodes) (combinationsIn header combinations) x ≡ false
+        → Own new → Plain new
+    unfolding finalArcs modelsOf combinationOf
+    no-final {new} e own = subst (AreArcs new) (rw (e, append-nil)) own
+
+    -- another phone than silence
+    pub plain-other : {phone : ℕ} {new : Arcs} → phone ≡ combinations ! (combinationSize * x .number)
+        → (phone ≡ 1 → ⊥) → Own new → Plain new
+    unfolding mayEnd
+    plain-other e n own = no-final (rw (ne-eqb _ 1 (λ k. n (phone-is e ∙ k)))) own
+
+    -- silence that may not stand to the right
+    pub plain-inside : {answer : Bool} {new : Arcs} → answer ≡ endsHere (header .half) (x .matrix)
+        → not answer ≡ true → Own new → Plain new
+    unfolding mayEnd tablesBook
+    plain-inside e n own =
+        let silent : Bool = eqb (phoneOf (combinationsIn header combinations) x) 1 in
+        no-final (rw (failed e n) (and-false silent)) own
+
+    -- the arc to FINAL
+    pub plain-final : {phone states : ℕ} {answer : Bool} {new more : Arcs}
+        → phone ≡ combinations ! (combinationSize * x .number) → phone ≡ 1
+        → answer ≡ endsHere (header .half) (x .matrix) → not answer ≡ false
+        → states ≡ header .states → Own new
+        → ((arcs : List Arc) → AreArcs new arcs
+        → AreArcs more (arcs ++ (arc (1 + (place + 1) * states) 1 0 0 ∷ [])))
+        → Plain more
+    unfolding mayEnd tablesBook finalArcs modelsOf combinationOf
+    plain-final {phone} {states} {answer} {new} {more} e one a n s own grows =
+        let ranges = header-ranges header (usable .header-known) in
+        let some : 1 ≤ states = omega (arith, s, ranges .states-range .low) in
+        let last : 1 + (place + 1) * states ≡ lastState (header .states) place =
+        last-state place states some ∙ ap (λ (k : ℕ). lastState k place) s in
+        let ends : mayEnd (nodesBook header nodes) (combinationsIn header combinations) x ≡ true =
+        rw (eq-eqb _ 1 (sym (phone-is e) ∙ one), held a n) in
+        subst (λ (k : List Arc). AreArcs more (ownOf header nodes combinations place x ++ k))
+        (rw (ends, last)) (grows _ own)
+
+    -- ---- there are few
+
+    module _ (modelled : Modelled header nodes combinations) where
+      own-few : (y : Metastate) → y .number ≡ x .number
+          → length (ownOf header nodes combinations place y) < 3
+      own-few y e =
+          let models : List ℕ = modelsOf (nodesBook header nodes) (combinationsIn header combinations) y in
+          let states = models-length header combinations usable (x .number) h nodes modelled y e in
+          omega (
+            arith,
+            own-length (firstState (header .states) place) (drop 1 models),
+            length-drop 1 models,
+            states,
+            header-ranges header (usable .header-known) .states-range .high,
+          )
+
+      pub own-count-few : {new : Arcs} → Own new → new .count < 3
+      own-count-few own =
+          omega (arith, own .counted, own-few (record { number = x .number; matrix = [] }) refl)
+
+      final-few : length (finalOf header nodes combinations place x) ≤ 1
+      unfolding finalArcs
+      final-few =
+          by-test (mayEnd (nodesBook header nodes) (combinationsIn header combinations) x)
+          (λ e. rw e (omega arith)) (λ e. rw e (omega arith))
+
+      pub plain-count-few : {new : Arcs} → Plain new → new .count ≤ 3
+      plain-count-few plain =
+          omega (
+            arith,
+            plain .counted,
+            own-few x refl,
+            final-few,
+            length-append (ownOf header nodes combinations place x) (finalOf header nodes combinations place x),
+          )

@@ -1,0 +1,232 @@
+-- Laws about the words of combinations: how many records there are, where the phone, the leaves and the matrix
+-- of each stand, and where its models stand in the table of nodes.
+use mathlib.Core.Path.{_≡_, refl, sym, ap, _∙_}
+use mathlib.Core.List.{List, [], _∷_, map, append-nil}
+use mathlib.Core.Bool.{Bool, true, false}
+use Prim.Native.Nat.{ℕ, zero, suc, _+_, _*_, _/_, _≤_, _<_}
+use native.Mathlib.Omega.{arith}
+use lib.Dec.{eqb}
+use lib.ListN.{length, take, drop, getD, length-append, length-map, length-take, length-drop}
+use lib.ListN.{List·getD-append}
+use lib.Seq.{drop-drop, drop-at, getD-drop, getD-take, take-nil}
+use Rattle.definitions.specs.declared.Header.{Header}
+use Rattle.definitions.specs.declared.Node.{Node}
+use Rattle.definitions.specs.Lists.{if_then_else_, _!_, concatMap, records, padded}
+use Rattle.definitions.specs.BookLines.{TreeNode, question, leaf}
+use Rattle.definitions.specs.BookReading.{nodeSize}
+use Rattle.definitions.specs.Matrices.{matrixSize, matrixWords}
+use Rattle.definitions.specs.Tables.{nodeOf, treeNode, nodeRecords, tablesBook}
+use Rattle.definitions.specs.Lookup.{nodeAt, modelAt}
+use Rattle.definitions.specs.Combinations.{Combination, combinationSize, combinationWords}
+use Rattle.definitions.specs.Metastates.{Metastate, noCombination, combinationOf, modelsOf}
+use Rattle.definitions.specs.laws.Books.{InRange}
+use Rattle.definitions.specs.laws.Lists.{concatMap-map, padded-length, padded-take}
+use Rattle.definitions.specs.laws.Records.{records-length, record-at, flat-records}
+use Rattle.definitions.specs.laws.SevenWords.{padded-column, words-length}
+use Rattle.definitions.specs.laws.Tables.{node-of-first}
+use Rattle.tables.specs.laws.Known.{header-ranges}
+use Rattle.network.specs.Combinations.{widthOf, combinationIn, combinationsIn, numbered, nodesBook}
+use Rattle.network.specs.Combinations.{Usable, Modelled}
+
+-- an element that each of a list gives
+pub map-at : {A B : Type 0} (f : A → B) (l : List A) (a : A) (b : B) (i : ℕ) → i < length l
+    → getD (map f l) i b ≡ f (getD l i a)
+map-at f [] a b i h = absurd (omega arith)
+map-at f (x ∷ l) a b zero h = refl
+map-at f (x ∷ l) a b (suc i) h = map-at f l a b i (omega arith)
+
+-- an element of a list whose elements all give themselves
+same-at : {A : Type 0} (f : A → A) (l : List A) (a : A) (i : ℕ) → i < length l → map f l ≡ l
+    → f (getD l i a) ≡ getD l i a
+same-at f l a i h e = sym (map-at f l a a i h) ∙ ap (λ (k : List _). getD k i a) e
+
+drop-take : (count more : ℕ) (l : List ℕ) → drop count (take (count + more) l) ≡ take more (drop count l)
+drop-take zero more l = let same : 0 + more ≡ more = omega arith in rw same
+drop-take (suc count) more [] =
+    let next : suc count + more ≡ suc (count + more) = omega arith in rw next (sym (take-nil more))
+drop-take (suc count) more (x ∷ l) =
+    let next : suc count + more ≡ suc (count + more) = omega arith in rw next (drop-take count more l)
+
+-- seven words that are there, read as a matrix
+pub seven-words : (words : List ℕ) (from count : ℕ) {columns : List ℕ} → from + matrixSize ≤ length words
+    → count ≡ matrixSize → columns ≡ take matrixSize (padded matrixSize (take count (drop from words)))
+    → columns ≡ take matrixSize (drop from words)
+seven-words words from count h e q =
+    let part : List ℕ = take count (drop from words) in
+    let sized : matrixSize ≡ length part = sym (simp (length-take, length-drop) (omega arith)) in
+    q ∙ padded-take matrixSize matrixSize part sized ∙ ap (λ (k : ℕ). take k (drop from words)) e
+
+-- the node at a place in the table, and its model if it is a leaf
+node-at : (header : Header) (nodes : List ℕ) (at : ℕ) → at < header .nodes
+    → nodeAt (nodesBook header nodes .nodes) at ≡ treeNode (nodeOf (drop (nodeSize * at) nodes))
+unfolding tablesBook nodeRecords
+node-at header nodes at h =
+    let rows : List (List ℕ) = records nodeSize (header .nodes) nodes in
+    let known : at < length rows = rw records-length h in
+    let read : at < length (map nodeOf rows) = rw length-map known in
+    map-at treeNode (map nodeOf rows) (nodeOf []) (leaf 0) at read
+    ∙ ap treeNode
+    (map-at nodeOf rows [] (nodeOf []) at known
+    ∙ ap nodeOf (record-at nodeSize (header .nodes) nodes at h)
+    ∙ node-of-first (drop (nodeSize * at) nodes))
+
+leaf-value : (node : Node) (model : ℕ) → treeNode node ≡ leaf model → node .value ≡ model
+unfolding treeNode
+leaf-value node model = go (eqb (node .kind) 1)
+  where
+    go : (b : Bool)
+        → (if b then question (node .value) (node .position) (node .yes) (node .no) else leaf (node .value))
+        ≡ leaf model → node .value ≡ model
+    go true e = let z : _≡_ {A = ℕ} 0 1 = cc in absurd (omega arith)
+    go false e = cc
+
+model-is : (nodes : List TreeNode) (node model : ℕ) → nodeAt nodes node ≡ leaf model → modelAt nodes node ≡ model
+unfolding modelAt
+model-is nodes node model e = rw (e, modelAt)
+
+module _ (header : Header) (words : List ℕ) where
+  abbrev parts : List (List ℕ)
+  parts = records combinationSize (length words / combinationSize) words
+
+  pub combinations-length : length (combinationsIn header words) ≡ length words / combinationSize
+  unfolding combinationsIn
+  combinations-length =
+      length-map parts (combinationIn header)
+      ∙ records-length combinationSize (length words / combinationSize) words
+
+  pub number-in : {number : ℕ} → number < length words / combinationSize
+      → number < length (combinationsIn header words)
+  number-in h = omega (arith, combinations-length)
+
+  pub number-out : {number : ℕ} → length words / combinationSize ≤ number
+      → length (combinationsIn header words) ≤ number
+  number-out h = omega (arith, combinations-length)
+
+  module _ (usable : Usable header words) where
+    ranges : InRange header
+    ranges = header-ranges header (usable .header-known)
+
+    again : List ℕ → List ℕ
+    again part = combinationWords (combinationIn header part)
+
+    again-length : (part : List ℕ) → length (again part) ≡ combinationSize
+    unfolding again combinationWords combinationIn
+    again-length part =
+        let leaves : List ℕ = take (header .states) (drop 1 part) in
+        let matrix : List ℕ = take (widthOf (header .half)) (drop 4 part) in
+        let three : length (padded 3 leaves) ≡ 3 =
+        padded-length 3 leaves (simp length-take (omega (arith, ranges .states-range .high))) in
+        let seven : length (matrixWords matrix) ≡ 7 =
+        words-length matrix (simp length-take (omega (arith, ranges .half-range .high))) in
+        ap suc (length-append (padded 3 leaves) (matrixWords matrix) ∙ omega (arith, three, seven))
+
+    all-again : map again parts ≡ parts
+    unfolding again combinationsIn
+    all-again =
+        let joined : concatMap again parts ≡ words =
+        sym (usable .flat ∙ concatMap-map combinationWords (combinationIn header) parts) in
+        let count : length parts ≡ length words / combinationSize = records-length combinationSize _ words in
+        sym (flat-records again combinationSize again-length parts []) ∙ rw (append-nil, joined, count)
+
+    -- the combination at a place
+    module _ (number : ℕ) (h : number < length (combinationsIn header words)) where
+      abbrev here : Combination
+      here = numbered (combinationsIn header words) number
+
+      listed : number < length words / combinationSize
+      listed = omega (arith, combinations-length)
+
+      pub record-within : combinationSize * number + combinationSize ≤ length words
+      record-within = omega (arith, listed)
+
+      -- its record
+      pub record-is : take combinationSize (drop (combinationSize * number) words) ≡ combinationWords here
+      unfolding again combinationsIn
+      record-is =
+          let part : getD parts number [] ≡ take combinationSize (drop (combinationSize * number) words) =
+          record-at combinationSize (length words / combinationSize) words number listed in
+          let back = same-at again parts [] number (rw records-length listed) all-again in
+          sym part ∙ sym back
+          ∙ ap combinationWords
+          (sym (map-at (combinationIn header) parts [] noCombination number (rw records-length listed)))
+
+      record-word : (i : ℕ) → i < combinationSize
+          → words ! (combinationSize * number + i) ≡ combinationWords here ! i
+      record-word i k =
+          sym (getD-drop (combinationSize * number) words i 0)
+          ∙ sym (getD-take combinationSize (drop (combinationSize * number) words) i 0 k)
+          ∙ ap (λ (l : List ℕ). l ! i) record-is
+
+      pub phone-word : words ! (combinationSize * number) ≡ here .phone
+      unfolding combinationWords
+      phone-word =
+          let first : combinationSize * number + 0 ≡ combinationSize * number = omega arith in
+          rw first at (record-word 0 (omega arith))
+
+      pub phone-few : here .phone ≤ 64
+      phone-few = omega (arith, usable .each number h .phones, ranges .phones-range .high)
+
+      -- both as reading the phone asks for them
+      pub record-phone : (combinationSize * number + combinationSize ≤ length words)
+          × ((words ! (combinationSize * number)) ≤ 64)
+      record-phone = (record-within, rw phone-word phone-few)
+
+      -- its leaves take three words
+      three : length (padded 3 (here .leaves)) ≡ 3
+      three =
+          padded-length 3 (here .leaves)
+          (omega (arith, usable .each number h .states, ranges .states-range .high))
+
+      pub leaf-word : (state : ℕ) → state < 3
+          → words ! (combinationSize * number + 1 + state) ≡ here .leaves ! state
+      unfolding combinationWords
+      leaf-word state k =
+          let place : combinationSize * number + suc state ≡ combinationSize * number + 1 + state = omega arith in
+          (rw place at (record-word (suc state) (omega arith)))
+          ∙ List·getD-append (padded 3 (here .leaves)) (matrixWords (here .matrix)) 0 state (omega (arith, three))
+          ∙ padded-column 3 (here .leaves) state
+
+      pub matrix-word : take matrixSize (drop (combinationSize * number + 4) words) ≡ matrixWords (here .matrix)
+      unfolding combinationWords
+      matrix-word =
+          ap (take matrixSize) (sym (drop-drop 4 (combinationSize * number) words))
+          ∙ sym (drop-take 4 matrixSize (drop (combinationSize * number) words))
+          ∙ ap (drop 4) record-is
+          ∙ drop-at (padded 3 (here .leaves)) (matrixWords (here .matrix)) 3 three
+
+      -- its models
+      module _ (nodes : List ℕ) (modelled : Modelled header nodes words) where
+        pub leaf-listed : (state : ℕ) → state < header .states → (here .leaves ! state) < header .nodes
+        leaf-listed state k = modelled number state h k .0
+
+        pub leaf-few : (state : ℕ) → state < header .states
+            → (words ! (combinationSize * number + 1 + state)) < 4096
+        leaf-few state k =
+            let held : state < 3 = omega (arith, ranges .states-range .high) in
+            rw (leaf-word state held) (omega (arith, leaf-listed state k, ranges .nodes-range .high))
+
+        module _ (x : Metastate) (e : x .number ≡ number) where
+          pub models-length : length (modelsOf (nodesBook header nodes) (combinationsIn header words) x)
+              ≡ header .states
+          unfolding modelsOf combinationOf
+          models-length =
+              let own : List ℕ = combinationOf (combinationsIn header words) x .leaves in
+              let counted : length own ≡ header .states = rw e (usable .each number h .states) in
+              length-map own _ ∙ counted
+
+          pub model-word : (state : ℕ) → state < header .states
+              → nodeOf (drop (nodeSize * (here .leaves ! state)) nodes) .value
+              ≡ modelsOf (nodesBook header nodes) (combinationsIn header words) x ! state
+          unfolding modelsOf combinationOf
+          model-word state k =
+              let at : ℕ = here .leaves ! state in
+              let (inside, (model, is)) = modelled number state h k in
+              let own : treeNode (nodeOf (drop (nodeSize * at) nodes)) ≡ leaf model =
+              sym (node-at header nodes at inside) ∙ is in
+              let leaves : List ℕ = combinationOf (combinationsIn header words) x .leaves in
+              let same : leaves ≡ here .leaves = rw e in
+              let counted : length leaves ≡ header .states = rw e (usable .each number h .states) in
+              leaf-value (nodeOf (drop (nodeSize * at) nodes)) model own
+              ∙ sym (model-is (nodesBook header nodes .nodes) at model is)
+              ∙ ap (λ (l : List ℕ). modelAt (nodesBook header nodes .nodes) (l ! state)) (sym same)
+              ∙ sym (map-at (modelAt (nodesBook header nodes .nodes)) leaves 0 0 state (omega arith))

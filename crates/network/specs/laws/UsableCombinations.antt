@@ -1,0 +1,193 @@
+-- The combinations of a book with known tables, as words, can be connected: they are read back from their
+-- words, each is a combination of the book with leaves of it, and those of each phone end where the table of
+-- ends says. So what combining leaves is what connecting asks for.
+use mathlib.Core.Path.{_≡_, refl, sym, ap, ap₂, _∙_, subst}
+use mathlib.Core.List.{List, [], _∷_, _++_, map, append-assoc, append-nil}
+use Prim.Native.Nat.{ℕ, suc, _-_, _*_, _/_, _≤_, _<_}
+use native.Mathlib.Omega.{arith}
+use lib.Dec.{T}
+use lib.ListN.{length, take, drop, length-append, length-map}
+use lib.Seq.{take-at, drop-at}
+use Rattle.definitions.specs.declared.Header.{Header}
+use Rattle.definitions.specs.Lists.{_!_, every, concatMap, records, cleared, padded}
+use Rattle.definitions.specs.Matrices.{matrixWords}
+use Rattle.definitions.specs.Tables.{Book, tablesBook}
+use Rattle.definitions.specs.ForeignTables.{tablesKnown}
+use Rattle.definitions.specs.BookLines.{leaf}
+use Rattle.definitions.specs.Lookup.{nodeAt}
+use Rattle.definitions.specs.Combinations.{Combination, combinations, combinationSize, combinationWords}
+use Rattle.definitions.specs.laws.Lists.{padded-length}
+use Rattle.definitions.specs.laws.Members.{in-at}
+use Rattle.definitions.specs.laws.Records.{joined, allOf, concatMap-joined, sized-more, joined-length}
+use Rattle.definitions.specs.laws.Records.{records-joined}
+use Rattle.definitions.specs.laws.SevenWords.{words-length, words-take}
+use Rattle.definitions.specs.laws.Ranges.{phone-range}
+use Rattle.definitions.specs.laws.Books.{InRange}
+use Rattle.definitions.specs.laws.Tables.{tree-nodes-length}
+use Rattle.definitions.specs.demand.Chosen.{Chosen, chosen-at}
+use Rattle.metastates.specs.Answers.{endsOf}
+use Rattle.tables.specs.Lending.{lentTables}
+use Rattle.tables.specs.laws.Known.{header-ranges}
+use Rattle.network.specs.Combinations.{widthOf, combinationIn, combinationsIn, numbered, IsChoice}
+use Rattle.network.specs.Combinations.{nodesBook, Usable, Modelled, EndsAt, Ending}
+use Rattle.network.specs.laws.KnownSound.{known-header, known-sound}
+use Rattle.network.specs.laws.PhoneEnds.{ends-sized, ends-at}
+
+-- ---- combinations read back
+
+module _ (header : Header) (ranged : InRange header) where
+  module _ (c : Combination) (choice : IsChoice header c) where
+    few-leaves : length (c .leaves) ≤ 3
+    few-leaves = omega (arith, choice .states, ranged .states-range .high)
+
+    narrow : length (c .matrix) ≤ 7
+    narrow = omega (arith, choice .width, ranged .half-range .high)
+
+    -- a record has eleven words
+    choice-sized : length (combinationWords c) ≡ combinationSize
+    unfolding combinationWords
+    choice-sized =
+        let nodes = padded-length 3 (c .leaves) few-leaves in
+        let columns = words-length (c .matrix) narrow in
+        simp length-append (omega (arith, nodes, columns))
+
+    -- of which the leaves and the matrix are taken
+    leaves-back : take (header .states) (padded 3 (c .leaves) ++ matrixWords (c .matrix)) ≡ c .leaves
+    unfolding padded
+    leaves-back =
+        ap (take (header .states))
+        (append-assoc (c .leaves) (cleared (3 - length (c .leaves))) (matrixWords (c .matrix)))
+        ∙ take-at (c .leaves) _ (header .states) (choice .states)
+
+    matrix-back : take (widthOf (header .half)) (drop 3 (padded 3 (c .leaves) ++ matrixWords (c .matrix)))
+        ≡ c .matrix
+    matrix-back =
+        ap (take (widthOf (header .half)))
+        (drop-at (padded 3 (c .leaves)) (matrixWords (c .matrix)) 3 (padded-length 3 (c .leaves) few-leaves))
+        ∙ ap (λ (n : ℕ). take n (matrixWords (c .matrix))) (sym (choice .width))
+        ∙ words-take (c .matrix)
+
+    choice-back : combinationIn header (combinationWords c) ≡ c
+    unfolding combinationIn combinationWords
+    choice-back = λ i. record { phone = c .phone; leaves = leaves-back i; matrix = matrix-back i }
+
+  abbrev Choices : List Combination → Type 0
+  Choices cs = (number : ℕ) → number < length cs → IsChoice header (numbered cs number)
+
+  choices-sized : (cs : List Combination) → Choices cs → T (allOf combinationSize (map combinationWords cs))
+  unfolding every
+  choices-sized [] each = tt
+  choices-sized (c ∷ cs) each =
+      sized-more combinationSize (combinationWords c) (map combinationWords cs)
+      (choice-sized c (each 0 (omega arith)))
+      (choices-sized cs (λ number h. each (suc number) (omega arith)))
+
+  choices-back : (cs : List Combination) → Choices cs
+      → map (combinationIn header) (map combinationWords cs) ≡ cs
+  choices-back [] each = refl
+  choices-back (c ∷ cs) each =
+      ap₂ (λ (x : Combination) (r : List Combination). x ∷ r) (choice-back c (each 0 (omega arith)))
+      (choices-back cs (λ number h. each (suc number) (omega arith)))
+
+  choices-length : (cs : List Combination) → Choices cs
+      → length (concatMap combinationWords cs) ≡ combinationSize * length cs
+  choices-length cs each =
+      ap length (concatMap-joined combinationWords cs)
+      ∙ joined-length combinationSize (map combinationWords cs) (choices-sized cs each)
+      ∙ ap (λ (n : ℕ). combinationSize * n) (length-map cs combinationWords)
+
+  read-back : (cs : List Combination) → Choices cs
+      → combinationsIn header (concatMap combinationWords cs) ≡ cs
+  unfolding combinationsIn
+  read-back cs each =
+      let all : List (List ℕ) = map combinationWords cs in
+      let sized : T (allOf combinationSize all) = choices-sized cs each in
+      let count : length (joined all) / combinationSize ≡ length all =
+      omega (arith, joined-length combinationSize all sized) in
+      let own : records combinationSize (length all) (joined all) ≡ all =
+      ap (records combinationSize (length all)) (sym (append-nil (joined all)))
+      ∙ records-joined combinationSize all [] sized in
+      rw (concatMap-joined combinationWords cs, count, own) (choices-back cs each)
+
+-- ---- the combinations of a book
+
+module _ (header : Header) (nodes classes roots : List ℕ)
+    (known : T (tablesKnown header (lentTables nodes classes roots))) where
+  abbrev book : Book
+  book = tablesBook header (lentTables nodes classes roots)
+
+  abbrev found : List Combination
+  found = combinations book
+
+  abbrev words : List ℕ
+  words = concatMap combinationWords found
+
+  chosen : (number : ℕ) → number < length found → Chosen book (numbered found number)
+  chosen number h = chosen-at book (known-sound header nodes classes roots known) number h
+
+  is-choice : (number : ℕ) → number < length found → IsChoice header (numbered found number)
+  unfolding tablesBook
+  is-choice number h =
+      let c = chosen number h in
+      let range = phone-range (header .phones) (numbered found number .phone) .0 (c .phone-of) in
+      record {
+        phone = range .0;
+        phones = range .1;
+        states = c .count;
+        width = omega (arith, c .width);
+        below = c .below;
+        centre = c .centre-only;
+      }
+
+  abbrev ranged : InRange header
+  ranged = header-ranges header (known-header header nodes classes roots known)
+
+  pub combinations-length : length words ≡ combinationSize * length found
+  combinations-length = choices-length header ranged found is-choice
+
+  pub combinations-back : combinationsIn header words ≡ found
+  combinations-back = read-back header ranged found is-choice
+
+  -- what holds of the combinations holds of those read back
+  back : (P : List Combination → Type 0) → P found → P (combinationsIn header words)
+  back P = subst P (sym combinations-back)
+
+  pub combinations-usable : length found ≤ 65535 → Usable header words
+  combinations-usable few = record {
+    header-known = known-header header nodes classes roots known;
+    few = back (λ cs. length cs ≤ 65535) few;
+    flat = ap (concatMap combinationWords) (sym combinations-back);
+    each = back (λ cs. (number : ℕ) → number < length cs → IsChoice header (numbered cs number)) is-choice;
+  }
+
+  -- each leaf of a combination is a leaf of the book
+  abbrev LeafIn : (node : ℕ) → Type 0
+  LeafIn node =
+      (node < header .nodes) × ((model : ℕ) × (nodeAt (nodesBook header nodes .nodes) node ≡ leaf model))
+
+  leaves-in : (number state : ℕ) → number < length found → state < header .states
+      → LeafIn (numbered found number .leaves ! state)
+  unfolding tablesBook
+  leaves-in number state h k =
+      let c = chosen number h in
+      let leaves : List ℕ = numbered found number .leaves in
+      let (listed, is-leaf) = c .each-leaf (leaves ! state) (in-at leaves state 0 (omega (arith, c .count))) in
+      (omega (arith, listed, tree-nodes-length header nodes), is-leaf)
+
+  pub combinations-modelled : Modelled header nodes words
+  combinations-modelled =
+      back
+      (λ cs. (number state : ℕ) → number < length cs → state < header .states
+      → LeafIn (numbered cs number .leaves ! state))
+      leaves-in
+
+  pub combinations-ending : Ending header words (padded 65 (endsOf book))
+  unfolding tablesBook
+  combinations-ending =
+      let sound = known-sound header nodes classes roots known in
+      record {
+        sized = ends-sized book sound (ranged .phones-range .high);
+        ends-at =
+            back (λ cs. (number : ℕ) → number < length cs → EndsAt cs (padded 65 (endsOf book)) number)
+            (ends-at book sound);
+      }

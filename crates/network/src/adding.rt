@@ -1,0 +1,228 @@
+// Adding arcs and metastates to a network within its room: 31 before the arc to that metastate, then 32.
+use crate::Arcs;
+use crate::Sizes;
+use crate::Step;
+use crate::chains::find;
+use crate::chains::link;
+use crate::reading::model_of;
+use crate::reading::phone_of;
+use definitions::Fault;
+use definitions::Header;
+use definitions::wide;
+use matrix::Matrix;
+use matrix::words::put_numbered;
+ghost use mathlib.Core.List.{[], _∷_, _++_};
+ghost use mathlib.Core.Path.{_≡_};
+ghost use Prim.Native.Nat.{_+_, _*_, _/_, _≤_, _<_, min};
+ghost use lib.Dec.{leb, ltb};
+ghost use lib.ListN.{length, set, take, drop};
+ghost use Rattle.definitions.specs.Arcs.{arcSize, arcWords};
+ghost use Rattle.definitions.specs.Connecting.{arcInto, enter, perform};
+ghost use Rattle.definitions.specs.Lists.{_!_, if_then_else_};
+ghost use Rattle.definitions.specs.Matrices.{matrixWords};
+ghost use Rattle.definitions.specs.Metastates.{metastateSize};
+ghost use Rattle.network.specs.Chains.{keyOf, links};
+ghost use Rattle.network.specs.Combinations.{widthOf, combinationsIn, nodesBook, Usable, Modelled};
+ghost use Rattle.network.specs.Networks.{networkHeld, roomOf, Holds};
+ghost use Rattle.network.specs.Steps.{Leaves, AreArcs};
+
+// How many arcs the lent words have room for.
+fn arc_room(words: usize) -> usize
+    ensures { λ r. ⌜ r ≡ min (words / arcSize) 999999 ⌝ }
+{
+    let room = words / 4;
+    if 999999 < room {
+        return 999999;
+    }
+    room
+}
+
+// How many metastates the lent words have room for.
+fn metastate_room(words: usize) -> usize
+    ensures { λ r. ⌜ r ≡ min (words / metastateSize) 65535 ⌝ }
+{
+    let room = words / 8;
+    if 65535 < room {
+        return 65535;
+    }
+    room
+}
+
+// Copies the words of new arcs.
+fn copy_arcs(words: &mut [u32], new: Arcs)
+    requires { ⌜ length (now words) ≤ 12 ⌝ }
+    ensures { λ r. ⌜ now (words .exit) ≡ take (length (now (words .entry))) (new .words) ⌝ }
+{
+    let mut i = 0;
+    while i < words.len() {
+        words[i] = new.words[i];
+        i += 1;
+    }
+}
+
+// Appends new arcs to so many, where all have room.
+pub fn add_arcs(arcs: &mut [u32], count: usize, new: Arcs) -> bool
+    requires { ⌜ (count ≤ min (length (now arcs) / arcSize) 999999) × (new .count ≤ 3) ⌝ }
+    ensures room { λ r. ⌜ r ≡ leb (count + new .count) (min (length (now (arcs .entry)) / arcSize) 999999) ⌝ }
+    ensures words { λ r. ⌜
+        now (arcs .exit) ≡ (if r
+        then take (arcSize * count) (now (arcs .entry)) ++ take (arcSize * new .count) (new .words)
+        ++ drop (arcSize * count + arcSize * new .count) (now (arcs .entry))
+        else now (arcs .entry))
+        ⌝ }
+{
+    if arc_room(arcs.len()) < count + new.count {
+        return false;
+    }
+    let from = 4 * count;
+    let end = from + 4 * new.count;
+    copy_arcs(&mut arcs[from..end], new);
+    true
+}
+
+// The arc from a state to the first state of the metastate at a place, with its first model and its phone.
+fn arc_into(
+    header: Header,
+    nodes: &[u32],
+    combinations: &[u64],
+    from: u32,
+    place: usize,
+    number: usize,
+) -> Arcs
+    requires { ⌜
+        Usable header (now combinations) × Modelled header (now nodes) (now combinations)
+        × (number < length (combinationsIn header (now combinations))) × (place < 65535)
+        ⌝ }
+    ensures { λ r. ⌜
+        AreArcs r (arcInto (nodesBook header (now (nodes .entry))) (combinationsIn header (now (combinations .entry)))
+        from place (record { number = number; matrix = [] }) ∷ [])
+        ⌝ }
+{
+    let to = 2 + place * wide(header.states);
+    let model = model_of(nodes, combinations, number, 0);
+    let phone = phone_of(combinations, number);
+    Arcs {
+        count: 1,
+        words: [from, to as u32, model, phone, 0, 0, 0, 0, 0, 0, 0, 0],
+    }
+}
+
+// Appends the arc into the metastate at a place.
+fn enter_at(
+    header: Header,
+    nodes: &[u32],
+    combinations: &[u64],
+    arcs: &mut [u32],
+    sizes: Sizes,
+    from: u32,
+    number: usize,
+    place: usize,
+) -> Step
+    requires { ⌜
+        Usable header (now combinations) × Modelled header (now nodes) (now combinations)
+        × (number < length (combinationsIn header (now combinations))) × (place < 65535)
+        × (sizes .arcs ≤ min (length (now arcs) / arcSize) 999999)
+        ⌝ }
+    ensures answer { λ r. ⌜
+        r ≡ (if ltb (sizes .arcs) (min (length (now (arcs .entry)) / arcSize) 999999)
+        then Step.Next (record { metastates = sizes .metastates; arcs = sizes .arcs + 1 })
+        else Step.Stop Fault.Tangle)
+        ⌝ }
+    ensures words { λ r. ⌜
+        now (arcs .exit) ≡ (if ltb (sizes .arcs) (min (length (now (arcs .entry)) / arcSize) 999999)
+        then take (arcSize * sizes .arcs) (now (arcs .entry))
+        ++ arcWords (arcInto (nodesBook header (now (nodes .entry)))
+        (combinationsIn header (now (combinations .entry))) from place (record { number = number; matrix = [] }))
+        ++ drop (arcSize * sizes .arcs + arcSize) (now (arcs .entry))
+        else now (arcs .entry))
+        ⌝ }
+{
+    let new = arc_into(header, nodes, combinations, from, place, number);
+    if !add_arcs(arcs, sizes.arcs, new) {
+        return Step::Stop(Fault::Tangle);
+    }
+    Step::Next(Sizes {
+        metastates: sizes.metastates,
+        arcs: sizes.arcs + 1,
+    })
+}
+
+// Puts a new metastate at the end of the table and at the front of its chain.
+fn add_metastate(metastates: &mut [u64], chains: &mut [u32], place: usize, number: usize, m: Matrix)
+    requires { ⌜
+        (metastateSize * place + metastateSize ≤ length (now metastates))
+        × (length (now chains) ≡ 131072) × (place < 65535)
+        ⌝ }
+    ensures metastates { λ r. ⌜
+        now (metastates .exit)
+        ≡ take (metastateSize * place) (now (metastates .entry)) ++ (number ∷ m .columns)
+        ++ drop (metastateSize * place + metastateSize) (now (metastates .entry))
+        ⌝ }
+    ensures chains { λ r. ⌜
+        now (chains .exit)
+        ≡ set (set (now (chains .entry)) (links + place) (now (chains .entry) ! keyOf (number ∷ m .columns)))
+        (keyOf (number ∷ m .columns)) (place + 1)
+        ⌝ }
+{
+    let at = 8 * place;
+    let end = at + 8;
+    put_numbered(&mut metastates[at..end], number as u64, m);
+    link(chains, place, number as u64, m);
+}
+
+// Appends the arc from a state into a metastate, which is added first if it is new.
+pub fn enter(
+    header: Header,
+    nodes: &[u32],
+    combinations: &[u64],
+    metastates: &mut [u64],
+    arcs: &mut [u32],
+    chains: &mut [u32],
+    sizes: Sizes,
+    from: u32,
+    number: usize,
+    m: Matrix,
+) -> Step
+    requires { ⌜
+        Usable header (now combinations) × Modelled header (now nodes) (now combinations)
+        × (number < length (combinationsIn header (now combinations)))
+        × (m .columns ≡ matrixWords (take (widthOf (header .half)) (m .columns)))
+        × Holds (header .half) (length (combinationsIn header (now combinations)))
+        (networkHeld (header .half) sizes (now metastates) (now arcs))
+        (now metastates) (now arcs) (now chains)
+        ⌝ }
+    ensures { λ r. ⌜
+        Leaves (header .half) (length (combinationsIn header (now (combinations .entry))))
+        (now (metastates .entry)) (now (arcs .entry))
+        (perform (nodesBook header (now (nodes .entry))) (combinationsIn header (now (combinations .entry)))
+        (roomOf (now (metastates .entry)) (now (arcs .entry)))
+        (networkHeld (header .half) sizes (now (metastates .entry)) (now (arcs .entry)))
+        (enter from (record { number = number; matrix = take (widthOf (header .half)) (m .columns) })))
+        r (now (metastates .exit)) (now (arcs .exit)) (now (chains .exit))
+        ⌝ }
+{
+    let used = 8 * sizes.metastates;
+    let found = find(&metastates[..used], chains, number as u64, m);
+    if found != 0 {
+        return enter_at(
+            header,
+            nodes,
+            combinations,
+            arcs,
+            sizes,
+            from,
+            number,
+            found - 1,
+        );
+    }
+    let place = sizes.metastates;
+    if metastate_room(metastates.len()) <= place {
+        return Step::Stop(Fault::Crowd);
+    }
+    add_metastate(metastates, chains, place, number, m);
+    let next = Sizes {
+        metastates: place + 1,
+        arcs: sizes.arcs,
+    };
+    enter_at(header, nodes, combinations, arcs, next, from, number, place)
+}

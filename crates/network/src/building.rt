@@ -1,0 +1,125 @@
+// The build from lent tables into lent space: 18, then 30, then 31 or 32 as construction meets them.
+use crate::Build;
+use crate::connecting::connect;
+use definitions::Header;
+use definitions::Refusal;
+use lines::clearing::clear_sets;
+use lines::clearing::clear_words;
+use metastates::Combined;
+use metastates::combining::combine;
+ghost use mathlib.Core.Path.{_≡_};
+ghost use Prim.Native.Nat.{_*_, _≤_};
+ghost use lib.ListN.{length, take};
+ghost use Rattle.definitions.specs.Building.{build, buffersLeft};
+ghost use Rattle.definitions.specs.Combinations.{combinationSize};
+ghost use Rattle.definitions.specs.Connecting.{connect};
+ghost use Rattle.definitions.specs.Lists.{cleared};
+ghost use Rattle.definitions.specs.Tables.{tablesBook};
+ghost use Rattle.tables.specs.Lending.{lentTables};
+ghost use Rattle.network.specs.Answers.{buildOf, lentSpace, lentBuffers};
+ghost use Rattle.network.specs.Combinations.{combinationsIn, nodesBook};
+ghost use Rattle.network.specs.Combinations.{Usable, Modelled, Ending};
+ghost use Rattle.network.specs.Networks.{roomOf};
+ghost use Rattle.network.specs.Steps.{BuiltIn};
+
+// Connects the combinations in the space, which is cleared where there is no room.
+fn connect_in(
+    header: Header,
+    nodes: &[u32],
+    count: usize,
+    ends: &[u32],
+    combinations: &mut [u64],
+    metastates: &mut [u64],
+    arcs: &mut [u32],
+    limit: u32,
+) -> Build
+    requires { ⌜
+        (combinationSize * count ≤ length (now combinations))
+        × Usable header (take (combinationSize * count) (now combinations))
+        × Modelled header (now nodes) (take (combinationSize * count) (now combinations))
+        × Ending header (take (combinationSize * count) (now combinations)) (now ends)
+        × (now metastates ≡ cleared (length (now metastates))) × (now arcs ≡ cleared (length (now arcs)))
+        ⌝ }
+    ensures { λ r. ⌜
+        BuiltIn (header .states) (now (combinations .entry)) (now (metastates .entry)) (now (arcs .entry))
+        (connect (nodesBook header (now (nodes .entry)))
+        (combinationsIn header (take (combinationSize * count) (now (combinations .entry))))
+        (roomOf (now (metastates .entry)) (now (arcs .entry))) limit)
+        r (now (combinations .exit)) (now (metastates .exit)) (now (arcs .exit))
+        ⌝ }
+{
+    let used = 11 * count;
+    let answer = connect(
+        header,
+        nodes,
+        &combinations[..used],
+        ends,
+        metastates,
+        arcs,
+        limit,
+    );
+    match answer {
+        Build::Finished(totals) => {
+            return Build::Finished(totals);
+        }
+        Build::Stopped(totals) => {
+            return Build::Stopped(totals);
+        }
+        Build::Refused(refusal) => {
+            clear_sets(combinations);
+            clear_sets(metastates);
+            clear_words(arcs);
+            return Build::Refused(refusal);
+        }
+    }
+}
+
+// Builds the network of a book.
+pub fn build(
+    header: Header,
+    nodes: &[u32],
+    classes: &[u64],
+    roots: &[u32],
+    combinations: &mut [u64],
+    metastates: &mut [u64],
+    arcs: &mut [u32],
+    limit: u32,
+) -> Build
+    ensures answer { λ r. ⌜
+        r ≡ buildOf (header .states) (build header
+        (lentTables (now (nodes .entry)) (now (classes .entry)) (now (roots .entry)))
+        (lentSpace (now (combinations .entry)) (now (metastates .entry)) (now (arcs .entry))) limit)
+        ⌝ }
+    ensures leaves { λ r. ⌜
+        lentBuffers (now (combinations .exit)) (now (metastates .exit)) (now (arcs .exit))
+        ≡ buffersLeft (tablesBook header
+        (lentTables (now (nodes .entry)) (now (classes .entry)) (now (roots .entry))))
+        (lentSpace (now (combinations .entry)) (now (metastates .entry)) (now (arcs .entry)))
+        (build header
+        (lentTables (now (nodes .entry)) (now (classes .entry)) (now (roots .entry)))
+        (lentSpace (now (combinations .entry)) (now (metastates .entry)) (now (arcs .entry))) limit)
+        ⌝ }
+{
+    clear_sets(metastates);
+    clear_words(arcs);
+    let by_phone = combine(header, nodes, classes, roots, combinations);
+    let answer = by_phone.answer;
+    let ends = by_phone.ends;
+    match answer {
+        Combined::Combinations(count) => {
+            return connect_in(
+                header,
+                nodes,
+                count,
+                &ends,
+                combinations,
+                metastates,
+                arcs,
+                limit,
+            );
+        }
+        Combined::Refused(refusal) => {
+            return Build::Refused(refusal);
+        }
+    }
+}

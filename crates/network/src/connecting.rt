@@ -1,0 +1,350 @@
+// Connecting by turns: the start metastates, then each turn expands the oldest unexpanded metastate.
+use crate::Arcs;
+use crate::Build;
+use crate::Sizes;
+use crate::Step;
+use crate::Totals;
+use crate::adding::add_arcs;
+use crate::following::follow;
+use crate::reading::model_of;
+use crate::reading::phone_of;
+use definitions::Counts;
+use definitions::Fault;
+use definitions::Header;
+use definitions::Refusal;
+use definitions::wide;
+use matrix::Matrix;
+use matrix::sets::all_phones;
+use matrix::shaping::around;
+use matrix::shaping::shift;
+use matrix::testing::ends_here;
+use matrix::words::matrix_from;
+ghost use mathlib.Core.List.{List, [], _∷_, _++_};
+ghost use mathlib.Core.Path.{_≡_};
+ghost use Prim.Native.Nat.{_≤_, _<_, _+_};
+ghost use lib.ListN.{length, take, drop};
+ghost use Rattle.definitions.specs.Arcs.{Arc, arc, firstState};
+ghost use Rattle.definitions.specs.Connecting.{ownArcs, finalArcs, startEvents, noNetwork, performAll, expand};
+ghost use Rattle.definitions.specs.Connecting.{turnsFrom, connect};
+ghost use Rattle.definitions.specs.Lists.{cleared};
+ghost use Rattle.definitions.specs.Matrices.{matrixWords};
+ghost use Rattle.definitions.specs.Metastates.{modelsOf};
+ghost use Rattle.network.specs.Answers.{totalsOf};
+ghost use Rattle.network.specs.Combinations.{widthOf, combinationsIn, nodesBook};
+ghost use Rattle.network.specs.Combinations.{Usable, Modelled, Ending};
+ghost use Rattle.network.specs.Networks.{networkHeld, roomOf, Holds};
+ghost use Rattle.network.specs.Steps.{Leaves, AreArcs, Connected};
+
+// The new arcs and one more.
+fn with_arc(new: Arcs, from: usize, to: usize, model: u32) -> Arcs
+    requires { ⌜ (new .count < 3) × (from < 4294967296) × (to < 4294967296) ⌝ }
+    ensures { λ r. ⌜ ((arcs : List Arc) → AreArcs new arcs → AreArcs r (arcs ++ (arc from to model 0 ∷ []))) ⌝ }
+{
+    let mut words = new.words;
+    let at = 4 * new.count;
+    words[at] = from as u32;
+    words[at + 1] = to as u32;
+    words[at + 2] = model;
+    words[at + 3] = 0;
+    Arcs {
+        count: new.count + 1,
+        words,
+    }
+}
+
+// The arcs between a metastate's own states, with the target's model.
+fn own_arcs(
+    header: Header,
+    nodes: &[u32],
+    combinations: &[u64],
+    place: usize,
+    number: usize,
+) -> Arcs
+    requires { ⌜
+        Usable header (now combinations) × Modelled header (now nodes) (now combinations)
+        × (number < length (combinationsIn header (now combinations))) × (place < 65535)
+        ⌝ }
+    ensures { λ r. ⌜
+        AreArcs r (ownArcs (firstState (header .states) place)
+        (drop 1 (modelsOf (nodesBook header (now (nodes .entry))) (combinationsIn header (now (combinations .entry)))
+        (record { number = number; matrix = [] }))))
+        ⌝ }
+{
+    let states = wide(header.states);
+    let first = 2 + place * states;
+    let mut new = Arcs {
+        count: 0,
+        words: [0; 12],
+    };
+    let mut state = 1;
+    while state < states {
+        let model = model_of(nodes, combinations, number, state);
+        new = with_arc(new, first + state - 1, first + state, model);
+        state += 1;
+    }
+    new
+}
+
+// A metastate's own arcs, and the arc to FINAL where it may end.
+fn plain_arcs(
+    header: Header,
+    nodes: &[u32],
+    combinations: &[u64],
+    place: usize,
+    number: usize,
+    m: Matrix,
+) -> Arcs
+    requires { ⌜
+        Usable header (now combinations) × Modelled header (now nodes) (now combinations)
+        × (number < length (combinationsIn header (now combinations))) × (place < 65535)
+        × (m .columns ≡ matrixWords (take (widthOf (header .half)) (m .columns)))
+        ⌝ }
+    ensures { λ r. ⌜
+        AreArcs r (ownArcs (firstState (header .states) place)
+        (drop 1 (modelsOf (nodesBook header (now (nodes .entry))) (combinationsIn header (now (combinations .entry)))
+        (record { number = number; matrix = take (widthOf (header .half)) (m .columns) })))
+        ++ finalArcs (nodesBook header (now (nodes .entry))) (combinationsIn header (now (combinations .entry))) place
+        (record { number = number; matrix = take (widthOf (header .half)) (m .columns) }))
+        ⌝ }
+{
+    let own = own_arcs(header, nodes, combinations, place, number);
+    if phone_of(combinations, number) != 1 {
+        return own;
+    }
+    if !ends_here(m, header.half) {
+        return own;
+    }
+    let last = 1 + (place + 1) * wide(header.states);
+    with_arc(own, last, 1, 0)
+}
+
+// A turn: appends the arcs of the metastate at a place.
+fn expand(
+    header: Header,
+    nodes: &[u32],
+    combinations: &[u64],
+    ends: &[u32],
+    metastates: &mut [u64],
+    arcs: &mut [u32],
+    chains: &mut [u32],
+    sizes: Sizes,
+    place: usize,
+) -> Step
+    requires { ⌜
+        Usable header (now combinations) × Modelled header (now nodes) (now combinations)
+        × Ending header (now combinations) (now ends)
+        × (place < sizes .metastates)
+        × Holds (header .half) (length (combinationsIn header (now combinations)))
+        (networkHeld (header .half) sizes (now metastates) (now arcs))
+        (now metastates) (now arcs) (now chains)
+        ⌝ }
+    ensures { λ r. ⌜
+        Leaves (header .half) (length (combinationsIn header (now (combinations .entry))))
+        (now (metastates .entry)) (now (arcs .entry))
+        (expand (nodesBook header (now (nodes .entry))) (combinationsIn header (now (combinations .entry)))
+        (roomOf (now (metastates .entry)) (now (arcs .entry))) place
+        (networkHeld (header .half) sizes (now (metastates .entry)) (now (arcs .entry))))
+        r (now (metastates .exit)) (now (arcs .exit)) (now (chains .exit))
+        ⌝ }
+{
+    let from = 8 * place;
+    let number = metastates[from] as usize;
+    let m = matrix_from(&metastates[from + 1..from + 8]);
+    let new = plain_arcs(header, nodes, combinations, place, number, m);
+    if !add_arcs(arcs, sizes.arcs, new) {
+        return Step::Stop(Fault::Tangle);
+    }
+    let next = Sizes {
+        metastates: sizes.metastates,
+        arcs: sizes.arcs + new.count,
+    };
+    let last = 1 + (place + 1) * wide(header.states);
+    let shifted = shift(m, 2 * wide(header.half), all_phones(header.phones));
+    follow(
+        header,
+        nodes,
+        combinations,
+        ends,
+        metastates,
+        arcs,
+        chains,
+        next,
+        last as u32,
+        shifted,
+    )
+}
+
+// The start metastates and their arcs: those that follow silence, with silence to the left.
+fn start(
+    header: Header,
+    nodes: &[u32],
+    combinations: &[u64],
+    ends: &[u32],
+    metastates: &mut [u64],
+    arcs: &mut [u32],
+    chains: &mut [u32],
+) -> Step
+    requires { ⌜
+        Usable header (now combinations) × Modelled header (now nodes) (now combinations)
+        × Ending header (now combinations) (now ends)
+        × Holds (header .half) (length (combinationsIn header (now combinations))) noNetwork
+        (now metastates) (now arcs) (now chains)
+        ⌝ }
+    ensures { λ r. ⌜
+        Leaves (header .half) (length (combinationsIn header (now (combinations .entry))))
+        (now (metastates .entry)) (now (arcs .entry))
+        (performAll (nodesBook header (now (nodes .entry))) (combinationsIn header (now (combinations .entry)))
+        (roomOf (now (metastates .entry)) (now (arcs .entry))) noNetwork
+        (startEvents (nodesBook header (now (nodes .entry))) (combinationsIn header (now (combinations .entry)))))
+        r (now (metastates .exit)) (now (arcs .exit)) (now (chains .exit))
+        ⌝ }
+{
+    let before = around(header.half, 1, 1, all_phones(header.phones));
+    let none = Sizes {
+        metastates: 0,
+        arcs: 0,
+    };
+    follow(
+        header,
+        nodes,
+        combinations,
+        ends,
+        metastates,
+        arcs,
+        chains,
+        none,
+        0,
+        before,
+    )
+}
+
+fn totals(header: Header, turns: u32, sizes: Sizes) -> Totals
+    requires { ⌜ (sizes .metastates < 4294967296) × (sizes .arcs < 4294967296) ⌝ }
+    ensures { λ r. ⌜
+        r ≡ record {
+          turns = turns;
+          counts = record { states = header .states; metastates = sizes .metastates; arcs = sizes .arcs };
+        }
+        ⌝ }
+{
+    Totals {
+        turns,
+        counts: Counts {
+            states: header.states,
+            metastates: sizes.metastates as u32,
+            arcs: sizes.arcs as u32,
+        },
+    }
+}
+
+// The turns after the start, until none is left to expand, the limit is used up, or there is no room.
+fn turn(
+    header: Header,
+    nodes: &[u32],
+    combinations: &[u64],
+    ends: &[u32],
+    metastates: &mut [u64],
+    arcs: &mut [u32],
+    chains: &mut [u32],
+    sizes: Sizes,
+    limit: u32,
+) -> Build
+    requires { ⌜
+        Usable header (now combinations) × Modelled header (now nodes) (now combinations)
+        × Ending header (now combinations) (now ends)
+        × Holds (header .half) (length (combinationsIn header (now combinations)))
+        (networkHeld (header .half) sizes (now metastates) (now arcs))
+        (now metastates) (now arcs) (now chains)
+        ⌝ }
+    ensures { λ r. ⌜
+        Connected (header .states) (now (metastates .entry)) (now (arcs .entry))
+        (turnsFrom (nodesBook header (now (nodes .entry))) (combinationsIn header (now (combinations .entry)))
+        (roomOf (now (metastates .entry)) (now (arcs .entry))) limit 0
+        (networkHeld (header .half) sizes (now (metastates .entry)) (now (arcs .entry))))
+        r (now (metastates .exit)) (now (arcs .exit))
+        ⌝ }
+{
+    let mut now = sizes;
+    let mut turns = 0;
+    while turns < limit {
+        if now.metastates <= wide(turns) {
+            return Build::Finished(totals(header, turns, now));
+        }
+        let step = expand(
+            header,
+            nodes,
+            combinations,
+            ends,
+            metastates,
+            arcs,
+            chains,
+            now,
+            wide(turns),
+        );
+        match step {
+            Step::Next(next) => {
+                now = next;
+            }
+            Step::Stop(fault) => {
+                return Build::Refused(Refusal { fault, line: 0 });
+            }
+        }
+        turns += 1;
+    }
+    if now.metastates <= wide(turns) {
+        return Build::Finished(totals(header, turns, now));
+    }
+    Build::Stopped(totals(header, turns, now))
+}
+
+// Connects the combinations into cleared space.
+pub fn connect(
+    header: Header,
+    nodes: &[u32],
+    combinations: &[u64],
+    ends: &[u32],
+    metastates: &mut [u64],
+    arcs: &mut [u32],
+    limit: u32,
+) -> Build
+    requires { ⌜
+        Usable header (now combinations) × Modelled header (now nodes) (now combinations)
+        × Ending header (now combinations) (now ends)
+        × (now metastates ≡ cleared (length (now metastates))) × (now arcs ≡ cleared (length (now arcs)))
+        ⌝ }
+    ensures { λ r. ⌜
+        Connected (header .states) (now (metastates .entry)) (now (arcs .entry))
+        (connect (nodesBook header (now (nodes .entry))) (combinationsIn header (now (combinations .entry)))
+        (roomOf (now (metastates .entry)) (now (arcs .entry))) limit)
+        r (now (metastates .exit)) (now (arcs .exit))
+        ⌝ }
+{
+    let mut chains = [0u32; 131072];
+    let step = start(
+        header,
+        nodes,
+        combinations,
+        ends,
+        metastates,
+        arcs,
+        &mut chains,
+    );
+    match step {
+        Step::Next(sizes) => {
+            return turn(
+                header,
+                nodes,
+                combinations,
+                ends,
+                metastates,
+                arcs,
+                &mut chains,
+                sizes,
+                limit,
+            );
+        }
+        Step::Stop(fault) => {
+            return Build::Refused(Refusal { fault, line: 0 });
+        }
+    }
+}

@@ -1,0 +1,165 @@
+// The combinations whose matrices meet a shifted matrix validly, and the arcs to those metastates.
+use crate::Sizes;
+use crate::Step;
+use crate::adding::enter;
+use crate::reading::matrix_of;
+use crate::reading::phone_of;
+use definitions::Header;
+use definitions::wide;
+use matrix::Matrix;
+use matrix::meeting::meet;
+use matrix::sets::has_phone;
+use matrix::testing::valid;
+ghost use mathlib.Core.List.{map};
+ghost use mathlib.Core.Path.{_≡_};
+ghost use mathlib.Core.Bool.{true, false};
+ghost use Prim.Native.Nat.{ℕ, _≤_, _<_};
+ghost use lib.ListN.{length, take};
+ghost use Rattle.definitions.specs.Connecting.{enter, performAll};
+ghost use Rattle.definitions.specs.Matrices.{matrixWords, valid, meet};
+ghost use Rattle.definitions.specs.Metastates.{followersFrom};
+ghost use Rattle.network.specs.Combinations.{widthOf, combinationsIn, numbered, nodesBook};
+ghost use Rattle.network.specs.Combinations.{Usable, Modelled, Ending};
+ghost use Rattle.network.specs.Networks.{networkHeld, roomOf, Holds};
+ghost use Rattle.network.specs.Steps.{Leaves};
+ghost use Rattle.network.specs.Following.{NextFollower};
+
+// Whether a combination's matrix meets a matrix validly; not tried where the centre lacks its phone.
+fn follows(header: Header, combinations: &[u64], number: usize, shifted: Matrix) -> bool
+    requires { ⌜
+        Usable header (now combinations) × (number < length (combinationsIn header (now combinations)))
+        × (shifted .columns ≡ matrixWords (take (widthOf (header .half)) (shifted .columns)))
+        ⌝ }
+    ensures { λ r. ⌜
+        r ≡ valid (meet (take (widthOf (header .half)) (shifted .columns))
+        (numbered (combinationsIn header (now (combinations .entry))) number .matrix))
+        ⌝ }
+{
+    let centre = shifted.columns[wide(header.half)];
+    if !has_phone(centre, phone_of(combinations, number)) {
+        return false;
+    }
+    valid(
+        meet(shifted, matrix_of(combinations, number)),
+        2 * wide(header.half) + 1,
+    )
+}
+
+// Where to look after a combination: at the next, or after all of its phone where the centre lacks that.
+fn after(
+    header: Header,
+    combinations: &[u64],
+    ends: &[u32],
+    number: usize,
+    shifted: Matrix,
+) -> usize
+    requires { ⌜
+        Usable header (now combinations) × Ending header (now combinations) (now ends)
+        × (number < length (combinationsIn header (now combinations)))
+        × (shifted .columns ≡ matrixWords (take (widthOf (header .half)) (shifted .columns)))
+        × (valid (meet (take (widthOf (header .half)) (shifted .columns))
+        (numbered (combinationsIn header (now combinations)) number .matrix)) ≡ false)
+        ⌝ }
+    ensures { λ r. ⌜
+        (number < r) × (r ≤ length (combinationsIn header (now (combinations .entry))))
+        × ((i : ℕ) → number ≤ i → i < r
+        → valid (meet (take (widthOf (header .half)) (shifted .columns))
+        (numbered (combinationsIn header (now (combinations .entry))) i .matrix)) ≡ false)
+        ⌝ }
+{
+    let centre = shifted.columns[wide(header.half)];
+    let phone = phone_of(combinations, number);
+    if has_phone(centre, phone) {
+        return number + 1;
+    }
+    wide(ends[wide(phone)])
+}
+
+// The first combination from one on that meets a matrix validly, or the number of combinations.
+fn next_follower(
+    header: Header,
+    combinations: &[u64],
+    ends: &[u32],
+    from: usize,
+    shifted: Matrix,
+) -> usize
+    requires { ⌜
+        Usable header (now combinations) × Ending header (now combinations) (now ends)
+        × (from ≤ length (combinationsIn header (now combinations)))
+        × (shifted .columns ≡ matrixWords (take (widthOf (header .half)) (shifted .columns)))
+        ⌝ }
+    ensures { λ r. ⌜
+        NextFollower (take (widthOf (header .half)) (shifted .columns))
+        (combinationsIn header (now (combinations .entry))) from r
+        ⌝ }
+{
+    let mut number = from;
+    while number < combinations.len() / 11 {
+        if follows(header, combinations, number, shifted) {
+            return number;
+        }
+        number = after(header, combinations, ends, number, shifted);
+    }
+    number
+}
+
+// Appends the arcs from a state into the metastates that a shifted matrix leads to, in combination order.
+pub fn follow(
+    header: Header,
+    nodes: &[u32],
+    combinations: &[u64],
+    ends: &[u32],
+    metastates: &mut [u64],
+    arcs: &mut [u32],
+    chains: &mut [u32],
+    sizes: Sizes,
+    from: u32,
+    shifted: Matrix,
+) -> Step
+    requires { ⌜
+        Usable header (now combinations) × Modelled header (now nodes) (now combinations)
+        × Ending header (now combinations) (now ends)
+        × (shifted .columns ≡ matrixWords (take (widthOf (header .half)) (shifted .columns)))
+        × Holds (header .half) (length (combinationsIn header (now combinations)))
+        (networkHeld (header .half) sizes (now metastates) (now arcs))
+        (now metastates) (now arcs) (now chains)
+        ⌝ }
+    ensures { λ r. ⌜
+        Leaves (header .half) (length (combinationsIn header (now (combinations .entry))))
+        (now (metastates .entry)) (now (arcs .entry))
+        (performAll (nodesBook header (now (nodes .entry))) (combinationsIn header (now (combinations .entry)))
+        (roomOf (now (metastates .entry)) (now (arcs .entry)))
+        (networkHeld (header .half) sizes (now (metastates .entry)) (now (arcs .entry)))
+        (map (enter from) (followersFrom (take (widthOf (header .half)) (shifted .columns)) 0
+        (combinationsIn header (now (combinations .entry))))))
+        r (now (metastates .exit)) (now (arcs .exit)) (now (chains .exit))
+        ⌝ }
+{
+    let mut now = sizes;
+    let mut number = next_follower(header, combinations, ends, 0, shifted);
+    while number < combinations.len() / 11 {
+        let met = meet(shifted, matrix_of(combinations, number));
+        let step = enter(
+            header,
+            nodes,
+            combinations,
+            metastates,
+            arcs,
+            chains,
+            now,
+            from,
+            number,
+            met,
+        );
+        match step {
+            Step::Next(next) => {
+                now = next;
+            }
+            Step::Stop(fault) => {
+                return Step::Stop(fault);
+            }
+        }
+        number = next_follower(header, combinations, ends, number + 1, shifted);
+    }
+    Step::Next(now)
+}

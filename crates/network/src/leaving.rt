@@ -1,0 +1,65 @@
+// The arcs that leave a state, handed out as a part of the lent arcs: 18, then 42.
+use crate::known::is_state;
+use crate::known::network_known;
+use definitions::Counts;
+use definitions::wide;
+ghost use mathlib.Core.Path.{_≡_};
+ghost use Prim.Native.Nat.{_+_, _*_, _/_};
+ghost use denote.Ref.{ptr};
+ghost use lib.Dec.{T, ltb};
+ghost use lib.ListN.{length};
+ghost use Rattle.definitions.specs.Arcs.{arcSize, arcsIn};
+ghost use Rattle.definitions.specs.Leaving.{leaving, partHanded, partWords};
+ghost use Rattle.definitions.specs.Lists.{select};
+ghost use Rattle.definitions.specs.NetworkText.{neverDescending};
+ghost use Rattle.network.specs.Answers.{faultOf};
+
+// How many arcs have a source below a state, by bisection: sources never descend.
+fn arcs_below(arcs: &[u32], state: usize) -> usize
+    requires { ⌜ T (neverDescending (arcsIn (length (now arcs) / arcSize) (now arcs))) ⌝ }
+    ensures { λ r. ⌜
+        r ≡ length (select (λ a. ltb (a .from) state)
+        (arcsIn (length (now (arcs .entry)) / arcSize) (now (arcs .entry))))
+        ⌝ }
+{
+    let mut low = 0;
+    let mut high = arcs.len() / 4;
+    while low < high {
+        let middle = low + (high - low) / 2;
+        if wide(arcs[4 * middle]) < state {
+            low = middle + 1;
+        } else {
+            high = middle;
+        }
+    }
+    low
+}
+
+// Hands out the arcs that leave a state; `fault` becomes 0, or the number of the fault. The part's address says where it stands, also
+// where it has no arcs.
+pub fn leaving<'a>(counts: Counts, arcs: &'a [u32], state: u32, fault: &mut u32) -> &'a [u32]
+    ensures fault { λ r. ⌜ now (fault .exit) ≡ faultOf (leaving counts (now (arcs .entry)) state) ⌝ }
+    ensures address { λ r. ⌜
+        ptr r ≡ (
+          ptr (arcs .entry) .0,
+          arcSize * partHanded (leaving counts (now (arcs .entry)) state) .start * 4 + ptr (arcs .entry) .1,
+        )
+        ⌝ }
+    ensures part { λ r. ⌜
+        now r ≡ partWords (now (arcs .entry)) (partHanded (leaving counts (now (arcs .entry)) state))
+        ⌝ }
+{
+    if !network_known(counts, arcs) {
+        *fault = 18;
+        return &arcs[0..0];
+    }
+    if !is_state(counts, state) {
+        *fault = 42;
+        return &arcs[0..0];
+    }
+    let used = 4 * wide(counts.arcs);
+    let first = arcs_below(&arcs[..used], wide(state));
+    let end = arcs_below(&arcs[..used], wide(state) + 1);
+    *fault = 0;
+    &arcs[4 * first..4 * end]
+}

@@ -1,0 +1,44 @@
+// The network: connecting metastates by turns into lent space, and the arcs that leave a state.
+mod adding;
+pub mod building;
+mod chains;
+mod connecting;
+mod following;
+pub mod known;
+pub mod leaving;
+mod reading;
+
+use definitions::Counts;
+use definitions::Fault;
+use definitions::Refusal;
+
+// The turns that a build has done, and the counts of its network.
+pub struct Totals {
+    pub turns: u32,
+    pub counts: Counts,
+}
+
+// What a build answers: finished, or stopped with a metastate still unexpanded, or the refusal.
+pub enum Build {
+    Finished(Totals),
+    Stopped(Totals),
+    Refused(Refusal),
+}
+
+// How many metastates and arcs a network has so far.
+struct Sizes {
+    metastates: usize,
+    arcs: usize,
+}
+
+// What adding to a network leads to.
+enum Step {
+    Next(Sizes),
+    Stop(Fault),
+}
+
+// Up to three arcs, as words.
+struct Arcs {
+    count: usize,
+    words: [u32; 12],
+}
