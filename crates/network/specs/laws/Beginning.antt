@@ -80,4 +80,5 @@ module _ {header : Header} {combinations : List ℕ} (usable : Usable header com
         λ l. performAll (nodesBook header nodes) cs (roomOf metastates arcs) noNetwork (map (enter 0) l) in
         subst (λ (l : List Metastate).
         Leaves (header .half) (length cs) metastates arcs (entering l) answer metastates′ arcs′ chains′)
-        (ap (λ (m : Matrix). followersFrom m 0 cs) columns-is ∙ sym (starts-follow header cs (usable .each))) left
+        (ap (λ (m : Matrix). followersFrom m 0 cs) columns-is
+        ∙ sym (starts-follow header cs (usable .each))) left

@@ -56,6 +56,14 @@ module _ (book : Book) (combinations : List Combination) (room : Room) where
 
 -- ---- the turns of the code
 
+-- the answer's numbers
+abbrev totalsAt : (states turns : ℕ) → Sizes → Totals
+totalsAt states turns sizes =
+    record {
+      turns = turns;
+      counts = record { states = states; metastates = sizes .metastates; arcs = sizes .arcs };
+    }
+
 -- after so many turns: what the words hold, and what is left of the build
 pub record Turned (header : Header) (nodes combinations metastates₀ arcs₀ : List ℕ) (sizes₀ : Sizes) (limit : ℕ)
     (metastates arcs chains : List ℕ) (sizes : Sizes) (turns : ℕ) : Type 0 where
@@ -122,17 +130,11 @@ module _ (header : Header) (nodes combinations metastates₀ arcs₀ : List ℕ)
 
       -- ---- the answers
 
-      totals-are : {total : Totals}
-          → total ≡ record {
-            turns = turns;
-            counts = record { states = header .states; metastates = sizes .metastates; arcs = sizes .arcs };
-          } → total ≡ totalsOf (header .states) turns net
+      totals-are : {total : Totals} → total ≡ totalsAt (header .states) turns sizes
+          → total ≡ totalsOf (header .states) turns net
       unfolding totalsOf countsIn
       totals-are e =
-          e ∙ ap₂ (λ (m a : ℕ). record {
-            turns = turns;
-            counts = record { states = header .states; metastates = m; arcs = a };
-          }) (sym metastates-are) (sym arcs-are)
+          e ∙ ap (totalsAt (header .states) turns) (sym (held-sizes (header .half) sizes metastates arcs))
 
       answered-left : {answer : Build} (built : Built) → networkIn built ≡ net → whole ≡ answered built
           → answer ≡ buildOf (header .states) (answered built)
@@ -157,10 +159,7 @@ module _ (header : Header) (nodes combinations metastates₀ arcs₀ : List ℕ)
           the-same other k = let both : answered built ≡ answered other = sym e ∙ k in cc
 
       pub turn-finished : {place : ℕ} {total : Totals} → place ≡ turns → sizes .metastates ≤ place
-          → total ≡ record {
-            turns = turns;
-            counts = record { states = header .states; metastates = sizes .metastates; arcs = sizes .arcs };
-          }
+          → total ≡ totalsAt (header .states) turns sizes
           → Connected (header .states) metastates₀ arcs₀ whole (build.Finished total) metastates arcs
       unfolding networkIn buildOf
       turn-finished e h total =
@@ -170,10 +169,7 @@ module _ (header : Header) (nodes combinations metastates₀ arcs₀ : List ℕ)
 
       pub turn-stopped : {place : ℕ} {total : Totals} → place ≡ turns → limit ≤ turns
           → place < sizes .metastates
-          → total ≡ record {
-            turns = turns;
-            counts = record { states = header .states; metastates = sizes .metastates; arcs = sizes .arcs };
-          }
+          → total ≡ totalsAt (header .states) turns sizes
           → Connected (header .states) metastates₀ arcs₀ whole (build.Stopped total) metastates arcs
       unfolding networkIn buildOf
       turn-stopped e k h total =

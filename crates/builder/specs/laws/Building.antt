@@ -1,0 +1,201 @@
+-- Laws about reading and building put together: what the text leads to where reading refuses it, and where it
+-- accepts it, by what the build from the tables then gives; and demand 3 of a finished answer.
+use mathlib.Core.Path.{_≡_, refl, sym, ap, _∙_, subst}
+use mathlib.Core.List.{List}
+use Prim.Native.Nat.{ℕ}
+use native.Mathlib.Omega.{arith}
+use lib.ListN.{length}
+use Rattle.definitions.specs.declared.Refusal.{Refusal}
+use Rattle.definitions.specs.declared.Header.{Header}
+use Rattle.definitions.specs.Lists.{cleared}
+use Rattle.definitions.specs.Faults.{Outcome, answered, refused, andThen}
+use Rattle.definitions.specs.BookLines.{BookLine, headerOf}
+use Rattle.definitions.specs.BookReading.{Lent, readBook}
+use Rattle.definitions.specs.Tables.{Book, Tables, tablesLeft, noTables, tablesBook}
+use Rattle.definitions.specs.Connecting.{Built}
+use Rattle.definitions.specs.Building.{Space, build, Buffers, buffersLeft, noBuffers}
+use Rattle.definitions.specs.BookBuilding.{BookBuilt, buildRead, buildBook, tablesAfter, buffersAfter}
+use Rattle.definitions.specs.demand.Demand.{demand3}
+use Rattle.tables.specs.Lending.{lentTables, lengthsOf}
+use Rattle.book.specs.declared.Reading.{Reading}
+use Rattle.book.specs.declared.Reading.the-variants as reading
+use Rattle.book.specs.Answers.{readingOf}
+use Rattle.network.specs.declared.Totals.{Totals}
+use Rattle.network.specs.declared.Build.{Build}
+use Rattle.network.specs.declared.Build.the-variants as build
+use Rattle.network.specs.Answers.{totalsOf, buildOf, lentBuffers}
+use Rattle.builder.specs.Answers.{bookAnswer, MeetsDemand3}
+use Rattle.builder.specs.Tables.{tablesKept}
+use Rattle.builder.specs.laws.Keeping.{finished-inverted}
+
+-- ---- what reading answered
+
+-- it accepted lines with this header,
+pub read-accepted : (outcome : Outcome (List BookLine)) (header : Header)
+    → reading.Accepted header ≡ readingOf outcome
+    → (lines : List BookLine) × (outcome ≡ answered lines) × (headerOf lines ≡ header)
+unfolding readingOf
+read-accepted (answered lines) header e = (lines, refl, (cc))
+read-accepted (refused r) header e = absurd (accepted-not-refused header r e)
+  where
+    accepted-not-refused : (header : Header) (r : Refusal) → reading.Accepted header ≡ reading.Refused r → ⊥
+    accepted-not-refused header r e = let z : _≡_ {A = ℕ} 0 1 = cc in omega arith
+
+-- or it refused
+pub read-refused : (outcome : Outcome (List BookLine)) (r : Refusal) → reading.Refused r ≡ readingOf outcome
+    → outcome ≡ refused r
+unfolding readingOf
+read-refused (answered lines) r e = absurd (refused-not-accepted e)
+  where
+    refused-not-accepted : reading.Refused r ≡ reading.Accepted (headerOf lines) → ⊥
+    refused-not-accepted e = let z : _≡_ {A = ℕ} 0 1 = cc in omega arith
+read-refused (refused s) r e = let same : r ≡ s = cc in rw same
+
+-- ---- a text that reading refuses
+
+module _ (lent : Lent) (space : Space) (limit : ℕ) (text : List ℕ) (r : Refusal)
+    (e : readBook lent text ≡ refused r)
+  where
+    pub refused-book : buildBook lent space limit text ≡ refused r
+    unfolding buildBook andThen
+    refused-book = rw e
+
+    pub refused-answer : build.Refused r ≡ bookAnswer (buildBook lent space limit text)
+    unfolding bookAnswer
+    refused-answer = rw refused-book
+
+    pub refused-tables : (tables : Tables) → tables ≡ tablesLeft lent (readBook lent text)
+        → tables ≡ tablesAfter lent (buildBook lent space limit text)
+    unfolding tablesAfter tablesLeft
+    refused-tables tables h = h ∙ rw (e, refused-book)
+
+    pub refused-buffers : (buffers : Buffers) → buffers ≡ noBuffers space
+        → buffers ≡ buffersAfter lent space (buildBook lent space limit text)
+    unfolding buffersAfter
+    refused-buffers buffers h = h ∙ rw refused-book
+
+    pub refused-demand : (arcs : List ℕ) → MeetsDemand3 lent text (build.Refused r) arcs
+    refused-demand arcs totals f = absurd (not-finished f)
+      where
+        not-finished : build.Refused r ≡ build.Finished totals → ⊥
+        not-finished f = let z : _≡_ {A = ℕ} 0 1 = cc in omega arith
+
+-- ---- a text that reading accepts
+
+module _ (lent : Lent) (space : Space) (limit : ℕ) (text : List ℕ) (lines : List BookLine)
+    (e : readBook lent text ≡ answered lines)
+  where
+    -- the tables as reading left them, and what the build gives
+    abbrev tablesRead : Tables
+    tablesRead = tablesLeft lent (readBook lent text)
+
+    abbrev outcome : Outcome Built
+    outcome = build (headerOf lines) tablesRead space limit
+
+    abbrev withLines : Outcome Built → Outcome BookBuilt
+    withLines o = andThen o (λ built. answered (record { lines = lines; built = built }))
+
+    built-book : buildBook lent space limit text ≡ withLines outcome
+    unfolding buildBook buildRead andThen
+    built-book = rw e
+
+    pub built-answer : (answer : Build) → answer ≡ buildOf (headerOf lines .states) outcome
+        → answer ≡ bookAnswer (buildBook lent space limit text)
+    unfolding bookAnswer buildOf andThen
+    built-answer answer h = h ∙ go outcome ∙ ap bookAnswer (sym built-book)
+      where
+        go : (o : Outcome Built) → buildOf (headerOf lines .states) o ≡ bookAnswer (withLines o)
+        go (answered built) = refl
+        go (refused r) = refl
+
+    pub built-tables : (tables : Tables)
+        → lent ≡ lengthsOf (tablesRead .nodes) (tablesRead .classes) (tablesRead .roots)
+        → tables ≡ tablesKept tablesRead outcome
+        → tables ≡ tablesAfter lent (buildBook lent space limit text)
+    unfolding tablesAfter tablesKept andThen
+    built-tables tables sized h = h ∙ go outcome ∙ ap (tablesAfter lent) (sym built-book)
+      where
+        go : (o : Outcome Built) → tablesKept tablesRead o ≡ tablesAfter lent (withLines o)
+        go (answered built) = ap (tablesLeft lent) e
+        go (refused r) = ap noTables (sym sized)
+
+    pub built-buffers : (buffers : Buffers)
+        → buffers ≡ buffersLeft (tablesBook (headerOf lines) tablesRead) space outcome
+        → buffers ≡ buffersAfter lent space (buildBook lent space limit text)
+    unfolding buffersLeft buffersAfter andThen
+    built-buffers buffers h = h ∙ go outcome ∙ ap (buffersAfter lent space) (sym built-book)
+      where
+        go : (o : Outcome Built)
+            → buffersLeft (tablesBook (headerOf lines) tablesRead) space o ≡ buffersAfter lent space (withLines o)
+        go (answered built) = rw e
+        go (refused r) = refl
+
+    -- demand 3, of the answer's own counts and the words in the arc buffer
+    pub built-demand : (answer : Build) (arcs : List ℕ) → answer ≡ buildOf (headerOf lines .states) outcome
+        → arcs ≡ buffersLeft (tablesBook (headerOf lines) tablesRead) space outcome .arcs
+        → MeetsDemand3 lent text answer arcs
+    unfolding totalsOf
+    built-demand answer arcs h left totals f =
+        let (turns, net, done, same) = finished-inverted (headerOf lines .states) outcome totals (sym f ∙ h) in
+        (lines, e, rw (same, left) (demand3 lent text lines space limit e turns net done))
+
+-- ---- the two ways that reading and building end, as the code meets them
+
+-- what reading and building together answer and leave
+abbrev pub BookEnds : Lent → Space → (limit : ℕ) → (text : List ℕ) → Build → Tables → Buffers → Type 0
+BookEnds lent space limit text answer tables buffers =
+    (answer ≡ bookAnswer (buildBook lent space limit text))
+    × ((tables ≡ tablesAfter lent (buildBook lent space limit text))
+    × ((buffers ≡ buffersAfter lent space (buildBook lent space limit text))
+    × MeetsDemand3 lent text answer (buffers .arcs)))
+
+module _ (lent : Lent) (space : Space) (limit : ℕ) (text : List ℕ) where
+  -- what the build from these tables under this header answers and leaves is what the whole does
+  abbrev EndsFrom : Header → Tables → Type 0
+  EndsFrom header tables =
+      (answer : Build) (tables′ : Tables) (buffers : Buffers)
+      → length (tables .nodes) ≡ lent .nodes → length (tables .classes) ≡ lent .classes
+      → length (tables .roots) ≡ lent .roots
+      → answer ≡ buildOf (header .states) (build header tables space limit)
+      → tables′ ≡ tablesKept tables (build header tables space limit)
+      → buffers ≡ buffersLeft (tablesBook header tables) space (build header tables space limit)
+      → BookEnds lent space limit text answer tables′ buffers
+
+  ends-read : (lines : List BookLine) → readBook lent text ≡ answered lines
+      → EndsFrom (headerOf lines) (tablesLeft lent (readBook lent text))
+  ends-read lines e answer tables′ buffers n c r a t b = (
+    built-answer lent space limit text lines e answer a,
+    (
+      built-tables lent space limit text lines e tables′ (rw (n, c, r)) t,
+      (
+        built-buffers lent space limit text lines e buffers b,
+        built-demand lent space limit text lines e answer (buffers .arcs) a (ap (λ (x : Buffers). x .arcs) b),
+      ),
+    ),
+  )
+
+  module _ {reads : Reading} {tables : Tables}
+      (told : reads ≡ readingOf (readBook lent text)) (left : tables ≡ tablesLeft lent (readBook lent text))
+    where
+      pub accepted-returns : (header : Header) → reads ≡ reading.Accepted header → EndsFrom header tables
+      accepted-returns header f =
+          let (lines, e, same) = read-accepted (readBook lent text) header (sym f ∙ told) in
+          subst (λ (h : Header). EndsFrom h tables) same
+          (subst (λ (x : Tables). EndsFrom (headerOf lines) x) (sym left) (ends-read lines e))
+
+      pub refused-returns : (r : Refusal) → reads ≡ reading.Refused r → (combinations metastates arcs : List ℕ)
+          → combinations ≡ cleared (space .combinations) → metastates ≡ cleared (space .metastates)
+          → arcs ≡ cleared (space .arcs)
+          → BookEnds lent space limit text (build.Refused r) tables (lentBuffers combinations metastates arcs)
+      unfolding noBuffers
+      refused-returns r f combinations metastates arcs x y z =
+          let e = read-refused (readBook lent text) r (sym f ∙ told) in (
+            refused-answer lent space limit text r e,
+            (
+              refused-tables lent space limit text r e tables left,
+              (
+                refused-buffers lent space limit text r e (lentBuffers combinations metastates arcs) (rw (x, y, z)),
+                refused-demand lent space limit text r e arcs,
+              ),
+            ),
+          )

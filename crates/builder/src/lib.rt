@@ -1,0 +1,2 @@
+// Reading a tree book and building its network.
+pub mod building;
