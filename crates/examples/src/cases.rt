@@ -1,5 +1,6 @@
 // One book: what reading answers and leaves, and then its trees.
 use crate::answers::print_refusal;
+use crate::networks::show_whole;
 use crate::printing::print;
 use crate::printing::print_number;
 use crate::printing::print_sets;
@@ -81,6 +82,7 @@ pub fn show_case(title: &[u8], text: &[u8]) {
             print_tables(&nodes, &classes, &roots);
             show_trees(header, &nodes, &classes, &roots);
             show_foreign(header, &mut nodes, &mut classes, &mut roots);
+            show_whole(text);
         }
         Reading::Refused(refusal) => {
             print_refusal(refusal);

@@ -5,11 +5,13 @@ ghost use lib.ListN.{length};
 
 mod answers;
 mod cases;
+mod networks;
 mod printing;
 mod sequences;
 mod strangers;
 
 use cases::show_case;
+use networks::show_sizes;
 
 // The place of a byte at or after `from`, or the text's length.
 fn find(text: &[u8], from: usize, byte: u8) -> usize
@@ -26,7 +28,7 @@ fn find(text: &[u8], from: usize, byte: u8) -> usize
     i
 }
 
-// Shows the books of a text, one after the other.
+// Shows the books of a text, one after the other, the first one also in space of several sizes.
 fn show_all(text: &[u8]) {
     let mut at = 1;
     while at < text.len() {
@@ -34,6 +36,9 @@ fn show_all(text: &[u8]) {
         let end = find(text, title, b'=');
         if title < end {
             show_case(&text[at..title], &text[title + 1..end]);
+            if at == 1 {
+                show_sizes(&text[title + 1..end]);
+            }
         }
         at = end + 1;
     }

@@ -138,7 +138,8 @@ pub fn follow(
     let mut now = sizes;
     let mut number = next_follower(header, combinations, ends, 0, shifted);
     while number < combinations.len() / 11 {
-        let met = meet(shifted, matrix_of(combinations, number));
+        let own = matrix_of(combinations, number);
+        let met = meet(shifted, own);
         let step = enter(
             header,
             nodes,

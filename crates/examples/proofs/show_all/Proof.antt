@@ -44,6 +44,21 @@ part-show-case-end-2 c = search needs
 show-case-requires : tie.Need-show-case-requires Inv-loop μ-loop
 show-case-requires c κs = search needs
 
+add-show-sizes : tie.Need-add-show-sizes Inv-loop μ-loop
+add-show-sizes c = search needs
+
+sub-show-sizes : tie.Need-sub-show-sizes Inv-loop μ-loop
+sub-show-sizes c = search needs
+
+part-show-sizes-start : tie.Need-part-show-sizes-start Inv-loop μ-loop
+part-show-sizes-start c = search needs
+
+part-show-sizes-end : tie.Need-part-show-sizes-end Inv-loop μ-loop
+part-show-sizes-end c = search needs
+
+show-sizes-requires : tie.Need-show-sizes-requires Inv-loop μ-loop
+show-sizes-requires c κs = search needs
+
 add-at : tie.Need-add-at Inv-loop μ-loop
 add-at c = search needs
 
@@ -73,6 +88,11 @@ show-all-spec =
     part-show-case-start-2
     part-show-case-end-2
     show-case-requires
+    add-show-sizes
+    sub-show-sizes
+    part-show-sizes-start
+    part-show-sizes-end
+    show-sizes-requires
     add-at
     loop-less
     loop-again
