@@ -1,5 +1,4 @@
 -- The tables that a build was lent, which are cleared where it is refused.
-use lib.ListN.{length}
 use Rattle.definitions.specs.Faults.{Outcome, answered, refused}
 use Rattle.definitions.specs.Tables.{Tables, noTables}
 use Rattle.definitions.specs.Connecting.{Built}

@@ -9,7 +9,6 @@ use lines::clearing::clear_words;
 use network::Build;
 use network::building::build;
 ghost use mathlib.Core.Path.{_≡_};
-ghost use lib.ListN.{length};
 ghost use Rattle.definitions.specs.BookBuilding.{buildBook, tablesAfter, buffersAfter};
 ghost use Rattle.definitions.specs.Building.{build, buffersLeft};
 ghost use Rattle.definitions.specs.Tables.{tablesBook};

@@ -4,6 +4,7 @@ pub mod Lists
 pub mod Members
 pub mod Selected
 pub mod Occurrences
+pub mod Products
 pub mod Rising
 pub mod Records
 pub mod Judging

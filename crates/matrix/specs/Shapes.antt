@@ -1,10 +1,14 @@
--- Matrices made anew, and the shift on the seven words of a matrix.
+-- How wide a book's matrices are, matrices made anew, and the shift on the seven words of a matrix.
 use mathlib.Core.List.{List, _∷_, _++_, map}
-use Prim.Native.Nat.{ℕ, suc}
+use Prim.Native.Nat.{ℕ, suc, _+_, _*_}
 use lib.Dec.{ltb, eqb}
 use lib.ListN.{replicate}
 use Rattle.definitions.specs.Lists.{if_then_else_, _!_, upFrom}
 use Rattle.definitions.specs.Matrices.{Matrix, matrixSize}
+
+-- the columns of a book's matrices
+abbrev pub widthOf : (half : ℕ) → ℕ
+widthOf half = 2 * half + 1
 
 -- n columns of one set, the centre, n columns of another
 abbrev pub columnsAround : (half left centre right : ℕ) → Matrix

@@ -10,7 +10,7 @@ use Rattle.definitions.specs.Matrices.{Matrix, matrixWords, valid, meet}
 use Rattle.definitions.specs.Combinations.{Leaf, Combination, choose, combinationSize, combinationWords}
 use Rattle.definitions.specs.Combinations.{combinationRoom}
 use Rattle.metastates.specs.declared.Choice.{Choice}
-use Rattle.metastates.specs.Leaves.{leavesIn, IsList}
+use Rattle.metastates.specs.Leaves.{leavesIn}
 
 -- space that holds so many records, and 0 after them
 pub record Holding (space : List ℕ) (count : ℕ) : Type 0 where

@@ -2,10 +2,9 @@
 use mathlib.Core.Path.{_≡_}
 use mathlib.Core.List.{List, [], _∷_, _++_, map}
 use mathlib.Core.Bool.{Bool, not}
-use Prim.Native.Nat.{ℕ, suc, _+_, _*_, _/_}
+use Prim.Native.Nat.{ℕ, _+_, _*_, _/_}
 use lib.Dec.{leb, eqb}
 use lib.ListN.{length, take, drop}
-use Rattle.definitions.specs.declared.Header.{Header}
 use Rattle.definitions.specs.Lists.{if_then_else_, _!_, concatMap, upFrom, select, records}
 use Rattle.definitions.specs.Matrices.{matrixSize, matrixWords}
 use Rattle.definitions.specs.Tables.{Book}
@@ -14,10 +13,6 @@ use Rattle.definitions.specs.Combinations.{Leaf, leavesOf}
 -- a number and a matrix, eight words
 abbrev pub leafSize : ℕ
 leafSize = 8
-
--- the columns of a book's matrices
-abbrev pub widthOf : (half : ℕ) → ℕ
-widthOf half = 2 * half + 1
 
 -- ---- the table: 1 and its matrix in the record of each leaf's node
 

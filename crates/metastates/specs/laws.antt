@@ -1,5 +1,4 @@
 -- The laws of this crate: leaves put into a table and listed, combinations added to the space.
-pub mod KnownTables
 pub mod PuttingLeaves
 pub mod WalkingLeaves
 pub mod ListingLeaves

@@ -1,21 +1,20 @@
 // The leaves of a tree with their matrices, ascending by node number.
 use crate::walking::walk;
 use definitions::Header;
-use definitions::wide;
 use lines::clearing::clear_sets;
 use matrix::sets::all_phones;
 use matrix::sets::alone;
 use matrix::shaping::around;
 use matrix::words::matrix_from;
 use matrix::words::put_numbered;
+use tables::roots::root_of;
 ghost use mathlib.Core.List.{_++_};
 ghost use mathlib.Core.Path.{_≡_};
-ghost use Prim.Native.Nat.{_+_, _-_, _*_, _≤_, _<_};
+ghost use Prim.Native.Nat.{_+_, _*_, _≤_};
 ghost use lib.Dec.{T};
 ghost use lib.ListN.{length, take, drop};
-ghost use Rattle.definitions.specs.ForeignTables.{tablesKnown, headerKnown, rootTableKnown};
-ghost use Rattle.definitions.specs.Lists.{_!_, concatMap};
-ghost use Rattle.definitions.specs.BookLines.{rootCount};
+ghost use Rattle.definitions.specs.ForeignTables.{tablesKnown};
+ghost use Rattle.definitions.specs.Lists.{concatMap};
 ghost use Rattle.definitions.specs.Tables.{tablesBook};
 ghost use Rattle.tables.specs.Lending.{lentTables};
 ghost use Rattle.metastates.specs.Leaves.{leafSize, leafWords, leavesFor, listed, listedAt};
@@ -55,21 +54,6 @@ fn collect(table: &[u64], list: &mut [u64]) -> usize
         node += 1;
     }
     count
-}
-
-// The root of a phone's tree for a state.
-fn root_of(header: Header, roots: &[u32], phone: u32, state: u32) -> u32
-    requires { ⌜
-        T (headerKnown header) × T (rootTableKnown header (now roots))
-        × (1 ≤ phone) × (phone ≤ header .phones) × (1 ≤ state) × (state ≤ header .states)
-        ⌝ }
-    ensures { λ r. ⌜
-        (r ≡ take (rootCount header) (now (roots .entry)) ! ((phone - 1) * header .states + (state - 1)))
-        × (r < header .nodes)
-        ⌝ }
-{
-    let at = (wide(phone) - 1) * wide(header.states) + (wide(state) - 1);
-    roots[at]
 }
 
 // Lists the leaves of a phone's tree for a state; answers how many. A state that the book lacks has none.

@@ -16,7 +16,8 @@ ghost use Rattle.definitions.specs.ForeignTables.{headerKnown, nodesKnown};
 ghost use Rattle.definitions.specs.Matrices.{matrixWords};
 ghost use Rattle.definitions.specs.Tables.{nodeRecords, tablesBook};
 ghost use Rattle.tables.specs.Lending.{lentTables};
-ghost use Rattle.metastates.specs.Leaves.{leafSize, widthOf, putLeaves};
+ghost use Rattle.matrix.specs.Shapes.{widthOf};
+ghost use Rattle.metastates.specs.Leaves.{leafSize, putLeaves};
 
 // Writes 1 and a matrix into the record of a node.
 fn put_leaf(table: &mut [u64], node: u32, m: Matrix)

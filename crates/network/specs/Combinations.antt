@@ -1,7 +1,7 @@
 -- Combinations in lent words, and what is known of them: those of a book with known tables.
 use mathlib.Core.Path.{_≡_}
 use mathlib.Core.List.{List, [], map}
-use Prim.Native.Nat.{ℕ, _+_, _*_, _/_, _≤_, _<_, _^_}
+use Prim.Native.Nat.{ℕ, _/_, _≤_, _<_, _^_}
 use lib.Dec.{T}
 use lib.ListN.{length, take, drop, getD}
 use Rattle.definitions.specs.declared.Header.{Header}
@@ -14,10 +14,7 @@ use Rattle.definitions.specs.Lookup.{nodeAt}
 use Rattle.definitions.specs.Combinations.{Combination, combinationSize, combinationWords}
 use Rattle.definitions.specs.Metastates.{noCombination}
 use Rattle.tables.specs.Lending.{lentTables}
-
--- the columns of a book's matrices
-abbrev pub widthOf : (half : ℕ) → ℕ
-widthOf half = 2 * half + 1
+use Rattle.matrix.specs.Shapes.{widthOf}
 
 -- a combination read back from its record
 unfoldable pub combinationIn : Header → List ℕ → Combination

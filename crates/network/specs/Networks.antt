@@ -1,7 +1,7 @@
 -- A network in lent words: its metastates and arcs, read back and held.
 use mathlib.Core.Path.{_≡_}
-use mathlib.Core.List.{List, [], _∷_, map}
-use Prim.Native.Nat.{ℕ, _+_, _*_, _≤_, _<_}
+use mathlib.Core.List.{List, map}
+use Prim.Native.Nat.{ℕ, _≤_, _<_}
 use lib.ListN.{length, take, drop}
 use Rattle.definitions.specs.Lists.{_!_, concatMap, records, padded}
 use Rattle.definitions.specs.Arcs.{arcsIn, arcWords}
@@ -11,7 +11,7 @@ use Rattle.definitions.specs.Building.{roomIn}
 use Rattle.definitions.specs.laws.Members.{isIn, distinct}
 use Rattle.network.specs.declared.Sizes.{Sizes}
 use Rattle.network.specs.Chains.{Linked}
-use Rattle.network.specs.Combinations.{widthOf}
+use Rattle.matrix.specs.Shapes.{widthOf}
 
 unfoldable pub metastateIn : (width : ℕ) → List ℕ → Metastate
 metastateIn width words = record { number = words ! 0; matrix = take width (drop 1 words) }

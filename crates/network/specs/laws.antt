@@ -24,7 +24,6 @@ pub mod Outcomes
 pub mod Turning
 pub mod Connecting
 pub mod Nodes
-pub mod KnownSound
 pub mod PhoneEnds
 pub mod UsableCombinations
 pub mod Building

@@ -22,7 +22,8 @@ ghost use Rattle.definitions.specs.Lists.{_!_, if_then_else_};
 ghost use Rattle.definitions.specs.Matrices.{matrixWords};
 ghost use Rattle.definitions.specs.Metastates.{metastateSize};
 ghost use Rattle.network.specs.Chains.{keyOf, links};
-ghost use Rattle.network.specs.Combinations.{widthOf, combinationsIn, nodesBook, Usable, Modelled};
+ghost use Rattle.matrix.specs.Shapes.{widthOf};
+ghost use Rattle.network.specs.Combinations.{combinationsIn, nodesBook, Usable, Modelled};
 ghost use Rattle.network.specs.Networks.{networkHeld, roomOf, Holds};
 ghost use Rattle.network.specs.Steps.{Leaves, AreArcs};
 

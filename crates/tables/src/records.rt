@@ -1,4 +1,4 @@
-// The five words of a node, out of the table of nodes.
+// A word of a table, and the five words of a node out of the table of nodes.
 use definitions::Node;
 ghost use mathlib.Core.Path.{_≡_};
 ghost use Prim.Native.Nat.{_*_};
@@ -8,7 +8,7 @@ ghost use Rattle.definitions.specs.Tables.{nodeOf};
 ghost use Rattle.definitions.specs.BookReading.{nodeSize};
 
 // The word at a place, 0 beyond the table.
-fn word_at(words: &[u32], place: usize) -> u32
+pub fn word_at(words: &[u32], place: usize) -> u32
     ensures { λ r. ⌜ r ≡ now (words .entry) ! place ⌝ }
 {
     if place < words.len() {

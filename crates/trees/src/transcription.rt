@@ -10,37 +10,22 @@ use definitions::wide;
 use lines::clearing::clear_words;
 use tables::foreign::tables_known;
 use tables::records::node_at;
+use tables::roots::root_of;
 ghost use mathlib.Core.List.{[], _++_};
 ghost use mathlib.Core.Path.{_≡_};
-ghost use Prim.Native.Nat.{_+_, _-_, _*_, _≤_, _<_};
+ghost use Prim.Native.Nat.{_*_, _≤_, _<_};
 ghost use lib.Dec.{T};
-ghost use lib.ListN.{length, take, drop, getD};
-ghost use Rattle.definitions.specs.BookLines.{isPhone, rootCount};
+ghost use lib.ListN.{length, drop, getD};
+ghost use Rattle.definitions.specs.BookLines.{isPhone};
 ghost use Rattle.definitions.specs.Faults.{answerLeft};
-ghost use Rattle.definitions.specs.ForeignTables.{headerKnown, rootTableKnown, tablesKnown};
-ghost use Rattle.definitions.specs.Lists.{_!_, every};
+ghost use Rattle.definitions.specs.ForeignTables.{tablesKnown};
+ghost use Rattle.definitions.specs.Lists.{every};
 ghost use Rattle.definitions.specs.Lookup.{isContext};
 ghost use Rattle.definitions.specs.Tables.{tablesBook};
 ghost use Rattle.definitions.specs.Transcription.{modelOf, transcription, transcribe};
 ghost use Rattle.definitions.specs.TreesGive.{contexts};
 ghost use Rattle.tables.specs.Lending.{lentTables};
 ghost use Rattle.trees.specs.Answers.{stateModels, transcriptOf};
-
-// The root of a phone's tree for a state.
-fn root_of(header: Header, roots: &[u32], phone: usize, state: usize) -> u32
-    requires { ⌜
-        T (headerKnown header) × T (rootTableKnown header (now roots))
-        × (1 ≤ phone) × (phone ≤ header .phones) × (1 ≤ state) × (state ≤ header .states)
-        ⌝ }
-    ensures { λ r. ⌜
-        (r ≡ take (rootCount header) (now (roots .entry)) ! ((phone - 1) * header .states + (state - 1)))
-        × (r < header .nodes)
-        ⌝ }
-{
-    let states = wide(header.states);
-    let tree = (phone - 1) * states + (state - 1);
-    roots[tree]
-}
 
 // The model of the leaf that a context reaches in the tree of its own phone, for a state.
 fn model_of(
@@ -49,7 +34,7 @@ fn model_of(
     classes: &[u64],
     roots: &[u32],
     context: &[u32],
-    state: usize,
+    state: u32,
 ) -> u32
     requires { ⌜
         T (tablesKnown header (lentTables (now nodes) (now classes) (now roots)))
@@ -63,7 +48,7 @@ fn model_of(
 {
     let half = wide(header.half);
     let phone = context[half];
-    let root = root_of(header, roots, wide(phone), state);
+    let root = root_of(header, roots, phone, state);
     let count = wide(header.classes);
     let leaf = walk(header, nodes, &classes[..count], context, root);
     let record = node_at(nodes, leaf);
@@ -90,8 +75,8 @@ fn models_of(
         ⌝ }
 {
     let mut state = 0;
-    while state < models.len() {
-        models[state] = model_of(header, nodes, classes, roots, context, state + 1);
+    while state < header.states {
+        models[wide(state)] = model_of(header, nodes, classes, roots, context, state + 1);
         state += 1;
     }
 }

@@ -3,25 +3,18 @@ use mathlib.Core.Path.{_≡_, refl, sym, ap, _∙_, subst}
 use mathlib.Core.List.{List}
 use Prim.Native.Nat.{ℕ}
 use native.Mathlib.Omega.{arith}
-use lib.ListN.{length, length-replicate}
 use Rattle.definitions.specs.declared.Header.{Header}
 use Rattle.definitions.specs.declared.Refusal.{Refusal}
 use Rattle.definitions.specs.Faults.{Outcome, answered, refused}
-use Rattle.definitions.specs.Lists.{cleared}
 use Rattle.definitions.specs.BookLines.{BookLine, headerOf}
 use Rattle.definitions.specs.BookReading.{Lent, readBook}
 use Rattle.definitions.specs.Tables.{noTables, tablesLeft}
+use Rattle.definitions.specs.laws.Lists.{clear-length, clear-itself}
 use Rattle.tables.specs.Lending.{lengthsOf, lentTables}
 use Rattle.book.specs.declared.Reading.{Reading}
 use Rattle.book.specs.declared.Reading.the-variants.{Accepted, Refused}
 use Rattle.book.specs.Answers.{readingOf}
 use Rattle.book.specs.Taking.{Cleared, ClearedFrom, Read}
-
-clear-itself : (l l′ : List ℕ) → l′ ≡ cleared (length l) → l′ ≡ cleared (length l′)
-clear-itself l l′ e = e ∙ ap cleared (sym (length-replicate (length l) 0) ∙ ap length (sym e))
-
-clear-length : (l l′ : List ℕ) → l′ ≡ cleared (length l) → length l′ ≡ length l
-clear-length l l′ e = ap length e ∙ length-replicate (length l) 0
 
 module _ {nodes classes roots nodes′ classes′ roots′ : List ℕ}
     (c : ClearedFrom nodes classes roots nodes′ classes′ roots′)

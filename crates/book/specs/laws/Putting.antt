@@ -1,16 +1,17 @@
--- Laws about words put into a table: one by one they are the words put at once; a phone alone is a shifted 1.
+-- Laws about words put into a table: one by one they are the words put at once; a phone put into a set is a
+-- shifted 1.
 use mathlib.Core.Path.{_≡_, sym, ap, _∙_}
 use mathlib.Core.List.{List, [], _∷_, _++_, append-assoc, append-nil}
-use Prim.Native.Nat.{ℕ, zero, suc, _+_, _-_, _*_, _%_, _^_, _≤_, _<_}
+use Prim.Native.Nat.{ℕ, suc, _+_, _-_, _*_, _%_, _^_, _≤_, _<_}
 use native.Mathlib.Nat.{add-zero}
 use native.Mathlib.Numerals.{add-one}
 use native.Mathlib.Omega.{arith}
 use lib.Bits.{bitOr}
-use lib.Pow.{shl-exact}
 use lib.ListN.{length, take, drop, set, length-set, take-append-drop}
 use lib.Seq.{take-suc-set, drop-set-lt}
 use Rattle.definitions.specs.Lists.{_!_}
 use Rattle.definitions.specs.PhoneSets.{alone}
+use Rattle.definitions.specs.laws.PhoneSets.{alone-shifted}
 use Rattle.book.specs.Storing.{putAt}
 
 put-none : (at : ℕ) (table : List ℕ) → putAt at [] table ≡ table
@@ -43,14 +44,6 @@ put-five at a b c d e table h =
     ∙ put-more (at + 2) (at + 3) c (d ∷ e ∷ []) two (omega arith) (simp length-set (omega arith))
     ∙ put-more (at + 1) (at + 2) b (c ∷ d ∷ e ∷ []) one (omega arith) (simp length-set (omega arith))
     ∙ put-more at (at + 1) a (b ∷ c ∷ d ∷ e ∷ []) table (omega arith) (omega arith)
-
-alone-shifted : (phone : ℕ) → 1 ≤ phone → phone ≤ 64
-    → (1 * 2 ^ (phone - 1)) % 18446744073709551616 ≡ alone phone
-unfolding alone
-alone-shifted zero k l = absurd (omega arith)
-alone-shifted (suc i) k l =
-    let before : suc i - 1 ≡ i = omega arith in
-    rw (before, shl-exact {a = 1} 1 i 64 (omega arith) (omega arith)) (omega arith)
 
 -- a phone put into a set of the table
 pub member-put : (sets : List ℕ) (at phone : ℕ) → 1 ≤ phone → phone ≤ 64

@@ -11,16 +11,15 @@ use Rattle.definitions.specs.Lists.{cleared}
 use Rattle.definitions.specs.Faults.{Outcome, answered, refused, andThen}
 use Rattle.definitions.specs.BookLines.{BookLine, headerOf}
 use Rattle.definitions.specs.BookReading.{Lent, readBook}
-use Rattle.definitions.specs.Tables.{Book, Tables, tablesLeft, noTables, tablesBook}
+use Rattle.definitions.specs.Tables.{Tables, tablesLeft, noTables, tablesBook}
 use Rattle.definitions.specs.Connecting.{Built}
 use Rattle.definitions.specs.Building.{Space, build, Buffers, buffersLeft, noBuffers}
 use Rattle.definitions.specs.BookBuilding.{BookBuilt, buildRead, buildBook, tablesAfter, buffersAfter}
 use Rattle.definitions.specs.demand.Demand.{demand3}
-use Rattle.tables.specs.Lending.{lentTables, lengthsOf}
+use Rattle.tables.specs.Lending.{lengthsOf}
 use Rattle.book.specs.declared.Reading.{Reading}
 use Rattle.book.specs.declared.Reading.the-variants as reading
 use Rattle.book.specs.Answers.{readingOf}
-use Rattle.network.specs.declared.Totals.{Totals}
 use Rattle.network.specs.declared.Build.{Build}
 use Rattle.network.specs.declared.Build.the-variants as build
 use Rattle.network.specs.Answers.{totalsOf, buildOf, lentBuffers}

@@ -1,6 +1,6 @@
 -- Laws about the tables that a build was lent: they stay where it answers, and are cleared where it is refused.
 -- One law for each way that it ends.
-use mathlib.Core.Path.{_≡_, refl, sym, ap, _∙_}
+use mathlib.Core.Path.{_≡_, refl, sym, _∙_}
 use mathlib.Core.List.{List}
 use Prim.Native.Nat.{ℕ}
 use native.Mathlib.Omega.{arith}

@@ -175,40 +175,45 @@ root-listed header at [] i h a = h
 root-listed header at (root ∷ roots) zero h a = a .0
 root-listed header at (root ∷ roots) (suc i) h a = root-listed header (suc at) roots i h (a .1)
 
+-- nodes that fit
+module _ (header : Header) (nodes : List TreeNode) (fit : allFrom (NodeFits header) 0 nodes) where
+  node-fits : (node : ℕ) (x : TreeNode) → nodeAt nodes node ≡ x → node < length nodes → NodeFits header node x
+  node-fits node x q h =
+      subst (NodeFits header node) q (all-at _ 0 nodes (leaf 0) fit node node h (omega arith))
+
+  pub question-fitting : (node class position yesNode noNode : ℕ)
+      → nodeAt nodes node ≡ question class position yesNode noNode
+      → QuestionFits header node class position yesNode noNode
+  question-fitting node class position yesNode noNode q =
+      node-fits node _ q (question-listed nodes node class position yesNode noNode q)
+
+  pub fitting-forward : header .nodes ≡ length nodes → Forward nodes
+  fitting-forward count node class position yesNode noNode q =
+      let f = question-fitting node class position yesNode noNode q in (
+        record { greater = f .yes-greater; listed = rw (← count) (f .yes-listed) },
+        record { greater = f .no-greater; listed = rw (← count) (f .no-listed) },
+      )
+
 -- a header with its ranges, a book with its counts, nodes and roots that fit
 module _ (header : Header) (book : Book) (ranged : InRange header) (heads : Heads header book)
     (nodes : allFrom (NodeFits header) 0 (book .nodes)) (roots : allFrom (RootFits header) 0 (book .roots))
   where
-    node-fits : (node : ℕ) (x : TreeNode) → nodeAt (book .nodes) node ≡ x → node < length (book .nodes)
-        → NodeFits header node x
-    node-fits node x q h =
-        subst (NodeFits header node) q (all-at _ 0 (book .nodes) (leaf 0) nodes node node h (omega arith))
-
-    question-fitting : (node class position yesNode noNode : ℕ)
-        → nodeAt (book .nodes) node ≡ question class position yesNode noNode
-        → QuestionFits header node class position yesNode noNode
-    question-fitting node class position yesNode noNode q =
-        node-fits node _ q (question-listed (book .nodes) node class position yesNode noNode q)
-
     pub fitting-sound : Sound book
     unfolding rootOf
     fitting-sound = record {
       some-state = omega (arith, ranged .states-range .low, heads .states);
       some-phone = omega (arith, ranged .phones-range .low, heads .phones);
-      forward = forward;
+      forward = fitting-forward header (book .nodes) nodes (heads .nodes);
       position = λ node class position yesNode noNode q.
-          omega (arith, question-fitting node class position yesNode noNode q .position-high, heads .half);
-      model = λ node model h q. node-fits node (leaf model) q h .low;
+          omega (
+            arith,
+            question-fitting header (book .nodes) nodes node class position yesNode noNode q .position-high,
+            heads .half,
+          );
+      model = λ node model h q. node-fits header (book .nodes) nodes node (leaf model) q h .low;
       root = λ phone state.
           rw (← heads .nodes) (root-listed header 0 (book .roots) _ (ranged .nodes-range .low) roots);
     }
-      where
-        forward : Forward (book .nodes)
-        forward node class position yesNode noNode q =
-            let f = question-fitting node class position yesNode noNode q in (
-              record { greater = f .yes-greater; listed = rw (← heads .nodes) (f .yes-listed) },
-              record { greater = f .no-greater; listed = rw (← heads .nodes) (f .no-listed) },
-            )
 
 module _ (lent : Lent) (text : List ℕ) (lines : List BookLine)
     (e : readBook lent text ≡ answered lines)
@@ -222,10 +227,7 @@ module _ (lent : Lent) (text : List ℕ) (lines : List BookLine)
     pub accepted-question : (node class position yesNode noNode : ℕ)
         → nodeAt (nodesOf lines) node ≡ question class position yesNode noNode
         → QuestionFits (headerOf lines) node class position yesNode noNode
-    unfolding bookOf
-    accepted-question =
-        question-fitting (headerOf lines) (bookOf lines) (orderly .in-range) (orderly-heads lines orderly)
-        (fit .nodes) (fit .roots)
+    accepted-question = question-fitting (headerOf lines) (nodesOf lines) (fit .nodes)
 
     pub accepted-sound : Sound (bookOf lines)
     unfolding bookOf

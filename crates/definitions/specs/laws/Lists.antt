@@ -1,15 +1,17 @@
 -- Laws about the list vocabulary: tests of every element, lists that are the same, what the elements of joined
--- lists give, counting up, buffers beyond their used words. The other laws use them.
+-- lists give, a part of a part, counting up, buffers cleared and beyond their used words. The other laws use
+-- them.
 use mathlib.Core.Path.{_≡_, refl, sym, ap, ap₂, _∙_, subst}
 use mathlib.Core.Logic.{_↔_}
 use mathlib.Core.List.{List, [], _∷_, _++_, map, append-assoc, append-nil}
 use mathlib.Core.Bool.{Bool, _&&_, and-assoc}
 use Prim.Native.Nat.{ℕ, zero, suc, _+_, _-_, _≤_, _<_}
-use native.Mathlib.Nat.{sub-zero, zero-sub}
+use native.Mathlib.Nat.{add-zero, zero-add, sub-zero, zero-sub}
 use native.Mathlib.Omega.{arith}
 use lib.Dec.{T, eqb, eqb→eq, eqb-refl}
-use lib.Seq.{take-at}
-use lib.ListN.{length, take, drop, replicate, length-append, length-map, take-append-drop, length-replicate}
+use lib.Seq.{take-at, take-nil}
+use lib.ListN.{length, take, drop, getD, replicate, length-append, length-map, take-append-drop}
+use lib.ListN.{length-replicate}
 use Rattle.definitions.specs.Lists.{_!_, every, concatMap, upFrom, same, cleared, padded}
 use Rattle.definitions.specs.laws.Tests.{T-and}
 
@@ -88,12 +90,49 @@ pub concatMap-snoc-length : {A B : Type 0} (f : A → List B) (l : List A) (x : 
     → length (concatMap f (l ++ (x ∷ []))) ≡ length (concatMap f l) + length (f x)
 concatMap-snoc-length f l x = ap length (concatMap-snoc f l x) ∙ length-append (concatMap f l) (f x)
 
+-- ---- what each element gives
+
+pub map-at : {A B : Type 0} (f : A → B) (l : List A) (a : A) (b : B) (i : ℕ) → i < length l
+    → getD (map f l) i b ≡ f (getD l i a)
+map-at f [] a b i h = absurd (omega arith)
+map-at f (x ∷ l) a b zero h = refl
+map-at f (x ∷ l) a b (suc i) h = map-at f l a b i (omega arith)
+
+-- where that changes no list, it changes no element
+pub same-at : {A : Type 0} (f : A → A) (l : List A) (a : A) (i : ℕ) → i < length l → map f l ≡ l
+    → f (getD l i a) ≡ getD l i a
+same-at f l a i h e = sym (map-at f l a a i h) ∙ ap (λ (k : List _). getD k i a) e
+
+-- ---- a part of a part
+
+pub drop-take : {A : Type 0} (count more : ℕ) (l : List A)
+    → drop count (take (count + more) l) ≡ take more (drop count l)
+drop-take zero more l = rw zero-add
+drop-take (suc count) more [] =
+    let next : suc count + more ≡ suc (count + more) = omega arith in rw next (sym (take-nil more))
+drop-take (suc count) more (x ∷ l) =
+    let next : suc count + more ≡ suc (count + more) = omega arith in rw next (drop-take count more l)
+
 -- ---- counting up
 
 pub upFrom-length : (a count : ℕ) → length (upFrom a count) ≡ count
 unfolding upFrom
 upFrom-length a zero = refl
 upFrom-length a (suc count) = ap suc (upFrom-length (suc a) count)
+
+-- in two parts
+pub upFrom-parts : (a k n : ℕ) → upFrom a (k + n) ≡ upFrom a k ++ upFrom (a + k) n
+unfolding upFrom
+upFrom-parts a zero n = rw (zero-add n, add-zero a)
+upFrom-parts a (suc k) n =
+    let more : suc k + n ≡ suc (k + n) = omega arith in
+    let next : suc a + k ≡ a + suc k = omega arith in
+    rw more (ap (λ (l : List ℕ). a ∷ l) (upFrom-parts (suc a) k n ∙ rw next))
+
+-- one number more, at the end
+pub upFrom-snoc : (a count : ℕ) → upFrom a (count + 1) ≡ upFrom a count ++ ((a + count) ∷ [])
+unfolding upFrom
+upFrom-snoc a count = upFrom-parts a count 1
 
 -- what each of the numbers gives
 pub map-upFrom-length : {A : Type 0} (f : ℕ → A) (a count : ℕ) → length (map f (upFrom a count)) ≡ count
@@ -104,6 +143,14 @@ unfolding upFrom
 map-upFrom-at f a zero i n h e = absurd (omega arith)
 map-upFrom-at f a (suc count) zero n h e = ap f {x = a} {y = n} (omega arith)
 map-upFrom-at f a (suc count) (suc i) n h e = map-upFrom-at f (suc a) count i n (omega arith) (omega arith)
+
+-- ---- a lent buffer that was cleared
+
+pub clear-length : (l l′ : List ℕ) → l′ ≡ cleared (length l) → length l′ ≡ length l
+clear-length l l′ e = ap length e ∙ length-replicate (length l) 0
+
+pub clear-itself : (l l′ : List ℕ) → l′ ≡ cleared (length l) → l′ ≡ cleared (length l′)
+clear-itself l l′ e = e ∙ ap cleared (sym (clear-length l l′ e))
 
 -- ---- a lent buffer that begins with its used words
 

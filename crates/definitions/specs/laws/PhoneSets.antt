@@ -5,14 +5,14 @@ use mathlib.Core.Path.{_≡_, refl, sym, ap, ap₂, _∙_, subst}
 use mathlib.Core.Logic.{_≢_}
 use mathlib.Core.List.{List, [], _∷_}
 use mathlib.Core.Bool.{Bool, true, false, not, _&&_, _||_, true≢false, false≢true, and-assoc}
-use Prim.Native.Nat.{ℕ, zero, suc, _-_, _/_, _%_, _^_, _≤_, _<_, min, max}
-use native.Mathlib.Nat.{mod-eq-of-lt, pow-suc, div-div-eq-div-mul, mul-comm, div-one}
+use Prim.Native.Nat.{ℕ, zero, suc, _-_, _*_, _/_, _%_, _^_, _≤_, _<_, min, max}
+use native.Mathlib.Nat.{mod-eq-of-lt, pow-suc, div-div-eq-div-mul, mul-comm, one-mul, div-one}
 use native.Mathlib.Omega.{arith}
 use lib.Dec.{T, leb, ltb, eqb, leb→le, ltb→lt, leb·zero, leb·suc-zero, leb·suc-suc, eqb·zero-suc}
 use lib.Dec.{eqb·suc-zero, eqb·suc-suc}
 use lib.Arith.{bin-ind}
 use lib.Bits.{bitAnd, bitOr, and-comm, and-step, or-step, and-le-l, and-mask, or-lt}
-use lib.Pow.{pow-pos, pow-lt, ones-lt}
+use lib.Pow.{pow-pos, pow-lt, ones-lt, shl-exact}
 use borrow.Author.Tests.{lt-ltb}
 use Rattle.definitions.specs.Lists.{every, atLeastOne}
 use Rattle.definitions.specs.PhoneSets.{has, alone, allPhones, without, setOf}
@@ -230,3 +230,18 @@ without-is-mask w a b h k = same-members (without a b) (bitAnd a ((2 ^ w - 1) - 
 
     masked : (p : ℕ) → has p (without a b) ≡ has p (bitAnd a ((2 ^ w - 1) - b))
     masked p = rw complement (simp (has-without, has-and) (cut p))
+
+-- ---- sets in 64-bit words
+
+-- 1 shifted, within a word
+pub one-shifted : (k : ℕ) → k < 64 → (1 * 2 ^ k) % 18446744073709551616 ≡ 2 ^ k
+one-shifted k l = shl-exact {a = 1} 1 k 64 (omega arith) (omega arith) ∙ one-mul (2 ^ k)
+
+-- so a phone alone is a shifted 1
+pub alone-shifted : (phone : ℕ) → 1 ≤ phone → phone ≤ 64
+    → (1 * 2 ^ (phone - 1)) % 18446744073709551616 ≡ alone phone
+unfolding alone
+alone-shifted zero k l = absurd (omega arith)
+alone-shifted (suc i) k l =
+    let before : suc i - 1 ≡ i = omega arith in
+    rw before (one-shifted i (omega arith))

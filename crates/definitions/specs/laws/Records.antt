@@ -2,7 +2,7 @@
 -- and records joined are the text that they were taken from. Lines, nodes, combinations, metastates and arcs
 -- are all kept so.
 use mathlib.Core.Path.{_≡_, refl, sym, ap, _∙_}
-use mathlib.Core.List.{List, [], _∷_, _++_, map, append-assoc}
+use mathlib.Core.List.{List, [], _∷_, _++_, map, append-assoc, append-nil}
 use mathlib.Core.Bool.{Bool}
 use Prim.Native.Nat.{ℕ, zero, suc, _+_, _-_, _*_, _≤_, _<_}
 use native.Mathlib.Nat.{mul-zero, mul-suc}
@@ -102,6 +102,14 @@ module _ (size : ℕ) where
       let more : size * suc count ≡ size + size * count = omega (arith, mul-suc size count) in
       rw (more, take-add, joined-records count (drop size text) (room count text h .1))
 
+  -- nothing beyond their end counts
+  pub records-taken : (count : ℕ) (text : List ℕ) → size * count ≤ length text
+      → records size count (take (size * count) text) ≡ records size count text
+  records-taken count text h =
+      let own : List (List ℕ) = records size count text in
+      let again = records-joined own [] (records-sized count text h) in
+      rw (records-length count text, append-nil (joined own), joined-records count text h) at again
+
 -- ---- elements written as records of one size
 
 module _ {A : Type 0} (words : A → List ℕ) (size : ℕ) (sized : (x : A) → length (words x) ≡ size) where
@@ -126,7 +134,7 @@ unfolding arcOf arcWords
 arcs-back [] = refl
 arcs-back (a ∷ arcs) = ap (λ (l : List Arc). a ∷ l) (arcs-back arcs)
 
-arc-sized : (a : Arc) → length (arcWords a) ≡ arcSize
+pub arc-sized : (a : Arc) → length (arcWords a) ≡ arcSize
 unfolding arcWords
 arc-sized a = refl
 

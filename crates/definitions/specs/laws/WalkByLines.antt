@@ -22,7 +22,7 @@ use Rattle.definitions.specs.Transcription.{modelOf}
 use Rattle.definitions.specs.laws.Tests.{same-tests, eq→eqb, every-at}
 use Rattle.definitions.specs.laws.Lists.{map-upFrom-at}
 use Rattle.definitions.specs.laws.Ranges.{phone-range}
-use Rattle.definitions.specs.laws.Walks.{walk-leaf, walk-question, by-node, either-node}
+use Rattle.definitions.specs.laws.Walks.{walk-leaf, walk-question, by-node, either-node, model-at}
 use Rattle.definitions.specs.laws.Sound.{Sound}
 use Rattle.definitions.specs.laws.Accepted.{accepted-question, accepted-sound}
 use Rattle.definitions.specs.laws.ByLines.{accepted-node-line, accepted-root-line}
@@ -81,11 +81,6 @@ model-at-question : (lines : List BookLine) (context : List ℕ) (steps node cla
     (if putInClass lines class (context ! position) then yesNode else noNode)
 unfolding modelBelow
 model-at-question lines context steps node class position yesNode noNode e = rw (e, modelBelow)
-
-model-at : (nodes : List TreeNode) (node model : ℕ) → nodeAt nodes node ≡ leaf model
-    → modelAt nodes node ≡ model
-unfolding modelAt
-model-at nodes node model e = rw (e, modelAt)
 
 -- a line is of one node at most
 enough-lines : (lines : List BookLine) → length (nodesOf lines) ≤ length lines

@@ -8,7 +8,7 @@ use native.Mathlib.Omega.{arith}
 use lib.ListN.{length}
 use Rattle.definitions.specs.Lists.{if_then_else_}
 use Rattle.definitions.specs.BookLines.{TreeNode, question, leaf}
-use Rattle.definitions.specs.Lookup.{nodeAt, holdsAt, walk, leafReached}
+use Rattle.definitions.specs.Lookup.{nodeAt, modelAt, holdsAt, walk, leafReached}
 
 -- every child is a greater node of the list
 pub record Later (nodes : List TreeNode) (node child : ℕ) : Type 0 where
@@ -23,6 +23,12 @@ Forward nodes =
 -- a node of the list is a leaf
 abbrev pub IsLeaf : List TreeNode → ℕ → Type 0
 IsLeaf nodes node = (model : ℕ) × (nodeAt nodes node ≡ leaf model)
+
+-- and has its model
+pub model-at : (nodes : List TreeNode) (node model : ℕ) → nodeAt nodes node ≡ leaf model
+    → modelAt nodes node ≡ model
+unfolding modelAt
+model-at nodes node model e = rw (e, modelAt)
 
 -- a node is a leaf or a question
 pub by-node : {P : Type 0} (nodes : List TreeNode) (node : ℕ)

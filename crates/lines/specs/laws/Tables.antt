@@ -15,6 +15,7 @@ use Rattle.definitions.specs.Lists.{every}
 use Rattle.definitions.specs.Forms.{Range, Form, _‥_, formH}
 use Rattle.definitions.specs.Lines.{formOf}
 use Rattle.definitions.specs.laws.Tests.{every-at}
+use Rattle.definitions.specs.laws.Lists.{map-at}
 use Rattle.lines.specs.declared.Letters.{Letters}
 use Rattle.lines.specs.declared.forms.Form.{Form as HeldForm}
 use Rattle.lines.specs.declared.forms.Range.{Range as HeldRange}
@@ -67,15 +68,9 @@ heldAt place = getD (map heldForm allForms) place (record { letter = 0; used = 0
 abbrev pub heldRangeAt : (place field : ℕ) → HeldRange
 heldRangeAt place field = getD (heldAt place .ranges) field (0, 0)
 
-held-in : {A B : Type 0} (f : A → B) (l : List A) (d : A) (e : B) (i : ℕ) → i < length l
-    → getD (map f l) i e ≡ f (getD l i d)
-held-in f [] d e i h = absurd (omega arith)
-held-in f (x ∷ l) d e zero h = refl
-held-in f (x ∷ l) d e (suc i) h = held-in f l d e i (omega arith)
-
 module _ (place : ℕ) (h : place < 7) where
   held-here : heldAt place ≡ heldForm (formHere place)
-  held-here = held-in heldForm allForms formH _ place h
+  held-here = map-at heldForm allForms formH _ place h
 
   pub used-held : heldAt place .used ≡ length (rangesAt place)
   used-held = ap (λ form. form .used) held-here ∙ sym (ap length (ranges-here place h))

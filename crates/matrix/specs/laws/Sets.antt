@@ -1,23 +1,18 @@
 -- Laws about sets of phones as 64-bit words, one for each answer of the code: all phones, one phone, and
 -- whether a phone is in a set.
-use mathlib.Core.Path.{_≡_, refl, sym, ap, _∙_}
+use mathlib.Core.Path.{_≡_, refl, sym, ap}
 use mathlib.Core.Bool.{false}
 use Prim.Native.Nat.{ℕ, zero, suc, _-_, _*_, _/_, _%_, _^_, _≤_, _<_, min}
-use native.Mathlib.Nat.{one-mul}
 use native.Mathlib.Numerals.{unary-clauses}
 use native.Mathlib.Omega.{arith}
 use lib.Bits.{bitAnd, and-mask}
 use lib.Dec.{leb, eqb}
-use lib.Pow.{pow-pos, shl-exact}
+use lib.Pow.{pow-pos}
 use borrow.Author.Tests.{le-leb, lt-leb}
 use Rattle.definitions.specs.Lists.{if_then_else_}
 use Rattle.definitions.specs.PhoneSets.{has, alone, allPhones}
-use Rattle.definitions.specs.laws.PhoneSets.{has-below}
+use Rattle.definitions.specs.laws.PhoneSets.{has-below, one-shifted, alone-shifted}
 use Rattle.definitions.specs.laws.Tests.{by-test}
-
--- 1 shifted, within a word
-shifted : (k : ℕ) → k < 64 → (1 * 2 ^ k) % 18446744073709551616 ≡ 2 ^ k
-shifted k l = shl-exact {a = 1} 1 k 64 (omega arith) (omega arith) ∙ one-mul (2 ^ k)
 
 -- ---- all phones
 
@@ -30,13 +25,13 @@ module _ (phones : ℕ) where
 
   module _ (h : phones < 64) where
     pub shifted-some : 1 ≤ (1 * 2 ^ phones) % 18446744073709551616
-    shifted-some = rw (shifted phones h) (pow-pos phones)
+    shifted-some = rw (one-shifted phones h) (pow-pos phones)
 
     pub all-shifted : (1 * 2 ^ phones) % 18446744073709551616 - 1 ≡ allPhones (min phones 64)
     unfolding allPhones
     all-shifted =
         let least : min phones 64 ≡ phones = omega arith in
-        rw (shifted phones h, least)
+        rw (one-shifted phones h, least)
 
 -- ---- one phone
 
@@ -47,13 +42,9 @@ alone-none phone e = rw e
 pub alone-beyond : (phone : ℕ) → 64 < phone → _≡_ {A = ℕ} 0 (if leb phone 64 then alone phone else 0)
 alone-beyond phone h = rw (lt-leb phone 64 h)
 
-pub alone-shifted : (phone : ℕ) → (phone ≡ 0 → ⊥) → phone ≤ 64
+pub alone-within : (phone : ℕ) → (phone ≡ 0 → ⊥) → phone ≤ 64
     → (1 * 2 ^ (phone - 1)) % 18446744073709551616 ≡ (if leb phone 64 then alone phone else 0)
-unfolding alone
-alone-shifted zero n h = absurd (n refl)
-alone-shifted (suc i) n h =
-    let before : suc i - 1 ≡ i = omega arith in
-    rw (le-leb (suc i) 64 h, before) (shifted i (omega arith))
+alone-within phone n h = rw (le-leb phone 64 h) (alone-shifted phone (omega (arith, n)) h)
 
 -- ---- whether a phone is in a set
 

@@ -2,14 +2,14 @@
 -- the seven words of the shifted matrix.
 use mathlib.Core.Path.{_≡_, refl, sym, ap, _∙_}
 use mathlib.Core.List.{List, _∷_, _++_}
-use Prim.Native.Nat.{ℕ, suc, _+_, _-_, _*_, _≤_, _<_}
+use Prim.Native.Nat.{ℕ, suc, _+_, _-_, _*_, _≤_, _<_, min}
 use native.Mathlib.Omega.{arith}
-use lib.Dec.{ltb, eqb}
+use lib.Dec.{leb, ltb, eqb}
 use lib.ListN.{length, take, drop, replicate, length-append, length-drop, length-replicate, getD-replicate}
 use lib.ListN.{List·getD-append, List·getD-eq-default}
 use lib.Seq.{length-take-le, take-all, getD-at, getD-append-add, getD-take, getD-drop, ext-getD}
-use borrow.Author.Tests.{eqb-true, eqb-false, ltb-true, ltb-false, lt-ltb, le-ltb, eq-eqb, ne-eqb}
-use Rattle.definitions.specs.Lists.{_!_}
+use borrow.Author.Tests.{eqb-true, eqb-false, ltb-true, ltb-false, le-leb, lt-ltb, le-ltb, eq-eqb, ne-eqb}
+use Rattle.definitions.specs.Lists.{if_then_else_, _!_}
 use Rattle.definitions.specs.PhoneSets.{alone, allPhones}
 use Rattle.definitions.specs.Matrices.{Matrix, matrixSize, matrixWords, rootMatrix, shift}
 use Rattle.definitions.specs.laws.Tests.{by-test}
@@ -31,7 +31,7 @@ module _ (front back : List ℕ) (x : ℕ) {n : ℕ} (e : length front ≡ n) wh
 
 -- ---- columns around a centre
 
-pub root-around : (half phones p : ℕ)
+root-around : (half phones p : ℕ)
     → rootMatrix half phones p ≡ columnsAround half (allPhones phones) (alone p) (allPhones phones)
 unfolding rootMatrix
 root-around half phones p = refl
@@ -79,6 +79,19 @@ module _ (half left centre right : ℕ) where
       ≡ take matrixSize (matrixWords (columnsAround half left centre right)) ! column
   unfolding matrixWords
   around-at column h = seven-at (columnsAround half left centre right) column h
+
+-- the matrix that a phone's roots carry, as the code shapes it
+pub root-shaped : (half phones p : ℕ) → half ≤ 3 → phones ≤ 64 → p ≤ phones
+    → {all centre : ℕ} {columns : List ℕ} → all ≡ allPhones (min phones 64)
+    → centre ≡ (if leb p 64 then alone p else 0)
+    → columns ≡ take matrixSize (matrixWords (columnsAround half all centre all))
+    → columns ≡ matrixWords (rootMatrix half phones p)
+root-shaped half phones p narrow few high {all} {centre} a e s =
+    let most : min phones 64 ≡ phones = omega arith in
+    let sides : all ≡ allPhones phones = a ∙ ap allPhones most in
+    let own : centre ≡ alone p = e ∙ rw (le-leb p 64 (omega arith)) in
+    s ∙ around-words half all centre all narrow
+    ∙ rw (sides, own) (ap matrixWords (sym (root-around half phones p)))
 
 -- ---- the shift
 

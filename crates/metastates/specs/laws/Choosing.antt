@@ -3,7 +3,7 @@
 -- choice that has one leaf more, use them.
 use mathlib.Core.Path.{_≡_, refl, sym, ap, ap₂, _∙_, subst}
 use mathlib.Core.List.{List, [], _∷_, _++_, append-nil}
-use mathlib.Core.Bool.{Bool, true, false, not, _&&_}
+use mathlib.Core.Bool.{true, false, not, and-false}
 use Prim.Native.Nat.{ℕ, zero, suc, _+_, _-_, _/_, _≤_, _<_}
 use native.Mathlib.Nat.{suc-inj}
 use native.Mathlib.Numerals.{add-one}
@@ -31,10 +31,6 @@ use Rattle.metastates.specs.laws.LeafLists.{leaves-length, leaf-width, m
 
 -- ---- a matrix that is not valid gives none
 
-and-false : (a b : Bool) → b ≡ false → (a && b) ≡ false
-and-false true b e = e
-and-false false b e = refl
-
 -- an empty column stays empty
 meet-empty : (a b : Matrix) → length a ≡ length b → valid a ≡ false → valid (meet a b) ≡ false
 unfolding valid meet every
@@ -42,7 +38,7 @@ meet-empty [] b e h = absurd (subst T h tt)
 meet-empty (x ∷ a) [] e h = absurd (omega arith)
 meet-empty (x ∷ a) (y ∷ b) e h = by-test (eqb x 0)
     (λ t. rw (eqb-true x 0 t))
-    (λ t. and-false (not (eqb (bitAnd x y) 0)) _ (meet-empty a b (suc-inj e) (rw t at h)))
+    (λ t. rw (meet-empty a b (suc-inj e) (rw t at h)) (and-false (not (eqb (bitAnd x y) 0))))
 
 -- leaves, and trees of leaves, whose matrices have one width
 abbrev Wide : (width : ℕ) → List Leaf → Type 0

@@ -2,9 +2,8 @@
 -- more record seen.
 use mathlib.Core.Path.{_≡_, refl, sym, ap, _∙_}
 use mathlib.Core.List.{List, [], _∷_, _++_, append-nil}
-use Prim.Native.Nat.{ℕ, zero, suc, _+_, _-_, _*_, _/_, _≤_, _<_}
-use native.Mathlib.Nat.{add-zero}
-use native.Mathlib.Numerals.{add-one}
+use Prim.Native.Nat.{ℕ, _+_, _-_, _*_, _/_, _≤_, _<_}
+use native.Mathlib.Nat.{zero-add}
 use native.Mathlib.Omega.{arith}
 use lib.ListN.{length, take, drop, length-append, length-drop}
 use lib.Seq.{length-take-le, take-at}
@@ -12,7 +11,7 @@ use borrow.Author.Tests.{eq-eqb, ne-eqb}
 use borrow.Rule.Slice.PartMut.{putMid}
 use Rattle.definitions.specs.Lists.{_!_, concatMap, upFrom, select, padded}
 use Rattle.definitions.specs.Matrices.{matrixSize}
-use Rattle.definitions.specs.laws.Lists.{concatMap-append}
+use Rattle.definitions.specs.laws.Lists.{concatMap-append, upFrom-snoc}
 use Rattle.definitions.specs.laws.Selected.{select-here, select-past, select-append}
 use Rattle.matrix.specs.Words.{overwritten}
 use Rattle.matrix.specs.laws.Words.{matrix-words}
@@ -47,13 +46,6 @@ module _ (table : List ℕ) (node : ℕ) (inside : leafSize * node + leafSize �
 
 -- ---- one more record seen
 
-upFrom-more : (a count : ℕ) → upFrom a (suc count) ≡ upFrom a count ++ ((a + count) ∷ [])
-unfolding upFrom
-upFrom-more a zero = rw add-zero
-upFrom-more a (suc count) =
-    let same : suc a + count ≡ a + suc count = omega arith in
-    ap (λ (l : List ℕ). a ∷ l) (upFrom-more (suc a) count ∙ rw same)
-
 -- the nodes before one whose records are used
 unfoldable pub usedBefore : (table : List ℕ) → (node : ℕ) → List ℕ
 usedBefore table node = select (isMarked table) (upFrom 0 node)
@@ -82,9 +74,7 @@ module _ (table d : List ℕ) (room : length table ≤ length d) (node count : �
       used-split : usedBefore table (node + 1) ≡ usedBefore table node ++ select (isMarked table) (node ∷ [])
       unfolding usedBefore
       used-split =
-          let zero-first : 0 + node ≡ node = omega arith in
-          ap (λ (n : ℕ). select (isMarked table) (upFrom 0 n)) (add-one node)
-          ∙ ap (select (isMarked table)) (upFrom-more 0 node ∙ rw zero-first)
+          ap (select (isMarked table)) (upFrom-snoc 0 node ∙ rw zero-add)
           ∙ select-append (isMarked table) (upFrom 0 node) (node ∷ [])
 
       words-more : (rest : List ℕ) → select (isMarked table) (node ∷ []) ≡ rest

@@ -1,37 +1,21 @@
 -- Laws about a list of leaves read back from its words: how many leaves there are, where the node and the
 -- matrix of each stand, and how its matrix meets another in seven words.
-use mathlib.Core.Path.{_≡_, refl, sym, ap, _∙_}
-use mathlib.Core.List.{List, [], _∷_, map, append-nil}
-use Prim.Native.Nat.{ℕ, zero, suc, _+_, _-_, _*_, _/_, _≤_, _<_}
+use mathlib.Core.Path.{_≡_, sym, ap, _∙_}
+use mathlib.Core.List.{List, [], map, append-nil}
+use Prim.Native.Nat.{ℕ, suc, _+_, _-_, _*_, _/_, _≤_, _<_}
 use native.Mathlib.Omega.{arith}
 use lib.ListN.{length, take, drop, getD, length-map, length-take, length-drop}
-use lib.Seq.{take-nil, drop-drop, getD-drop, getD-take, length-take-le}
+use lib.Seq.{drop-drop, getD-drop, getD-take, length-take-le}
 use Rattle.definitions.specs.Lists.{_!_, concatMap, records}
 use Rattle.definitions.specs.Matrices.{Matrix, matrixSize, matrixWords, valid, meet}
 use Rattle.definitions.specs.Combinations.{Leaf}
-use Rattle.definitions.specs.laws.Lists.{concatMap-map}
+use Rattle.definitions.specs.laws.Lists.{concatMap-map, map-at, same-at, drop-take}
 use Rattle.definitions.specs.laws.Records.{records-length, record-at, flat-records}
 use Rattle.definitions.specs.laws.Matrices.{meet-length}
 use Rattle.definitions.specs.laws.SevenWords.{words-length, words-meet, words-take}
 use Rattle.matrix.specs.laws.Words.{firstSeven, matrix-words}
 use Rattle.metastates.specs.Leaves.{leafSize, leafWords, leafIn, leavesIn, IsList}
 use Rattle.metastates.specs.Choices.{noLeaf}
-
--- an element that each of a list gives
-map-at : {A B : Type 0} (f : A → B) (l : List A) (a : A) (b : B) (i : ℕ) → i < length l
-    → getD (map f l) i b ≡ f (getD l i a)
-map-at f [] a b i h = absurd (omega arith)
-map-at f (x ∷ l) a b zero h = refl
-map-at f (x ∷ l) a b (suc i) h = map-at f l a b i (omega arith)
-
--- where that changes no list, it changes no element
-same-at : {A : Type 0} (f : A → A) (l : List A) (a : A) (i : ℕ) → i < length l → map f l ≡ l
-    → f (getD l i a) ≡ getD l i a
-same-at f l a i h e = sym (map-at f l a a i h) ∙ ap (λ (k : List _). getD k i a) e
-
-drop-take : (count : ℕ) (l : List ℕ) → drop 1 (take (suc count) l) ≡ take count (drop 1 l)
-drop-take count [] = sym (take-nil count)
-drop-take count (x ∷ l) = refl
 
 -- the seven words after a node, taken as a part
 pub part-columns : (words : List ℕ) (place : ℕ) → leafSize * place + leafSize ≤ length words
@@ -108,7 +92,7 @@ module _ (width : ℕ) (words : List ℕ) where
           let count : ℕ = length words / leafSize in
           let here : getD parts place [] ≡ take leafSize from = record-at leafSize count words place listed in
           let back = same-at again parts [] place (rw records-length listed) all-again in
-          ap (take matrixSize) (sym (drop-drop 1 (leafSize * place) words)) ∙ sym (drop-take matrixSize from)
+          ap (take matrixSize) (sym (drop-drop 1 (leafSize * place) words)) ∙ sym (drop-take 1 matrixSize from)
           ∙ ap (drop 1) (sym here ∙ sym back ∙ ap again here)
           ∙ ap (λ (l : Leaf). matrixWords (l .matrix)) (sym leaf-is)
 

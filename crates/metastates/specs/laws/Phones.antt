@@ -2,8 +2,8 @@
 -- start, one phone more, no room, and the end. The loop over the phones uses them.
 use mathlib.Core.Path.{_≡_, sym, ap, _∙_, subst}
 use mathlib.Core.List.{List, [], _∷_, _++_, map, append-assoc, map-append}
-use Prim.Native.Nat.{ℕ, zero, suc, _+_, _-_, _≤_, _<_}
-use native.Mathlib.Nat.{add-zero, zero-add, sub-zero}
+use Prim.Native.Nat.{ℕ, suc, _+_, _-_, _≤_, _<_}
+use native.Mathlib.Nat.{zero-add, sub-zero}
 use native.Mathlib.Omega.{arith}
 use lib.Dec.{ltb}
 use lib.ListN.{length, set}
@@ -15,26 +15,13 @@ use Rattle.definitions.specs.Tables.{Book}
 use Rattle.definitions.specs.Combinations.{Combination, combinationsOf, combinations, combinationRoom}
 use Rattle.definitions.specs.Combinations.{leavesOf}
 use Rattle.definitions.specs.laws.Tests.{by-test}
-use Rattle.definitions.specs.laws.Lists.{concatMap-append, concatMap-snoc, map-upFrom-length, padded-length}
+use Rattle.definitions.specs.laws.Lists.{concatMap-append, concatMap-snoc, upFrom-parts, upFrom-snoc}
+use Rattle.definitions.specs.laws.Lists.{map-upFrom-length, padded-length}
 use Rattle.definitions.specs.laws.Matrices.{root-length}
 use Rattle.metastates.specs.Answers.{endOf, endsOf}
 use Rattle.metastates.specs.Choices.{Holding, Grown}
 use Rattle.metastates.specs.laws.Grown.{Sized, sized-each, choose-sized, counted-within, counted-over}
 use Rattle.metastates.specs.laws.Grown.{grown-none, grown-over, grown-holding, grown-then}
-
--- ---- counting up, in two parts
-
-upFrom-parts : (a m n : ℕ) → upFrom a (m + n) ≡ upFrom a m ++ upFrom (a + m) n
-unfolding upFrom
-upFrom-parts a zero n = rw (zero-add n, add-zero a)
-upFrom-parts a (suc m) n =
-    let more : suc m + n ≡ suc (m + n) = omega arith in
-    let next : suc a + m ≡ a + suc m = omega arith in
-    rw more (ap (λ (l : List ℕ). a ∷ l) (upFrom-parts (suc a) m n ∙ rw next))
-
-upFrom-snoc : (a count : ℕ) → upFrom a (count + 1) ≡ upFrom a count ++ ((a + count) ∷ [])
-unfolding upFrom
-upFrom-snoc a count = upFrom-parts a count 1
 
 -- ---- the combinations of the first phones
 

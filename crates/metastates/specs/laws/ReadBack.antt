@@ -19,7 +19,8 @@ use Rattle.definitions.specs.laws.SevenWords.{words-length, words-take}
 use Rattle.definitions.specs.laws.Records.{joined, allOf, concatMap-joined, sized-more, joined-length}
 use Rattle.definitions.specs.laws.Records.{records-joined}
 use Rattle.definitions.specs.laws.Leaves.{leaf-inside}
-use Rattle.metastates.specs.Leaves.{leafSize, widthOf, leafWords, leavesFor, leafIn, leavesIn, IsList}
+use Rattle.matrix.specs.Shapes.{widthOf}
+use Rattle.metastates.specs.Leaves.{leafSize, leafWords, leavesFor, leafIn, leavesIn, IsList}
 
 -- ---- leaves of one width
 

@@ -2,32 +2,25 @@
 -- and the combinations that begin with it are the phone's.
 use mathlib.Core.Path.{_≡_, refl, sym, ap, _∙_, subst}
 use mathlib.Core.List.{List, [], _∷_}
-use mathlib.Core.Bool.{Bool, _&&_}
-use Prim.Native.Nat.{ℕ, _≤_, _<_, min}
+use Prim.Native.Nat.{ℕ, _≤_, _<_}
 use native.Mathlib.Omega.{arith}
-use lib.Dec.{T, leb, eqb}
+use lib.Dec.{T, eqb}
 use lib.ListN.{length, take}
 use borrow.Author.Tests.{le-leb, lt-ltb, eqb-true, eqb-false, eq-eqb}
-use Rattle.definitions.specs.declared.Header.{Header}
-use Rattle.definitions.specs.Lists.{if_then_else_, _!_, concatMap, padded}
-use Rattle.definitions.specs.PhoneSets.{has, alone, allPhones}
-use Rattle.definitions.specs.Matrices.{Matrix, matrixSize, matrixWords, rootMatrix, valid}
-use Rattle.definitions.specs.Tables.{Book, Tables, tablesBook}
-use Rattle.definitions.specs.ForeignTables.{headerKnown, nodeTableKnown, classTableKnown, rootTableKnown}
-use Rattle.definitions.specs.ForeignTables.{namedOnce, tablesKnown}
+use Rattle.definitions.specs.Lists.{_!_, concatMap, padded}
+use Rattle.definitions.specs.PhoneSets.{has}
+use Rattle.definitions.specs.Matrices.{Matrix, matrixWords, rootMatrix, valid}
+use Rattle.definitions.specs.Tables.{Book}
 use Rattle.definitions.specs.Combinations.{Leaf, Combination, combinationsOf}
-use Rattle.definitions.specs.laws.Tests.{by-test, T-three}
-use Rattle.definitions.specs.laws.Books.{InRange}
+use Rattle.definitions.specs.laws.Tests.{by-test}
 use Rattle.definitions.specs.laws.PhoneSets.{has-alone, has-all}
 use Rattle.definitions.specs.laws.Matrices.{root-column, root-other, root-length, valid-columns}
 use Rattle.definitions.specs.laws.SevenWords.{words-take}
-use Rattle.tables.specs.laws.Known.{header-ranges}
 use Rattle.matrix.specs.declared.Matrix as shaped
-use Rattle.matrix.specs.Shapes.{columnsAround}
-use Rattle.matrix.specs.laws.Shapes.{root-around, around-words}
 use Rattle.metastates.specs.declared.Choice.{Choice}
 use Rattle.metastates.specs.Choices.{Grown, Chosen, chosenFrom}
-use Rattle.metastates.specs.Leaves.{widthOf, leafWords, leavesFor, leavesIn, IsList}
+use Rattle.matrix.specs.Shapes.{widthOf}
+use Rattle.metastates.specs.Leaves.{leafWords, leavesFor, leavesIn, IsList}
 use Rattle.metastates.specs.laws.ReadBack.{read-back, is-list, for-wide, trees-for}
 
 -- ---- the matrix that a phone's roots carry
@@ -49,30 +42,6 @@ module _ (half phones p : ℕ) (low : 1 ≤ p) (high : p ≤ phones) where
 
   pub root-valid : T (valid (rootMatrix half phones p))
   root-valid = valid-columns root .1 (λ c k. (p, root-member c k))
-
-  -- as the code shapes it
-  pub root-shaped : half ≤ 3 → phones ≤ 64 → {all centre : ℕ} {columns : List ℕ}
-      → all ≡ allPhones (min phones 64) → centre ≡ (if leb p 64 then alone p else 0)
-      → columns ≡ take matrixSize (matrixWords (columnsAround half all centre all))
-      → columns ≡ matrixWords (rootMatrix half phones p)
-  root-shaped narrow few {all} {centre} a e s =
-      let most : min phones 64 ≡ phones = omega arith in
-      let sides : all ≡ allPhones phones = a ∙ ap allPhones most in
-      let own : centre ≡ alone p = e ∙ rw (le-leb p 64 (omega arith)) in
-      s ∙ around-words half all centre all narrow
-      ∙ rw (sides, own) (ap matrixWords (sym (root-around half phones p)))
-
--- ---- the header of known tables
-
-pub known-ranges : (header : Header) (tables : Tables) → T (tablesKnown header tables) → InRange header
-unfolding tablesKnown
-known-ranges header tables h =
-    let nodes : Bool = nodeTableKnown header (tables .nodes) in
-    let classes : Bool = classTableKnown header (tables .classes) in
-    let roots : Bool = rootTableKnown header (tables .roots) in
-    let once : Bool = namedOnce (tablesBook header tables) in
-    let first = T-three (headerKnown header && nodes && classes) roots once .0 h .0 in
-    header-ranges header (T-three (headerKnown header) nodes classes .0 first .0)
 
 -- ---- the choice that a phone of a book starts with, over the lists of its leaves
 

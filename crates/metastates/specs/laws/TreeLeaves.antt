@@ -23,12 +23,12 @@ use Rattle.definitions.specs.laws.SevenWords.{words-take}
 use Rattle.definitions.specs.laws.Tables.{tree-nodes-length}
 use Rattle.definitions.specs.laws.NamedOnce.{leaves-once}
 use Rattle.definitions.specs.laws.Ascending.{leafNodes, nodes-below}
-use Rattle.matrix.specs.Shapes.{columnsAround}
-use Rattle.matrix.specs.laws.Shapes.{root-around, around-words}
+use Rattle.matrix.specs.Shapes.{widthOf, columnsAround}
+use Rattle.matrix.specs.laws.Shapes.{root-shaped}
 use Rattle.tables.specs.Lending.{lentTables}
 use Rattle.tables.specs.laws.Records.{treeNodes}
-use Rattle.metastates.specs.Leaves.{leafSize, widthOf, putLeaves, listed, leafWords, leavesFor}
-use Rattle.metastates.specs.laws.KnownTables.{Fit, known-forward}
+use Rattle.tables.specs.laws.KnownTables.{Fit, known-forward}
+use Rattle.metastates.specs.Leaves.{leafSize, putLeaves, listed, leafWords, leavesFor}
 use Rattle.metastates.specs.laws.PuttingLeaves.{InTable, AllInTable}
 use Rattle.metastates.specs.laws.WalkingLeaves.{Words}
 use Rattle.metastates.specs.laws.ListingLeaves.{all-listed}
@@ -91,13 +91,9 @@ pub top-words : (header : Header) (tables : Tables) → Fit header tables → (p
 top-words header tables fit phone h all one columns e f g =
     let half : ℕ = header .half in
     let top : Matrix = rootMatrix half (header .phones) phone in
-    let range = fit .ranges in
-    let fewest : min (header .phones) 64 ≡ header .phones = omega (arith, range .phones-range .high) in
-    let every-phone : all ≡ allPhones (header .phones) = e ∙ ap allPhones fewest in
-    let own-phone : one ≡ alone phone = f ∙ rw (le-leb phone 64 (omega (arith, range .phones-range .high))) in
     let own : columns ≡ matrixWords top =
-    g ∙ around-words half all one all (range .half-range .high)
-    ∙ rw (every-phone, own-phone, root-around half (header .phones) phone) in
+    root-shaped half (header .phones) phone (fit .ranges .half-range .high) (fit .ranges .phones-range .high) h
+    e f g in
     let width : length top ≡ widthOf half = root-length half (header .phones) phone ∙ omega arith in
     let taken : take (widthOf half) columns ≡ top =
     ap (take (widthOf half)) own ∙ ap (λ (n : ℕ). take n (matrixWords top)) (sym width) ∙ words-take top in

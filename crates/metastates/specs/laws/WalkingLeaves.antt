@@ -24,8 +24,9 @@ use Rattle.definitions.specs.laws.SevenWords.{words-yes, words-no, words-take}
 use Rattle.definitions.specs.laws.Tables.{tree-nodes-length}
 use Rattle.tables.specs.Lending.{lentTables}
 use Rattle.tables.specs.laws.Known.{header-ranges}
-use Rattle.metastates.specs.Leaves.{leafSize, widthOf, putLeaf, putLeaves}
-use Rattle.metastates.specs.laws.KnownTables.{node-is, question-fits, known-forward}
+use Rattle.tables.specs.laws.KnownTables.{node-is, question-fits, known-forward}
+use Rattle.matrix.specs.Shapes.{widthOf}
+use Rattle.metastates.specs.Leaves.{leafSize, putLeaf, putLeaves}
 use Rattle.metastates.specs.laws.PuttingLeaves.{put-append}
 
 -- ---- enough levels

@@ -21,7 +21,8 @@ use Rattle.matrix.specs.laws.Shapes.{around-length, around-words}
 use Rattle.tables.specs.laws.Known.{header-ranges}
 use Rattle.network.specs.declared.Sizes.{Sizes}
 use Rattle.network.specs.declared.Step.{Step}
-use Rattle.network.specs.Combinations.{widthOf, combinationsIn, nodesBook, Usable}
+use Rattle.matrix.specs.Shapes.{widthOf}
+use Rattle.network.specs.Combinations.{combinationsIn, nodesBook, Usable}
 use Rattle.network.specs.Networks.{metastatesIn, networkHeld, roomOf, Holds}
 use Rattle.network.specs.Steps.{Leaves}
 use Rattle.network.specs.laws.Starting.{beforeStart, starts-follow}

@@ -5,7 +5,7 @@ use mathlib.Core.List.{List, [], _∷_}
 use Prim.Native.Nat.{ℕ, _*_, _≤_}
 use native.Mathlib.Omega.{arith}
 use lib.Dec.{T, leb, leb→le, lit<}
-use lib.ListN.{length, take, length-replicate}
+use lib.ListN.{length, take}
 use Rattle.definitions.specs.declared.Header.{Header}
 use Rattle.definitions.specs.declared.Refusal.{Refusal}
 use Rattle.definitions.specs.declared.Fault.the-variants.{Foreign, Choices}
@@ -20,7 +20,7 @@ use Rattle.definitions.specs.Metastates.{metastateWords}
 use Rattle.definitions.specs.Connecting.{Network, Built, finished, stopped, connect}
 use Rattle.definitions.specs.Building.{Space, roomIn, build, networkIn, buffersOf, noBuffers, buffersLeft}
 use Rattle.definitions.specs.laws.Judging.{passes-at, judge-answered}
-use Rattle.definitions.specs.laws.Lists.{padded-length, padded-take}
+use Rattle.definitions.specs.laws.Lists.{padded-length, padded-take, clear-length, clear-itself}
 use Rattle.metastates.specs.declared.Combined.{Combined}
 use Rattle.metastates.specs.declared.Combined.the-variants as combined
 use Rattle.metastates.specs.Answers.{combinedOf, endsOf, endsLeft}
@@ -38,12 +38,6 @@ use Rattle.network.specs.laws.UsableCombinations.{combinations-usable, c
 use Rattle.network.specs.laws.UsableCombinations.{combinations-ending}
 
 -- ---- lent buffers
-
-clear-length : (l l₁ : List ℕ) → l₁ ≡ cleared (length l) → length l₁ ≡ length l
-clear-length l l₁ e = ap length e ∙ length-replicate (length l) 0
-
-clear-itself : (l l₁ : List ℕ) → l₁ ≡ cleared (length l) → l₁ ≡ cleared (length l₁)
-clear-itself l l₁ e = e ∙ ap cleared (sym (clear-length l l₁ e))
 
 buffers-equal : {combinations combinations₁ metastates metastates₁ arcs arcs₁ : List ℕ}
     → combinations ≡ combinations₁ → metastates ≡ metastates₁ → arcs ≡ arcs₁

@@ -32,14 +32,15 @@ use Rattle.definitions.specs.laws.Metastates.{metastates-equal}
 use Rattle.definitions.specs.laws.SevenWords.{words-length, words-same}
 use Rattle.definitions.specs.laws.Limits.{withArc, withMetastate, metastate-first}
 use Rattle.tables.specs.laws.Known.{header-ranges}
+use Rattle.definitions.specs.laws.Lists.{map-at}
 use Rattle.network.specs.declared.Sizes.{Sizes}
 use Rattle.network.specs.declared.Step.{Step}
 use Rattle.network.specs.declared.Step.the-variants as step
 use Rattle.network.specs.Chains.{rowsIn, Linked, Found}
-use Rattle.network.specs.Combinations.{widthOf, combinationsIn, nodesBook, Usable, Modelled}
+use Rattle.matrix.specs.Shapes.{widthOf}
+use Rattle.network.specs.Combinations.{combinationsIn, nodesBook, Usable, Modelled}
 use Rattle.network.specs.Networks.{networkHeld, sizesOf, roomOf, Holds}
 use Rattle.network.specs.Steps.{stepOf, Leaves}
-use Rattle.network.specs.laws.RecordWords.{map-at}
 use Rattle.network.specs.laws.Linking.{linkedTo}
 use Rattle.network.specs.laws.HoldsMore.{held-sizes, arc-within, holds-arc, used-within, used-rows}
 use Rattle.network.specs.laws.HoldsMore.{holds-metastate}

@@ -35,7 +35,8 @@ use Rattle.network.specs.declared.Sizes.{Sizes}
 use Rattle.network.specs.declared.Arcs.{Arcs}
 use Rattle.network.specs.declared.Step.{Step}
 use Rattle.network.specs.declared.Step.the-variants as step
-use Rattle.network.specs.Combinations.{widthOf, combinationsIn, nodesBook, Usable, Modelled}
+use Rattle.matrix.specs.Shapes.{widthOf}
+use Rattle.network.specs.Combinations.{combinationsIn, nodesBook, Usable, Modelled}
 use Rattle.network.specs.Networks.{networkHeld, roomOf, sizesOf, Holds}
 use Rattle.network.specs.Steps.{AreArcs, Leaves, stepOf}
 use Rattle.network.specs.laws.HeldBack.{held-back}

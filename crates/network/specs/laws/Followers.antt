@@ -20,7 +20,8 @@ use Rattle.definitions.specs.laws.Tests.{T-and, by-test}
 use Rattle.definitions.specs.laws.Matrices.{meet-has, meet-length, valid-columns}
 use Rattle.definitions.specs.laws.SevenWords.{words-length, words-meet, words-take}
 use Rattle.tables.specs.laws.Known.{header-ranges}
-use Rattle.network.specs.Combinations.{widthOf, combinationsIn, numbered, IsChoice, Usable, EndsAt}
+use Rattle.matrix.specs.Shapes.{widthOf}
+use Rattle.network.specs.Combinations.{combinationsIn, numbered, IsChoice, Usable, EndsAt}
 use Rattle.network.specs.Combinations.{Ending}
 use Rattle.network.specs.Following.{NextFollower}
 use Rattle.network.specs.laws.RecordWords.{phone-word, matrix-word}

@@ -20,7 +20,8 @@ use Rattle.definitions.specs.laws.Records.{records-length}
 use Rattle.network.specs.declared.Sizes.{Sizes}
 use Rattle.network.specs.declared.Step.{Step}
 use Rattle.network.specs.declared.Step.the-variants as step
-use Rattle.network.specs.Combinations.{widthOf, combinationsIn, numbered, nodesBook}
+use Rattle.matrix.specs.Shapes.{widthOf}
+use Rattle.network.specs.Combinations.{combinationsIn, numbered, nodesBook}
 use Rattle.network.specs.Networks.{metastateIn, metastatesIn, networkHeld, sizesOf, roomOf, Holds}
 use Rattle.network.specs.Following.{NextFollower}
 use Rattle.network.specs.Steps.{stepOf, Leaves}

@@ -19,7 +19,7 @@ use Rattle.definitions.specs.laws.Metastates.{metastates-equal}
 use Rattle.definitions.specs.laws.SevenWords.{words-length, words-take}
 use Rattle.definitions.specs.laws.Records.{allOf, concatMap-joined, joined-length, records-joined, arcs-read}
 use Rattle.network.specs.Chains.{Latest, Linked}
-use Rattle.network.specs.Combinations.{widthOf}
+use Rattle.matrix.specs.Shapes.{widthOf}
 use Rattle.network.specs.Networks.{metastateIn, metastatesIn, networkHeld, sizesOf, Holds}
 
 -- matrices of one width, which eight words hold with a number

@@ -11,15 +11,14 @@ use Rattle.definitions.specs.Matrices.{matrixSize, matrixWords}
 use Rattle.definitions.specs.Metastates.{Metastate, metastateSize, metastateWords}
 use Rattle.definitions.specs.Building.{roomIn}
 use Rattle.definitions.specs.Connecting.{Network, noMetastate}
-use Rattle.definitions.specs.laws.Lists.{concatMap-append}
+use Rattle.definitions.specs.laws.Lists.{concatMap-append, map-at}
 use Rattle.definitions.specs.laws.Members.{isIn, in-at}
 use Rattle.definitions.specs.laws.SevenWords.{words-take}
 use Rattle.definitions.specs.laws.Records.{record-at, flat-length}
 use Rattle.network.specs.declared.Arcs.{Arcs}
-use Rattle.network.specs.Combinations.{widthOf}
+use Rattle.matrix.specs.Shapes.{widthOf}
 use Rattle.network.specs.Networks.{Holds}
 use Rattle.network.specs.Steps.{AreArcs}
-use Rattle.network.specs.laws.RecordWords.{map-at}
 use Rattle.network.specs.laws.HeldBack.{rows-read}
 use Rattle.network.specs.laws.HoldsMore.{put-size, put-used}
 use Rattle.network.specs.laws.PerformedArcs.{withArcs}

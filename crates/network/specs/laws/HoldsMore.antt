@@ -18,7 +18,7 @@ use Rattle.definitions.specs.laws.Limits.{withArc, withMetastate}
 use Rattle.definitions.specs.laws.Records.{flat-length, records-length}
 use Rattle.network.specs.declared.Sizes.{Sizes}
 use Rattle.network.specs.Chains.{rowsIn, Linked}
-use Rattle.network.specs.Combinations.{widthOf}
+use Rattle.matrix.specs.Shapes.{widthOf}
 use Rattle.network.specs.Networks.{metastateIn, metastatesIn, networkHeld, sizesOf, Holds}
 use Rattle.network.specs.laws.HeldBack.{row-length, rows-words, rows-read}
 use Rattle.network.specs.laws.Linking.{linkedTo, linked-more}

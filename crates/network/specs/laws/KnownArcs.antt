@@ -1,10 +1,10 @@
 -- Laws about the test for foreign arcs, one for each answer of the code. Arcs are tested in one pass, each by
 -- itself and its source against the last one, so the whole is left to the arcs that follow and that source.
 use mathlib.Core.Path.{_≡_, refl, sym, ap, _∙_}
-use mathlib.Core.List.{List, [], _∷_, append-nil}
+use mathlib.Core.List.{List, [], _∷_}
 use mathlib.Core.Bool.{Bool, true, false, _&&_, and-false}
 use Prim.Native.Nat.{ℕ, _+_, _-_, _*_, _/_, _≤_, _<_}
-use native.Mathlib.Nat.{mul-le-mul, add-zero}
+use native.Mathlib.Nat.{add-zero}
 use native.Mathlib.Numerals.{add-one}
 use native.Mathlib.Omega.{arith}
 use lib.Dec.{T, leb, ltb}
@@ -19,18 +19,10 @@ use Rattle.definitions.specs.ForeignTables.{holdsOnly}
 use Rattle.definitions.specs.Arcs.{Arc, arcSize, arcOf, arcsIn}
 use Rattle.definitions.specs.NetworkText.{isState, arcKnown, neverDescending, networkKnown}
 use Rattle.definitions.specs.laws.Tests.{T-and, T-three, by-test}
-use Rattle.definitions.specs.laws.Records.{joined, records-joined, records-length, record-at}
-use Rattle.definitions.specs.laws.Records.{records-sized, joined-records}
+use Rattle.definitions.specs.laws.Records.{records-length, record-at, records-taken}
 use Rattle.tables.specs.laws.Known.{holds-length}
 
 -- ---- states
-
--- two 32-bit numbers multiplied fit in 64 bits
-pub product-fits : {a b : ℕ} → a < 4294967296 → b < 4294967296 → a * b < 18446744073709551616
-product-fits {a} {b} h k =
-    let first : a ≤ 4294967295 = omega arith in
-    let second : b ≤ 4294967295 = omega arith in
-    let most : a * b ≤ 4294967295 * 4294967295 = mul-le-mul first second in omega (arith, most)
 
 -- every network has states 0 and 1; beyond them the code counts those of the metastates
 module _ (counts : Counts) {state : ℕ} where
@@ -180,13 +172,6 @@ module _ {counts : Counts} {words : List ℕ} {count last i : ℕ} (t : Tested c
   tested-end h = sym (t .rest ∙ rw (arcs-end count words i h))
 
 -- ---- the words that hold the arcs
-
-records-taken : (size count : ℕ) (text : List ℕ) → size * count ≤ length text
-    → records size count (take (size * count) text) ≡ records size count text
-records-taken size count text h =
-    let own : List (List ℕ) = records size count text in
-    let again = records-joined size own [] (records-sized size count text h) in
-    rw (records-length size count text, append-nil (joined own), joined-records size count text h) at again
 
 pub arcs-taken : (count : ℕ) (words : List ℕ) → arcSize * count ≤ length words
     → allArcs (take (arcSize * count) words) ≡ arcsIn count words

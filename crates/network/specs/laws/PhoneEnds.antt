@@ -1,8 +1,8 @@
 -- Where the combinations of each phone end. Those of phones up to one stand before all others, so a number
 -- below the end of a phone has a phone up to it, and a number from there on a greater one.
 use mathlib.Core.Path.{_≡_, refl, ap, ap₂, _∙_, subst}
-use mathlib.Core.List.{List, [], _∷_, _++_}
-use Prim.Native.Nat.{ℕ, zero, suc, _+_, _-_, _≤_, _<_}
+use mathlib.Core.List.{List, [], _++_}
+use Prim.Native.Nat.{ℕ, suc, _+_, _-_, _≤_, _<_}
 use native.Mathlib.Omega.{arith}
 use lib.Dec.{ltb}
 use lib.ListN.{length, length-append, List·getD-append}
@@ -13,7 +13,7 @@ use Rattle.definitions.specs.Tables.{Book}
 use Rattle.definitions.specs.Combinations.{Combination, combinationsOf, combinations}
 use Rattle.definitions.specs.Metastates.{noCombination}
 use Rattle.definitions.specs.laws.Tests.{by-test}
-use Rattle.definitions.specs.laws.Lists.{concatMap-append, map-upFrom-length, map-upFrom-at, padded-length}
+use Rattle.definitions.specs.laws.Lists.{concatMap-append, map-upFrom-length, map-upFrom-at, padded-length, upFrom-parts}
 use Rattle.definitions.specs.laws.Members.{isIn, in-at, of-concatMap, of-upFrom}
 use Rattle.definitions.specs.laws.SevenWords.{padded-column}
 use Rattle.definitions.specs.laws.Leaves.{phoneMatrix}
@@ -21,18 +21,6 @@ use Rattle.definitions.specs.laws.Sound.{Sound}
 use Rattle.definitions.specs.demand.Chosen.{choose-begins}
 use Rattle.metastates.specs.Answers.{endOf, endsOf}
 use Rattle.network.specs.Combinations.{numbered, EndsAt}
-
--- counting on from where the first numbers end
-upFrom-parts : (a k n : ℕ) → upFrom a (k + n) ≡ upFrom a k ++ upFrom (a + k) n
-unfolding upFrom
-upFrom-parts a zero n =
-    let here : a + 0 ≡ a = omega arith in
-    let none : 0 + n ≡ n = omega arith in
-    rw (here, none)
-upFrom-parts a (suc k) n =
-    let next : a + suc k ≡ suc a + k = omega arith in
-    let more : suc k + n ≡ suc (k + n) = omega arith in
-    rw (next, more) (ap (λ (l : List ℕ). a ∷ l) (upFrom-parts (suc a) k n))
 
 module _ (book : Book) (sound : Sound book) where
   abbrev ofPhones : (first count : ℕ) → List Combination

@@ -1,18 +1,18 @@
 -- Laws about the words of combinations: how many records there are, where the phone, the leaves and the matrix
 -- of each stand, and where its models stand in the table of nodes.
-use mathlib.Core.Path.{_≡_, refl, sym, ap, _∙_}
-use mathlib.Core.List.{List, [], _∷_, map, append-nil}
+use mathlib.Core.Path.{_≡_, sym, ap, _∙_}
+use mathlib.Core.List.{List, [], map, append-nil}
 use mathlib.Core.Bool.{Bool, true, false}
-use Prim.Native.Nat.{ℕ, zero, suc, _+_, _*_, _/_, _≤_, _<_}
+use Prim.Native.Nat.{ℕ, suc, _+_, _*_, _/_, _≤_, _<_}
 use native.Mathlib.Omega.{arith}
 use lib.Dec.{eqb}
 use lib.ListN.{length, take, drop, getD, length-append, length-map, length-take, length-drop}
 use lib.ListN.{List·getD-append}
-use lib.Seq.{drop-drop, drop-at, getD-drop, getD-take, take-nil}
+use lib.Seq.{drop-drop, drop-at, getD-drop, getD-take}
 use Rattle.definitions.specs.declared.Header.{Header}
 use Rattle.definitions.specs.declared.Node.{Node}
 use Rattle.definitions.specs.Lists.{if_then_else_, _!_, concatMap, records, padded}
-use Rattle.definitions.specs.BookLines.{TreeNode, question, leaf}
+use Rattle.definitions.specs.BookLines.{question, leaf}
 use Rattle.definitions.specs.BookReading.{nodeSize}
 use Rattle.definitions.specs.Matrices.{matrixSize, matrixWords}
 use Rattle.definitions.specs.Tables.{nodeOf, treeNode, nodeRecords, tablesBook}
@@ -20,32 +20,15 @@ use Rattle.definitions.specs.Lookup.{nodeAt, modelAt}
 use Rattle.definitions.specs.Combinations.{Combination, combinationSize, combinationWords}
 use Rattle.definitions.specs.Metastates.{Metastate, noCombination, combinationOf, modelsOf}
 use Rattle.definitions.specs.laws.Books.{InRange}
-use Rattle.definitions.specs.laws.Lists.{concatMap-map, padded-length, padded-take}
+use Rattle.definitions.specs.laws.Lists.{concatMap-map, padded-length, padded-take, map-at, same-at, drop-take}
 use Rattle.definitions.specs.laws.Records.{records-length, record-at, flat-records}
 use Rattle.definitions.specs.laws.SevenWords.{padded-column, words-length}
 use Rattle.definitions.specs.laws.Tables.{node-of-first}
 use Rattle.tables.specs.laws.Known.{header-ranges}
-use Rattle.network.specs.Combinations.{widthOf, combinationIn, combinationsIn, numbered, nodesBook}
+use Rattle.matrix.specs.Shapes.{widthOf}
+use Rattle.definitions.specs.laws.Walks.{model-at}
+use Rattle.network.specs.Combinations.{combinationIn, combinationsIn, numbered, nodesBook}
 use Rattle.network.specs.Combinations.{Usable, Modelled}
-
--- an element that each of a list gives
-pub map-at : {A B : Type 0} (f : A → B) (l : List A) (a : A) (b : B) (i : ℕ) → i < length l
-    → getD (map f l) i b ≡ f (getD l i a)
-map-at f [] a b i h = absurd (omega arith)
-map-at f (x ∷ l) a b zero h = refl
-map-at f (x ∷ l) a b (suc i) h = map-at f l a b i (omega arith)
-
--- an element of a list whose elements all give themselves
-same-at : {A : Type 0} (f : A → A) (l : List A) (a : A) (i : ℕ) → i < length l → map f l ≡ l
-    → f (getD l i a) ≡ getD l i a
-same-at f l a i h e = sym (map-at f l a a i h) ∙ ap (λ (k : List _). getD k i a) e
-
-drop-take : (count more : ℕ) (l : List ℕ) → drop count (take (count + more) l) ≡ take more (drop count l)
-drop-take zero more l = let same : 0 + more ≡ more = omega arith in rw same
-drop-take (suc count) more [] =
-    let next : suc count + more ≡ suc (count + more) = omega arith in rw next (sym (take-nil more))
-drop-take (suc count) more (x ∷ l) =
-    let next : suc count + more ≡ suc (count + more) = omega arith in rw next (drop-take count more l)
 
 -- seven words that are there, read as a matrix
 pub seven-words : (words : List ℕ) (from count : ℕ) {columns : List ℕ} → from + matrixSize ≤ length words
@@ -79,10 +62,6 @@ leaf-value node model = go (eqb (node .kind) 1)
         ≡ leaf model → node .value ≡ model
     go true e = let z : _≡_ {A = ℕ} 0 1 = cc in absurd (omega arith)
     go false e = cc
-
-model-is : (nodes : List TreeNode) (node model : ℕ) → nodeAt nodes node ≡ leaf model → modelAt nodes node ≡ model
-unfolding modelAt
-model-is nodes node model e = rw (e, modelAt)
 
 module _ (header : Header) (words : List ℕ) where
   abbrev parts : List (List ℕ)
@@ -227,6 +206,6 @@ module _ (header : Header) (words : List ℕ) where
               let same : leaves ≡ here .leaves = rw e in
               let counted : length leaves ≡ header .states = rw e (usable .each number h .states) in
               leaf-value (nodeOf (drop (nodeSize * at) nodes)) model own
-              ∙ sym (model-is (nodesBook header nodes .nodes) at model is)
+              ∙ sym (model-at (nodesBook header nodes .nodes) at model is)
               ∙ ap (λ (l : List ℕ). modelAt (nodesBook header nodes .nodes) (l ! state)) (sym same)
               ∙ sym (map-at (modelAt (nodesBook header nodes .nodes)) leaves 0 0 state (omega arith))

@@ -28,9 +28,10 @@ use Rattle.definitions.specs.demand.Chosen.{Chosen, chosen-at}
 use Rattle.metastates.specs.Answers.{endsOf}
 use Rattle.tables.specs.Lending.{lentTables}
 use Rattle.tables.specs.laws.Known.{header-ranges}
-use Rattle.network.specs.Combinations.{widthOf, combinationIn, combinationsIn, numbered, IsChoice}
+use Rattle.matrix.specs.Shapes.{widthOf}
+use Rattle.tables.specs.laws.KnownSound.{known-header, known-sound}
+use Rattle.network.specs.Combinations.{combinationIn, combinationsIn, numbered, IsChoice}
 use Rattle.network.specs.Combinations.{nodesBook, Usable, Modelled, EndsAt, Ending}
-use Rattle.network.specs.laws.KnownSound.{known-header, known-sound}
 use Rattle.network.specs.laws.PhoneEnds.{ends-sized, ends-at}
 
 -- ---- combinations read back

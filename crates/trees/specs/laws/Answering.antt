@@ -28,7 +28,7 @@ use Rattle.trees.specs.declared.Transcript.{Transcript}
 use Rattle.trees.specs.declared.Transcript.the-variants as transcript
 use Rattle.trees.specs.Answers.{lookupOf, transcriptOf}
 use Rattle.tables.specs.laws.Records.{treeNodes}
-use Rattle.trees.specs.laws.Fitting.{classes-wide, tables-fit}
+use Rattle.tables.specs.laws.KnownTables.{classes-wide, tables-fit}
 use Rattle.trees.specs.laws.Models.{transcription-length}
 
 abbrev at-no-line : Fault → Refusal

@@ -31,20 +31,19 @@ use Rattle.trees.specs.laws.Walking.{model-is}
 
 -- the record at the leaf that the walk from the root reaches holds the model
 pub model-reached : (header : Header) (nodes classes roots context : List ℕ)
-    (state phone root count leaf : ℕ) (x : Node) → phone ≡ context ! header .half
-    → root ≡ take (rootCount header) roots ! ((phone - 1) * header .states + (state - 1))
+    (state root count leaf : ℕ) (x : Node)
+    → root ≡ take (rootCount header) roots ! ((context ! header .half - 1) * header .states + (state - 1))
     → count ≡ header .classes
     → (leaf ≡ leafReached (treeNodes header nodes) (take count classes) context root) × (leaf < header .nodes)
     × (nodeOf (drop (nodeSize * leaf) nodes) .kind ≡ 1 → ⊥)
     → x ≡ nodeOf (drop (nodeSize * leaf) nodes)
     → x .value ≡ modelOf (tablesBook header (lentTables nodes classes roots)) context state
 unfolding modelOf tablesBook rootOf
-model-reached header nodes classes roots context state phone root count leaf x p r n w own =
+model-reached header nodes classes roots context state root count leaf x r n w own =
     let tree : List TreeNode = treeNodes header nodes in
     ap (λ (x : Node). x .value) own ∙ sym (model-is header nodes leaf (w .1) (w .2))
     ∙ ap (modelAt tree) (w .0)
-    ∙ ap₂ (λ (count root : ℕ). modelAt tree (leafReached tree (take count classes) context root)) n
-    (r ∙ ap (λ (phone : ℕ). take (rootCount header) roots ! ((phone - 1) * header .states + (state - 1))) p)
+    ∙ ap₂ (λ (count root : ℕ). modelAt tree (leafReached tree (take count classes) context root)) n r
 
 -- ---- the states of a context
 

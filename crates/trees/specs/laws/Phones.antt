@@ -1,10 +1,11 @@
--- Laws about the tests of a phone, of a context and of an utterance, one for each answer of the code.
+-- Laws about the tests of a phone, of a context and of an utterance, one for each answer of the code; and that
+-- each column of a context holds a phone.
 use mathlib.Core.Path.{_≡_}
 use mathlib.Core.List.{List}
-use mathlib.Core.Bool.{true, false}
+use mathlib.Core.Bool.{Bool, true, false}
 use Prim.Native.Nat.{ℕ, _+_, _-_, _*_, _≤_, _<_}
 use native.Mathlib.Omega.{arith}
-use lib.Dec.{eqb}
+use lib.Dec.{T, eqb, eqb→eq}
 use lib.ListN.{length}
 use borrow.Author.Tests.{lt-ltb, le-ltb, le-leb, lt-leb, eq-eqb, ne-eqb}
 use Rattle.definitions.specs.declared.Header.{Header}
@@ -13,6 +14,8 @@ use Rattle.definitions.specs.BookLines.{isPhone}
 use Rattle.definitions.specs.Lookup.{isContext}
 use Rattle.definitions.specs.TreesGive.{silentEnds}
 use Rattle.definitions.specs.Transcription.{isUtterance}
+use Rattle.definitions.specs.laws.Tests.{T-and, every-at}
+use Rattle.definitions.specs.laws.Ranges.{phone-range}
 
 -- ---- one number: a phone of the book or not
 
@@ -40,6 +43,23 @@ module _ (header : Header) (context : List ℕ) where
       → isContext header context ≡ every (isPhone (header .phones)) context
   unfolding isContext
   by-phones e = rw (eq-eqb (length context) (2 * header .half + 1) e)
+
+-- a column of a context: there is one, and it holds a phone of the book
+pub record Column (header : Header) (context : List ℕ) (i : ℕ) : Type 0 where
+  pub inside : i < length context
+  pub low : 1 ≤ context ! i
+  pub high : context ! i ≤ header .phones
+
+pub column-fits : (header : Header) (context : List ℕ) → T (isContext header context) → (i : ℕ)
+    → i ≤ 2 * header .half → Column header context i
+unfolding isContext
+column-fits header context h i l =
+    let phones : Bool = every (isPhone (header .phones)) context in
+    let test = T-and (eqb (length context) (2 * header .half + 1)) phones .0 h in
+    let width : length context ≡ 2 * header .half + 1 = eqb→eq _ _ (test .0) in
+    let inside : i < length context = omega arith in
+    let phone = phone-range (header .phones) (context ! i) .0 (every-at _ context 0 (test .1) i inside) in
+    record { inside = inside; low = phone .0; high = phone .1 }
 
 -- ---- an utterance: a phone, phones alone, silence first, silence last
 

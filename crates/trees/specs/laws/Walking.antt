@@ -17,10 +17,11 @@ use Rattle.definitions.specs.BookReading.{nodeSize}
 use Rattle.definitions.specs.Tables.{nodeOf, treeNode}
 use Rattle.definitions.specs.Lookup.{nodeAt, holdsAt, walk, leafReached, modelAt, isContext}
 use Rattle.definitions.specs.laws.Accepted.{QuestionFits}
-use Rattle.definitions.specs.laws.Walks.{walk-leaf, walk-question, either-node}
+use Rattle.definitions.specs.laws.Walks.{walk-leaf, walk-question, either-node, model-at}
 use Rattle.definitions.specs.laws.Tables.{tree-nodes-length}
 use Rattle.tables.specs.laws.Records.{treeNodes}
-use Rattle.trees.specs.laws.Nodes.{node-is, column-fits}
+use Rattle.tables.specs.laws.KnownTables.{node-is}
+use Rattle.trees.specs.laws.Phones.{column-fits}
 
 -- the answer to a question, from its class and its position as places
 pub answer-is : (node : Node) (classes context : List ℕ) (class position : ℕ) (b : Bool)
@@ -114,9 +115,9 @@ module _ (header : Header) (words classes context : List ℕ) where
 pub model-is : (header : Header) (words : List ℕ) (node : ℕ) → node < header .nodes
     → (nodeOf (drop (nodeSize * node) words) .kind ≡ 1 → ⊥)
     → modelAt (treeNodes header words) node ≡ nodeOf (drop (nodeSize * node) words) .value
-unfolding modelAt treeNode
+unfolding treeNode
 model-is header words node listed other =
     let x : Node = nodeOf (drop (nodeSize * node) words) in
     let found : nodeAt (treeNodes header words) node ≡ leaf (x .value) =
     node-is header words node listed ∙ rw (ne-eqb (x .kind) 1 other) in
-    rw (found, modelAt)
+    model-at (treeNodes header words) node (x .value) found

@@ -5,7 +5,7 @@ use borrow.Author.Tests.{le-leb, lt-leb}
 use borrow.Author.Needs.{needs}
 use Rattle.definitions.specs.BookLines.{rootCount}
 use Rattle.definitions.specs.BookReading.{wideEnough}
-use Rattle.book.specs.laws.Numbers.{product-fits}
+use Rattle.definitions.specs.laws.Products.{product-fits}
 use Rattle.book.proofs.judging.wide_enough.Statement.{statement}
 use Rattle.book.proofs.judging.wide_enough.Tie as tie
 
@@ -38,7 +38,7 @@ wide-requires-4 : tie.Need-wide-requires-4
 wide-requires-4 c κs = search needs
 
 mul-result : tie.Need-mul-result
-mul-result c = record { fits = product-fits _ _ (omega arith) (omega arith) }
+mul-result c = record { fits = product-fits (omega arith) (omega arith) }
 
 returns-3 : tie.Need-returns-3
 unfolding wideEnough rootCount

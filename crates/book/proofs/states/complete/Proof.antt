@@ -3,7 +3,8 @@ use native.Mathlib.Omega.{arith}
 use borrow.Author.Needs.{needs}
 use Rattle.definitions.specs.BookLines.{rootCount}
 use Rattle.book.specs.States.{completeIn}
-use Rattle.book.specs.laws.Numbers.{above-zero, product-fits}
+use Rattle.definitions.specs.laws.Products.{product-fits}
+use Rattle.book.specs.laws.Numbers.{above-zero}
 use Rattle.book.proofs.states.complete.Statement.{statement}
 use Rattle.book.proofs.states.complete.Tie as tie
 
@@ -18,7 +19,7 @@ wide-requires-2 : tie.Need-wide-requires-2
 wide-requires-2 c κs = search needs
 
 mul-result : tie.Need-mul-result
-mul-result c = record { fits = product-fits _ _ (omega arith) (omega arith) }
+mul-result c = record { fits = product-fits (omega arith) (omega arith) }
 
 returns-2 : tie.Need-returns-2
 unfolding completeIn rootCount

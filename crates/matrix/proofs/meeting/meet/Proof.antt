@@ -5,13 +5,14 @@ use lib.ListN.{length}
 use borrow.Author.Needs.{needs}
 use Rattle.definitions.specs.Matrices.{meet}
 use Rattle.definitions.specs.laws.Matrices.{meet-column}
-use Rattle.lines.specs.laws.Filling.{Filled, filled-start, filled-more, filled-end}
+use Rattle.lines.specs.laws.Filling.{filled-start}
 use Rattle.matrix.specs.laws.Columns.{meet-sized}
+use Rattle.matrix.specs.laws.Words.{Columns, columns-more, columns-end}
 use Rattle.matrix.proofs.meeting.meet.Statement.{statement}
 use Rattle.matrix.proofs.meeting.meet.Tie as tie
 
 abbrev Inv-loop : tie.InvT-loop
-Inv-loop a b columns₀ c₀ columns c = Filled (meet (a .columns) (b .columns)) columns₀ c columns
+Inv-loop a b columns₀ c₀ columns c = Columns (meet (a .columns) (b .columns)) c columns
 
 abbrev μ-loop : tie.MeasureT-loop
 μ-loop a b columns₀ c₀ columns c = 7 - c
@@ -49,14 +50,14 @@ loop-again c =
     let a = turn .before .args .t1 .columns in
     let b = turn .before .args .t2 .columns in
     let sized : length (meet a b) ≡ 7 = meet-sized 7 a b (search needs) (search needs) in
-    filled-more sized (turn .loop .inv) (search needs) (sym (meet-column a b (turn .loop .c)))
+    columns-more sized (turn .loop .inv) (search needs) (sym (meet-column a b (turn .loop .c)))
 
 returns : tie.Need-returns Inv-loop μ-loop
 returns c =
     let a = c .before .before .args .t1 .columns in
     let b = c .before .before .args .t2 .columns in
     let sized : length (meet a b) ≡ 7 = meet-sized 7 a b (search needs) (search needs) in
-    filled-end sized (c .before .loop .inv) (search needs)
+    columns-end sized (c .before .loop .inv) (search needs)
 
 pub meet-spec : {M : Type 1} → statement M
 meet-spec =

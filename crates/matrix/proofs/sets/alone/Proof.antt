@@ -1,6 +1,6 @@
 -- `sets::alone` meets its contract: a shifted 1 is the phone alone.
 use borrow.Author.Needs.{needs}
-use Rattle.matrix.specs.laws.Sets.{alone-none, alone-beyond, alone-shifted}
+use Rattle.matrix.specs.laws.Sets.{alone-none, alone-beyond, alone-within}
 use Rattle.matrix.proofs.sets.alone.Statement.{statement}
 use Rattle.matrix.proofs.sets.alone.Tie as tie
 
@@ -20,7 +20,7 @@ shl-result : tie.Need-shl-result
 shl-result c = search needs
 
 returns-3 : tie.Need-returns-3
-returns-3 c = alone-shifted (c .before .before .args .phone) (c .before .if1 .left) (c .if2 .left)
+returns-3 c = alone-within (c .before .before .args .phone) (c .before .if1 .left) (c .if2 .left)
 
 pub alone-spec : {M : Type 1} → statement M
 alone-spec = tie.close (tie.spec returns returns-2 sub-result cast-result shl-result returns-3)

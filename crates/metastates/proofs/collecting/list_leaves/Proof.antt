@@ -5,7 +5,8 @@ use native.Mathlib.Omega.{arith}
 use borrow.Author.Needs.{needs}
 use Rattle.definitions.specs.Lists.{cleared}
 use Rattle.tables.specs.Lending.{lentTables}
-use Rattle.metastates.specs.laws.KnownTables.{Fit, tables-fit}
+use Rattle.tables.specs.laws.KnownTables.{Fit, tables-fit}
+use Rattle.tables.specs.laws.Roots.{TreeRoot, root-fits}
 use Rattle.metastates.specs.laws.TreeLeaves.{Top, top-words, none-listed, leaves-listed}
 use Rattle.metastates.proofs.collecting.list_leaves.Statement.{statement}
 use Rattle.metastates.proofs.collecting.list_leaves.Tie as tie
@@ -30,6 +31,19 @@ top c =
     (c .before .before .all-phones .result) (c .before .alone .result) (c .around .result .columns)
     (c .before .before .all-phones .ensures) (c .before .alone .ensures) (c .around .ensures)
 
+-- the root that it starts at
+root : (c : tie.After-root-of)
+    → TreeRoot (entry (some-state (c .before .before .before .before .before)) .args .header)
+    (entry (some-state (c .before .before .before .before .before)) .args .roots .now)
+    (entry (some-state (c .before .before .before .before .before)) .args .phone)
+    (entry (some-state (c .before .before .before .before .before)) .args .state) (c .root-of .result)
+root c =
+    let asks = some-state (c .before .before .before .before .before) in
+    let start = entry asks in
+    let p = start .pre in
+    root-fits (start .args .header) (start .args .roots .now) (fit start .roots) (p .1) (p .2) (p .3)
+    (asks .if1 .left) (c .root-of .ensures)
+
 returns : tie.Need-returns
 returns c =
     let a = c .before .before .before .before .before .before .before .args in (
@@ -52,11 +66,7 @@ clear-sets-requires : tie.Need-clear-sets-requires
 clear-sets-requires c κs = search needs
 
 root-of-requires : tie.Need-root-of-requires
-root-of-requires c κs =
-    let asks = some-state (c .before .before .before .before) in
-    let start = entry asks in
-    let p = start .pre in
-    (fit start .header-known, fit start .roots, p .1, p .2, p .3, asks .if1 .left)
+root-of-requires c κs = search needs
 
 walk-requires : tie.Need-walk-requires
 walk-requires c κs =
@@ -66,7 +76,7 @@ walk-requires c κs =
       fit start .header-known,
       fit start .nodes,
       fit start .classes,
-      c .before .root-of .ensures .1,
+      root (c .before) .listed,
       top around .words,
       cleared-table .clear-sets .kept .0 ∙ start .pre .4,
     )
@@ -84,8 +94,8 @@ returns-2 : tie.Need-returns-2
 returns-2 c =
     let collect = c .before .before .collect in
     let walked = c .before .before .before .before .before .before .before in
-    let root = walked .before .before in
-    let cleared-table = root .before .before .before in
+    let rooted = walked .before .before in
+    let cleared-table = rooted .before .before .before in
     let around = cleared-table .before .before in
     let asks = some-state around in
     let start = entry asks in
@@ -95,8 +105,7 @@ returns-2 c =
       walked .walk .kept .1 .1 .1 .1 .1 .0 ∙ cleared-table .clear-sets .kept .0,
       collect .ensures .2
           ∙ leaves-listed (a .header) (a .nodes .now) (a .classes .now) (a .roots .now) (fit start) (a .phone)
-          (a .state) (asks .if1 .left) (root .root-of .result) (root .root-of .ensures .0)
-          (root .root-of .ensures .1)
+          (a .state) (asks .if1 .left) (rooted .root-of .result) (root rooted .own) (root rooted .listed)
           (around .around .result .columns) (top around) (cleared-table .clear-sets .last .0)
           (walked .walk .last .1 .1 .1 .1 .1 .0)
           (cleared-table .clear-sets .ensures ∙ ap cleared (start .pre .4)) (walked .walk .ensures),

@@ -10,7 +10,7 @@ use Rattle.definitions.specs.Combinations.{combinationRoom}
 use Rattle.definitions.specs.Tables.{tablesBook}
 use Rattle.definitions.specs.laws.Books.{InRange}
 use Rattle.tables.specs.Lending.{lentTables}
-use Rattle.metastates.specs.laws.Starting.{known-ranges}
+use Rattle.tables.specs.laws.KnownTables.{tables-fit}
 use Rattle.metastates.specs.laws.Phones.{Added, added-start, added-holding, added-over, added-more}
 use Rattle.metastates.specs.laws.Phones.{added-end, noted-length, room-most}
 use Rattle.metastates.proofs.combining.choose_all.Statement.{statement}
@@ -41,7 +41,7 @@ abbrev call : tie.After-room-in Inv-loop μ-loop → tie.After-choose-phone Inv-
 call c = c .before .before .before .before .before .before .before
 
 ranges : (c : tie.Start Inv-loop μ-loop) → InRange (c .args .header)
-ranges c = known-ranges _ _ (c .pre .0)
+ranges c = tables-fit _ _ (c .pre .0) .ranges
 
 -- the records of the nodes fit into the lists
 fits : (c : tie.Then1 Inv-loop μ-loop) → 8 * loop-of c .before .wide .result ≤ 32768

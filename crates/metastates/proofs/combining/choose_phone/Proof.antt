@@ -9,8 +9,10 @@ use Rattle.definitions.specs.Matrices.{matrixWords, rootMatrix}
 use Rattle.definitions.specs.Tables.{Book, tablesBook}
 use Rattle.definitions.specs.laws.Books.{InRange}
 use Rattle.tables.specs.Lending.{lentTables}
-use Rattle.metastates.specs.Leaves.{widthOf}
-use Rattle.metastates.specs.laws.Starting.{known-ranges, root-shaped, list-is, start-chosen, start-grown}
+use Rattle.tables.specs.laws.KnownTables.{tables-fit}
+use Rattle.matrix.specs.Shapes.{widthOf}
+use Rattle.matrix.specs.laws.Shapes.{root-shaped}
+use Rattle.metastates.specs.laws.Starting.{list-is, start-chosen, start-grown}
 use Rattle.metastates.proofs.combining.choose_phone.Statement.{statement}
 use Rattle.metastates.proofs.combining.choose_phone.Tie as tie
 
@@ -36,7 +38,7 @@ book c =
     tablesBook (a .header) (lentTables (a .nodes .now) (a .classes .now) (a .roots .now))
 
 ranges : (c : tie.Start) → InRange (c .args .header)
-ranges c = known-ranges _ _ (c .pre .0)
+ranges c = tables-fit _ _ (c .pre .0) .ranges
 
 half-small : (c : tie.After-wide) → c .wide .result ≤ 3
 half-small c = omega (arith, ranges (start c) .half-range .high, c .wide .ensures)
@@ -52,7 +54,7 @@ unfolding tablesBook
 top-is c =
     let r = ranges (start c) in
     let p = start c .pre in
-    root-shaped _ _ _ (p .1) (p .2) (r .half-range .high) (r .phones-range .high)
+    root-shaped _ _ _ (r .half-range .high) (r .phones-range .high) (p .2)
     (c .before .before .before .all-phones .ensures) (c .before .before .alone .ensures)
     (c .before .around .ensures)
 

@@ -8,7 +8,7 @@ use borrow.Fn.Kinds.{In}
 use borrow.Fn.PlainCycle.{Measures, is, falls, and}
 use Rattle.definitions.specs.declared.Node.{Node}
 use Rattle.definitions.specs.laws.Accepted.{QuestionFits}
-use Rattle.metastates.specs.laws.KnownTables.{question-fits}
+use Rattle.tables.specs.laws.KnownTables.{question-fits}
 use Rattle.metastates.specs.laws.WalkingLeaves.{half-narrow, yes-words, no-words, walk-leaf, walk-sides}
 use Rattle.definitions.proofs.wide.Reads as wide-reads
 use Rattle.matrix.proofs.cutting.no_side.Reads as no-side-reads

@@ -5,7 +5,7 @@ use borrow.Author.Needs.{needs}
 use lib.ListN.{take}
 use Rattle.definitions.specs.Metastates.{Metastate}
 use Rattle.tables.specs.laws.Known.{header-ranges}
-use Rattle.network.specs.Combinations.{widthOf}
+use Rattle.matrix.specs.Shapes.{widthOf}
 use Rattle.network.specs.laws.RecordWords.{record-phone}
 use Rattle.network.specs.laws.OwnArcs.{states-few}
 use Rattle.network.specs.laws.PlainArcs.{plain-other, plain-inside, plain-final, own-count-few}

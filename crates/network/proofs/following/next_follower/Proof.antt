@@ -4,7 +4,8 @@ use mathlib.Core.Path.{sym, _∙_}
 use lib.ListN.{length, take}
 use borrow.Author.Needs.{needs}
 use Rattle.definitions.specs.Combinations.{combinationSize}
-use Rattle.network.specs.Combinations.{widthOf, combinationsIn}
+use Rattle.matrix.specs.Shapes.{widthOf}
+use Rattle.network.specs.Combinations.{combinationsIn}
 use Rattle.network.specs.laws.RecordWords.{number-in, number-out}
 use Rattle.network.specs.laws.Followers.{Passed, passed-none, passed-more, passed-found, passed-all}
 use Rattle.network.proofs.following.next_follower.Statement.{statement}

@@ -2,7 +2,8 @@
 use Prim.Native.Nat.{_<_}
 use native.Mathlib.Omega.{arith}
 use borrow.Author.Needs.{needs}
-use Rattle.network.specs.laws.KnownArcs.{product-fits, state-low, state-high}
+use Rattle.definitions.specs.laws.Products.{product-fits}
+use Rattle.network.specs.laws.KnownArcs.{state-low, state-high}
 use Rattle.network.proofs.known.is_state.Statement.{statement}
 use Rattle.network.proofs.known.is_state.Tie as tie
 

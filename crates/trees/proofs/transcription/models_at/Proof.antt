@@ -12,7 +12,7 @@ use Rattle.definitions.specs.Tables.{tablesBook}
 use Rattle.definitions.specs.laws.Contexts.{contextAt}
 use Rattle.tables.specs.Lending.{lentTables}
 use Rattle.trees.specs.Answers.{stateModels}
-use Rattle.trees.specs.laws.Fitting.{Fit, tables-fit}
+use Rattle.tables.specs.laws.KnownTables.{Fit, tables-fit}
 use Rattle.trees.specs.laws.Models.{context-fits, window-inside, window-taken}
 use Rattle.trees.proofs.transcription.models_at.Statement.{statement}
 use Rattle.trees.proofs.transcription.models_at.Tie as tie

@@ -19,7 +19,7 @@ Inv-loop header nodes classes roots context models₀ state₀ models state =
     Filled (stateModels (tablesBook header (lentTables nodes classes roots)) context) models₀ state models
 
 abbrev μ-loop : tie.MeasureT-loop
-μ-loop header nodes classes roots context models₀ state₀ models state = length models₀ - state
+μ-loop header nodes classes roots context models₀ state₀ models state = header .states - state
 
 -- the entry, and the target: a model for each word of the buffer
 abbrev entry : tie.At-loop Inv-loop μ-loop → tie.Start Inv-loop μ-loop
@@ -35,6 +35,13 @@ as-many : (c : tie.Start Inv-loop μ-loop) → length (target c) ≡ length (c .
 unfolding tablesBook
 as-many c = states-length _ _ ∙ sym (c .pre .2)
 
+-- a word for each state
+inside : (c : tie.Then1 Inv-loop μ-loop)
+    → c .before .before .loop .state < length (c .before .before .loop .models)
+inside c =
+    let head = c .before .before in
+    omega (arith, entry head .pre .2, c .if1 .taken, head .loop .inv .sized)
+
 loop-holds : tie.Need-loop-holds Inv-loop μ-loop
 loop-holds c = filled-start _ _
 
@@ -43,14 +50,17 @@ add-model-of c = search needs
 
 model-of-requires : tie.Need-model-of-requires Inv-loop μ-loop
 model-of-requires c κs =
-    let p = entry (c .before) .pre in
-    (p .0, p .1, omega arith, omega (arith, p .2, c .loop-test .taken, c .before .loop .inv .sized))
+    let p = entry (c .before .before) .pre in
+    (p .0, p .1, omega arith, omega (arith, c .if1 .taken))
+
+wide-requires : tie.Need-wide-requires Inv-loop μ-loop
+wide-requires c κs = search needs
 
 mul-models : tie.Need-mul-models Inv-loop μ-loop
 mul-models c = search needs
 
 slice-write-models : tie.Need-slice-write-models Inv-loop μ-loop
-slice-write-models c = search needs
+slice-write-models c = omega (arith, inside (c .before .before), c .wide .ensures)
 
 add-state : tie.Need-add-state Inv-loop μ-loop
 add-state c = search needs
@@ -61,18 +71,19 @@ loop-less c = search needs
 loop-again : tie.Need-loop-again Inv-loop μ-loop
 unfolding tablesBook
 loop-again c =
-    let head = c .before .before in
-    let start = entry head in
-    let listed : head .loop .state < start .args .header .states =
-    omega (arith, start .pre .2, c .before .loop-test .taken, head .loop .inv .sized) in
-    filled-more (as-many start) (head .loop .inv) (c .before .loop-test .taken)
-    (c .model-of .ensures ∙ state-at _ _ (head .loop .state) listed)
+    let turn = c .before .before in
+    let head = turn .before .before in
+    rw (c .wide .ensures) (filled-more (as-many (entry head)) (head .loop .inv) (inside turn)
+    (c .before .model-of .ensures ∙ state-at _ _ (head .loop .state) (turn .if1 .taken)))
 
 same-length : tie.Need-same-length Inv-loop μ-loop
 same-length c = search needs
 
 returns : tie.Need-returns Inv-loop μ-loop
-returns c = filled-end (as-many (entry (c .before))) (c .before .loop .inv) (c .loop-test .left)
+returns c =
+    let head = c .before .before in
+    filled-end (as-many (entry head)) (head .loop .inv)
+    (omega (arith, entry head .pre .2, c .if1 .left, head .loop .inv .sized))
 
 pub models-of-spec : {M : Type 1} → statement M
 models-of-spec =
@@ -83,6 +94,7 @@ models-of-spec =
     loop-holds
     add-model-of
     model-of-requires
+    wide-requires
     mul-models
     slice-write-models
     add-state

@@ -5,7 +5,7 @@ use native.Mathlib.Omega.{arith}
 use borrow.Author.Needs.{needs}
 use Rattle.definitions.specs.declared.Node.{Node}
 use Rattle.definitions.specs.laws.Accepted.{QuestionFits}
-use Rattle.trees.specs.laws.Nodes.{question-fits}
+use Rattle.tables.specs.laws.KnownTables.{question-fits}
 use Rattle.trees.specs.laws.Walking.{Walking, start-walking, asked-of-child, goes-on, stops}
 use Rattle.trees.proofs.walking.walk.Statement.{statement}
 use Rattle.trees.proofs.walking.walk.Tie as tie
