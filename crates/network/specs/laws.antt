@@ -1,6 +1,7 @@
 -- The laws of this crate: the words of combinations; a network held in words, and more of it; metastates found
 -- by chains; entering, following, expanding, starting and turning; combinations that can be connected; the
 -- build as a whole; lent arcs and the arcs that leave a state.
+pub mod KnownArcs
 pub mod RecordWords
 pub mod HeldBack
 pub mod HeldRows
@@ -27,5 +28,4 @@ pub mod Nodes
 pub mod PhoneEnds
 pub mod UsableCombinations
 pub mod Building
-pub mod KnownArcs
 pub mod Leaving

@@ -5,26 +5,24 @@ use mathlib.Core.List.{List, map}
 use mathlib.Core.Bool.{true}
 use Prim.Native.Nat.{ℕ, suc, _+_, _≤_, _<_}
 use native.Mathlib.Numerals.{add-one}
-use lib.ListN.{length, take, length-map}
+use lib.ListN.{length, take}
 use Rattle.definitions.specs.declared.Fault.{Fault}
 use Rattle.definitions.specs.declared.Header.{Header}
 use Rattle.definitions.specs.Faults.{Outcome, answered, refused, andThen}
-use Rattle.definitions.specs.Lists.{records}
 use Rattle.definitions.specs.Matrices.{Matrix, valid, meet}
 use Rattle.definitions.specs.Combinations.{Combination}
-use Rattle.definitions.specs.Arcs.{arcSize, arcOf, arcsIn}
-use Rattle.definitions.specs.Metastates.{Metastate, metastateSize}
+use Rattle.definitions.specs.Metastates.{Metastate}
 use Rattle.definitions.specs.Connecting.{Network, enter, perform, performAll}
 use Rattle.definitions.specs.laws.Judging.{refused-not-answered}
-use Rattle.definitions.specs.laws.Records.{records-length}
 use Rattle.network.specs.declared.Sizes.{Sizes}
 use Rattle.network.specs.declared.Step.{Step}
 use Rattle.network.specs.declared.Step.the-variants as step
 use Rattle.matrix.specs.Shapes.{widthOf}
 use Rattle.network.specs.Combinations.{combinationsIn, numbered, nodesBook}
-use Rattle.network.specs.Networks.{metastateIn, metastatesIn, networkHeld, sizesOf, roomOf, Holds}
+use Rattle.network.specs.Networks.{networkHeld, roomOf, Holds}
 use Rattle.network.specs.Following.{NextFollower}
 use Rattle.network.specs.Steps.{stepOf, Leaves}
+use Rattle.network.specs.laws.HoldsMore.{held-sizes}
 use Rattle.network.specs.laws.Followers.{followersAt, metAt, followers-skip, followers-found, followers-out}
 use Rattle.network.specs.laws.HeldBack.{held-back}
 use Rattle.network.specs.laws.Steps.{step-next, step-stop}
@@ -83,18 +81,6 @@ followed-start {header} {words} {columns} {metastates} {arcs} {chains} {sizes} n
       (followers-skip (cut header columns) (combinationsIn header words) next);
 }
 
--- a network read back has as many metastates and arcs as it was asked for
-sizes-held : (half : ℕ) (sizes : Sizes) (metastates arcs : List ℕ)
-    → sizesOf (networkHeld half sizes metastates arcs) ≡ sizes
-unfolding metastatesIn arcsIn
-sizes-held half sizes metastates arcs =
-    let rows : List (List ℕ) = records metastateSize (sizes .metastates) metastates in
-    let lines : List (List ℕ) = records arcSize (sizes .arcs) arcs in
-    λ i. record {
-      metastates = (length-map rows (metastateIn (widthOf half)) ∙ records-length metastateSize _ metastates) i;
-      arcs = (length-map lines arcOf ∙ records-length arcSize _ arcs) i;
-    }
-
 module _ {header : Header} {nodes words columns : List ℕ} {from : ℕ} {metastates₀ arcs₀ chains₀ : List ℕ}
     {sizes₀ : Sizes} {metastates arcs chains : List ℕ} {sizes : Sizes} {number : ℕ}
     (t : Followed header nodes words columns from metastates₀ arcs₀ chains₀ sizes₀ metastates arcs chains sizes
@@ -124,7 +110,7 @@ module _ {header : Header} {nodes words columns : List ℕ} {from : ℕ} {metast
         → Leaves (header .half) (length cs) metastates₀ arcs₀ all (step.Next sizes) metastates arcs chains
     unfolding performAll stepOf
     followed-end h = record {
-      answers = sym (ap stepOf done ∙ ap step.Next (sizes-held (header .half) sizes metastates arcs));
+      answers = sym (ap stepOf done ∙ ap step.Next (held-sizes (header .half) sizes metastates arcs));
       holds = λ net e.
           subst (λ (n : Network). Holds (header .half) (length cs) n metastates arcs chains)
           (answers-same (sym done ∙ e)) (t .holds);

@@ -14,7 +14,7 @@ use Rattle.definitions.specs.Connecting.{Network, noMetastate}
 use Rattle.definitions.specs.laws.Lists.{concatMap-append, map-at}
 use Rattle.definitions.specs.laws.Members.{isIn, in-at}
 use Rattle.definitions.specs.laws.SevenWords.{words-take}
-use Rattle.definitions.specs.laws.Records.{record-at, flat-length}
+use Rattle.definitions.specs.laws.Records.{record-at, flat-length, arc-sized}
 use Rattle.network.specs.declared.Arcs.{Arcs}
 use Rattle.matrix.specs.Shapes.{widthOf}
 use Rattle.network.specs.Networks.{Holds}
@@ -111,7 +111,7 @@ module _ {half count : ℕ} {net : Network} {metastates arcs chains : List ℕ} 
 
         words-of : (l : List Arc) → length (concatMap arcWords l) ≡ arcSize * length l
         unfolding arcWords
-        words-of = flat-length arcWords arcSize (λ a. refl)
+        words-of = flat-length arcWords arcSize arc-sized
 
         more-length : length more ≡ arcSize * new .count
         more-length =

@@ -8,19 +8,20 @@ use native.Mathlib.Omega.{arith}
 use lib.ListN.{length, take, drop, length-append, length-replicate, length-map}
 use lib.Seq.{drop-append-add}
 use Rattle.definitions.specs.Lists.{concatMap, records, cleared, padded}
-use Rattle.definitions.specs.Arcs.{Arc, arcSize, arcWords, arcsIn}
+use Rattle.definitions.specs.Arcs.{Arc, arcSize, arcWords}
 use Rattle.definitions.specs.Metastates.{Metastate, metastateSize, metastateWords}
 use Rattle.definitions.specs.Building.{roomIn}
 use Rattle.definitions.specs.Connecting.{Network}
 use Rattle.definitions.specs.laws.Lists.{concatMap-snoc, drop-cleared, padded-take}
 use Rattle.definitions.specs.laws.Members.{isIn, of-append, of-single, distinct-more}
 use Rattle.definitions.specs.laws.Limits.{withArc, withMetastate}
-use Rattle.definitions.specs.laws.Records.{flat-length, records-length}
+use Rattle.definitions.specs.laws.Records.{flat-length, records-length, arc-sized}
 use Rattle.network.specs.declared.Sizes.{Sizes}
 use Rattle.network.specs.Chains.{rowsIn, Linked}
 use Rattle.matrix.specs.Shapes.{widthOf}
 use Rattle.network.specs.Networks.{metastateIn, metastatesIn, networkHeld, sizesOf, Holds}
 use Rattle.network.specs.laws.HeldBack.{row-length, rows-words, rows-read}
+use Rattle.network.specs.laws.KnownArcs.{arcs-length}
 use Rattle.network.specs.laws.Linking.{linkedTo, linked-more}
 
 -- ---- words after the used ones
@@ -68,20 +69,12 @@ metastates-count width count words =
     length-map (records metastateSize count words) (metastateIn width)
     ∙ records-length metastateSize count words
 
-arcs-count : (count : ℕ) (words : List ℕ) → length (arcsIn count words) ≡ count
-unfolding arcsIn
-arcs-count count words = length-map (records arcSize count words) _ ∙ records-length arcSize count words
-
 pub held-sizes : (half : ℕ) (sizes : Sizes) (metastates arcs : List ℕ)
     → sizesOf (networkHeld half sizes metastates arcs) ≡ sizes
 held-sizes half sizes metastates arcs = λ i. record {
   metastates = metastates-count (widthOf half) (sizes .metastates) metastates i;
-  arcs = arcs-count (sizes .arcs) arcs i;
+  arcs = arcs-length (sizes .arcs) arcs i;
 }
-
-arcs-words : (arcs : List Arc) → length (concatMap arcWords arcs) ≡ arcSize * length arcs
-unfolding arcWords
-arcs-words arcs = flat-length arcWords arcSize (λ a. refl) arcs
 
 -- ---- one more
 
@@ -98,7 +91,7 @@ module _ {half count : ℕ} {net : Network} {metastates arcs chains : List ℕ}
   unfolding roomIn arcWords
   holds-arc a {n} {arcs′} e h f =
       let used : List ℕ = concatMap arcWords (net .arcs) in
-      let place : arcSize * n ≡ length used = omega (arith, e, arcs-words (net .arcs)) in
+      let place : arcSize * n ≡ length used = omega (arith, e, flat-length arcWords arcSize arc-sized (net .arcs)) in
       let room : length used + length (arcWords a) ≤ length arcs = omega (arith, h, place) in
       let there : arcs′
       ≡ take (length used) arcs ++ arcWords a ++ drop (length used + length (arcWords a)) arcs =
