@@ -3,7 +3,6 @@
 use book::Reading;
 use book::reader::read;
 use definitions::Header;
-use definitions::Refusal;
 use lines::clearing::clear_sets;
 use lines::clearing::clear_words;
 use network::Build;
@@ -87,20 +86,26 @@ pub fn build_book(
     arcs: &mut [u32],
     limit: u32,
 ) -> Build
-    ensures answer { λ r. ⌜ r ≡ bookAnswer (buildBook (lengthsOf (now (nodes .entry)) (now (classes .entry)) (now (roots .entry)))
-        (lentSpace (now (combinations .entry)) (now (metastates .entry)) (now (arcs .entry))) limit (now (text .entry))) ⌝ }
+    ensures answer { λ r. ⌜
+        r ≡ bookAnswer (buildBook
+        (lengthsOf (now (nodes .entry)) (now (classes .entry)) (now (roots .entry)))
+        (lentSpace (now (combinations .entry)) (now (metastates .entry)) (now (arcs .entry))) limit
+        (now (text .entry)))
+        ⌝ }
     ensures tables { λ r. ⌜
         lentTables (now (nodes .exit)) (now (classes .exit)) (now (roots .exit))
         ≡ tablesAfter (lengthsOf (now (nodes .entry)) (now (classes .entry)) (now (roots .entry)))
         (buildBook (lengthsOf (now (nodes .entry)) (now (classes .entry)) (now (roots .entry)))
-        (lentSpace (now (combinations .entry)) (now (metastates .entry)) (now (arcs .entry))) limit (now (text .entry)))
+        (lentSpace (now (combinations .entry)) (now (metastates .entry)) (now (arcs .entry))) limit
+        (now (text .entry)))
         ⌝ }
     ensures leaves { λ r. ⌜
         lentBuffers (now (combinations .exit)) (now (metastates .exit)) (now (arcs .exit))
         ≡ buffersAfter (lengthsOf (now (nodes .entry)) (now (classes .entry)) (now (roots .entry)))
         (lentSpace (now (combinations .entry)) (now (metastates .entry)) (now (arcs .entry)))
         (buildBook (lengthsOf (now (nodes .entry)) (now (classes .entry)) (now (roots .entry)))
-        (lentSpace (now (combinations .entry)) (now (metastates .entry)) (now (arcs .entry))) limit (now (text .entry)))
+        (lentSpace (now (combinations .entry)) (now (metastates .entry)) (now (arcs .entry))) limit
+        (now (text .entry)))
         ⌝ }
     ensures demand { λ r. ⌜
         MeetsDemand3 (lengthsOf (now (nodes .entry)) (now (classes .entry)) (now (roots .entry)))

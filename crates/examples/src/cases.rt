@@ -1,4 +1,4 @@
-// One book: what reading answers and leaves, and then its trees.
+// One book: what reading answers and leaves, and then its trees and its network.
 use crate::answers::print_refusal;
 use crate::networks::show_whole;
 use crate::printing::print;

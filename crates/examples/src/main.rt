@@ -1,4 +1,5 @@
-// Reads each tree book of standard input, prints what reading answered and left, and puts the trees of accepted books to work.
+// Reads each tree book of standard input, prints what reading answered and left, puts the trees of accepted books to work and builds
+// their networks.
 // A book stands below its title, a line that begins with '='; it ends where the next title begins.
 ghost use Prim.Native.Nat.{_≤_};
 ghost use lib.ListN.{length};

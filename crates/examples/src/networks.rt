@@ -1,4 +1,4 @@
-// A book read and its network built into space of several sizes; what is left in it, and the arcs that leave each state.
+// A book read and its network built into space of several sizes; what is left in it, and the arcs that leave the first states.
 use crate::answers::print_refusal;
 use crate::printing::print;
 use crate::printing::print_number;

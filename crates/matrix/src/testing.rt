@@ -6,7 +6,7 @@ ghost use Prim.Native.Nat.{_+_, _*_};
 ghost use lib.ListN.{take};
 ghost use Rattle.definitions.specs.Matrices.{valid, endsHere};
 
-// Whether none of the first columns is empty.
+// Whether none of the first `width` columns is empty.
 pub fn valid(m: Matrix, width: usize) -> bool
     ensures { λ r. ⌜ r ≡ valid (take width (m .columns)) ⌝ }
 {

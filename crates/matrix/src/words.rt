@@ -49,7 +49,7 @@ pub fn put_numbered(words: &mut [u64], number: u64, m: Matrix)
     }
 }
 
-// Whether eight words are a number and a matrix.
+// Whether eight words are this number and this matrix.
 pub fn is_numbered(words: &[u64], number: u64, m: Matrix) -> bool
     ensures { λ r. ⌜ r ≡ same (now (words .entry)) (number ∷ m .columns) ⌝ }
 {

@@ -125,9 +125,9 @@ fn with_leaf(width: usize, choice: Choice, leaves: &[u64], place: usize) -> Choi
     }
 }
 
-// Adds the combinations that begin with a choice and take one leaf of each further tree; `trees` of them are left, first the
-// first. Answers how many combinations there are then, or one more than have room. A leaf whose matrix does not meet the choice's
-// validly is passed over before any further tree is tried.
+// Adds the combinations that begin with a choice and take one leaf of each further tree: `trees` trees are left, whose leaves are
+// `first`, then `second`, then `third`. Answers how many combinations there are then, or one more than have room. A leaf whose matrix
+// does not meet the choice's validly is passed over before any further tree is tried.
 pub fn choose(
     first: &[u64],
     second: &[u64],

@@ -36,7 +36,7 @@ fn copy_leaf(table: &[u64], node: usize, list: &mut [u64], place: usize)
     put_numbered(&mut list[at..at + 8], node as u64, m);
 }
 
-// Lists the nodes whose records are marked, ascending, each with its matrix; answers how many.
+// Lists the nodes whose records are used, ascending, each with its matrix; answers how many.
 fn collect(table: &[u64], list: &mut [u64]) -> usize
     requires { ⌜ length (now table) ≤ length (now list) ⌝ }
     ensures { λ r. ⌜

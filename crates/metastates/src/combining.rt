@@ -100,12 +100,14 @@ fn choose_all(
         ⌝ }
     ensures space { λ r. ⌜
         Grown (now (space .entry)) 0
-        (combinations (tablesBook header (lentTables (now (nodes .entry)) (now (classes .entry)) (now (roots .entry)))))
+        (combinations
+        (tablesBook header (lentTables (now (nodes .entry)) (now (classes .entry)) (now (roots .entry)))))
         (now (space .exit)) r
         ⌝ }
     ensures ends { λ r. ⌜
         (r ≤ combinationRoom (length (now (space .entry)))
-        → now (ends .exit) ≡ padded 65 (endsOf (tablesBook header (lentTables (now (nodes .entry)) (now (classes .entry)) (now (roots .entry))))))
+        → now (ends .exit) ≡ padded 65 (endsOf
+        (tablesBook header (lentTables (now (nodes .entry)) (now (classes .entry)) (now (roots .entry))))))
         ⌝ }
 {
     let mut table = [0u64; 32768];

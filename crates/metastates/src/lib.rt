@@ -13,7 +13,7 @@ pub enum Combined {
     Refused(Refusal),
 }
 
-// The answer, and how many combinations belong to phones up to each phone; all 0 after a refusal.
+// The answer, and how many combinations belong to phones up to each phone; these are 0 after a refusal.
 pub struct ByPhone {
     pub answer: Combined,
     pub ends: [u32; 65],

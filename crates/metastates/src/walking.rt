@@ -19,7 +19,7 @@ ghost use Rattle.tables.specs.Lending.{lentTables};
 ghost use Rattle.matrix.specs.Shapes.{widthOf};
 ghost use Rattle.metastates.specs.Leaves.{leafSize, putLeaves};
 
-// Writes 1 and a matrix into the record of a node.
+// Writes 1, which marks the record as used, and a matrix into the record of a node.
 fn put_leaf(table: &mut [u64], node: u32, m: Matrix)
     requires { ⌜ leafSize * node + leafSize ≤ length (now table) ⌝ }
     ensures { λ r. ⌜

@@ -23,7 +23,8 @@ rowsIn words = records metastateSize (length words / metastateSize) words
 abbrev pub links : ℕ
 links = 65536
 
--- the latest place below `end` that has a key, counted from 1: it has it, and none from there on
+-- the latest place below `end` that has a key, counted from 1: its record has the key, and none after it
+-- below `end` has
 pub record Latest (rows : List (List ℕ)) (key end place : ℕ) : Type 0 where
   pub within : place ≤ end
   pub own : (i : ℕ) → place ≡ suc i → keyOf (getD rows i []) ≡ key

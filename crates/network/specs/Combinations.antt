@@ -39,7 +39,7 @@ nodesBook header nodes = tablesBook header (lentTables nodes [] [])
 
 -- a combination of the book: its phone, a leaf for each state, columns that hold the book's phones, the centre
 -- none but its own
-pub record IsChoice (header : Header) (c : Combination) : Type 0 where
+pub record IsCombination (header : Header) (c : Combination) : Type 0 where
   pub phone : 1 ≤ c .phone
   pub phones : c .phone ≤ header .phones
   pub states : length (c .leaves) ≡ header .states
@@ -53,7 +53,7 @@ pub record Usable (header : Header) (words : List ℕ) : Type 0 where
   pub few : length (combinationsIn header words) ≤ 65535
   pub flat : words ≡ concatMap combinationWords (combinationsIn header words)
   pub each : (number : ℕ) → number < length (combinationsIn header words)
-      → IsChoice header (numbered (combinationsIn header words) number)
+      → IsCombination header (numbered (combinationsIn header words) number)
 
 -- their leaves are leaves of the book
 abbrev pub Modelled : Header → (nodes words : List ℕ) → Type 0

@@ -22,7 +22,7 @@ stepOf (answered net) = step.Next (sizesOf net)
 stepOf (refused r) = step.Stop (r .fault)
 
 -- the words before, the outcome, the answer, and the words after
-pub record Leaves (half count : ℕ) (metastates arcs : List ℕ) (outcome : Outcome Network) (answer : Step)
+pub record AfterStep (half count : ℕ) (metastates arcs : List ℕ) (outcome : Outcome Network) (answer : Step)
     (metastates′ arcs′ chains′ : List ℕ) : Type 0 where
   pub answers : answer ≡ stepOf outcome
   pub holds : (net : Network) → outcome ≡ answered net → Holds half count net metastates′ arcs′ chains′

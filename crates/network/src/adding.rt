@@ -1,11 +1,11 @@
-// Adding arcs and metastates to a network within its room: 31 before the arc to that metastate, then 32.
+// Adding arcs and metastates to a network within its room: 31 for a new metastate is judged before 32 for the arc into it.
 use crate::Arcs;
 use crate::Sizes;
 use crate::Step;
 use crate::chains::find;
 use crate::chains::link;
-use crate::reading::model_of;
-use crate::reading::phone_of;
+use crate::records::model_of;
+use crate::records::phone_of;
 use definitions::Fault;
 use definitions::Header;
 use definitions::wide;
@@ -25,7 +25,7 @@ ghost use Rattle.network.specs.Chains.{keyOf, links};
 ghost use Rattle.matrix.specs.Shapes.{widthOf};
 ghost use Rattle.network.specs.Combinations.{combinationsIn, nodesBook, Usable, Modelled};
 ghost use Rattle.network.specs.Networks.{networkHeld, roomOf, Holds};
-ghost use Rattle.network.specs.Steps.{Leaves, AreArcs};
+ghost use Rattle.network.specs.Steps.{AfterStep, AreArcs};
 
 // How many arcs the lent words have room for.
 fn arc_room(words: usize) -> usize
@@ -61,7 +61,7 @@ fn copy_arcs(words: &mut [u32], new: Arcs)
     }
 }
 
-// Appends new arcs to so many, where all have room.
+// Appends new arcs after the first `count`, if all have room; answers whether.
 pub fn add_arcs(arcs: &mut [u32], count: usize, new: Arcs) -> bool
     requires { ⌜ (count ≤ min (length (now arcs) / arcSize) 999999) × (new .count ≤ 3) ⌝ }
     ensures room { λ r. ⌜ r ≡ leb (count + new .count) (min (length (now (arcs .entry)) / arcSize) 999999) ⌝ }
@@ -193,7 +193,7 @@ pub fn enter(
         (now metastates) (now arcs) (now chains)
         ⌝ }
     ensures { λ r. ⌜
-        Leaves (header .half) (length (combinationsIn header (now (combinations .entry))))
+        AfterStep (header .half) (length (combinationsIn header (now (combinations .entry))))
         (now (metastates .entry)) (now (arcs .entry))
         (perform (nodesBook header (now (nodes .entry))) (combinationsIn header (now (combinations .entry)))
         (roomOf (now (metastates .entry)) (now (arcs .entry)))

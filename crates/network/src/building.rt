@@ -2,7 +2,6 @@
 use crate::Build;
 use crate::connecting::connect;
 use definitions::Header;
-use definitions::Refusal;
 use lines::clearing::clear_sets;
 use lines::clearing::clear_words;
 use metastates::Combined;
@@ -22,7 +21,7 @@ ghost use Rattle.network.specs.Combinations.{Usable, Modelled, Ending};
 ghost use Rattle.network.specs.Networks.{roomOf};
 ghost use Rattle.network.specs.Steps.{BuiltIn};
 
-// Connects the combinations in the space, which is cleared where there is no room.
+// Connects the combinations in the space; all three buffers are cleared where there is no room.
 fn connect_in(
     header: Header,
     nodes: &[u32],

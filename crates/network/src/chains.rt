@@ -1,5 +1,6 @@
-// Metastates are found through chains: `chains` has for each key, below 65536, the latest metastate of that key, and from 65536
-// on for each metastate the one before it of the same key. Places in it count from 1; 0 ends a chain.
+// Metastates are found through chains: `chains` has for each key the latest metastate of that key, and from 65536 on for each
+// metastate the one before it of the same key. Places in it count from 1; 0 ends a chain. A key is a remainder by 65521, the
+// largest prime below 65536, so that keys spread.
 use definitions::wide;
 use matrix::Matrix;
 use matrix::words::is_numbered;

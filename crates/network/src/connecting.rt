@@ -6,8 +6,8 @@ use crate::Step;
 use crate::Totals;
 use crate::adding::add_arcs;
 use crate::following::follow;
-use crate::reading::model_of;
-use crate::reading::phone_of;
+use crate::records::model_of;
+use crate::records::phone_of;
 use definitions::Counts;
 use definitions::Fault;
 use definitions::Header;
@@ -33,7 +33,7 @@ ghost use Rattle.matrix.specs.Shapes.{widthOf};
 ghost use Rattle.network.specs.Combinations.{combinationsIn, nodesBook};
 ghost use Rattle.network.specs.Combinations.{Usable, Modelled, Ending};
 ghost use Rattle.network.specs.Networks.{networkHeld, roomOf, Holds};
-ghost use Rattle.network.specs.Steps.{Leaves, AreArcs, Connected};
+ghost use Rattle.network.specs.Steps.{AfterStep, AreArcs, Connected};
 
 // The new arcs and one more.
 fn with_arc(new: Arcs, from: usize, to: usize, model: u32) -> Arcs
@@ -139,7 +139,7 @@ fn expand(
         (now metastates) (now arcs) (now chains)
         ⌝ }
     ensures { λ r. ⌜
-        Leaves (header .half) (length (combinationsIn header (now (combinations .entry))))
+        AfterStep (header .half) (length (combinationsIn header (now (combinations .entry))))
         (now (metastates .entry)) (now (arcs .entry))
         (expand (nodesBook header (now (nodes .entry))) (combinationsIn header (now (combinations .entry)))
         (roomOf (now (metastates .entry)) (now (arcs .entry))) place
@@ -174,7 +174,7 @@ fn expand(
     )
 }
 
-// The start metastates and their arcs: those that follow silence, with silence to the left.
+// The start metastates and their arcs: the followers of a matrix with silence in its centre and left of it.
 fn start(
     header: Header,
     nodes: &[u32],
@@ -191,7 +191,7 @@ fn start(
         (now metastates) (now arcs) (now chains)
         ⌝ }
     ensures { λ r. ⌜
-        Leaves (header .half) (length (combinationsIn header (now (combinations .entry))))
+        AfterStep (header .half) (length (combinationsIn header (now (combinations .entry))))
         (now (metastates .entry)) (now (arcs .entry))
         (performAll (nodesBook header (now (nodes .entry))) (combinationsIn header (now (combinations .entry)))
         (roomOf (now (metastates .entry)) (now (arcs .entry))) noNetwork
@@ -218,6 +218,7 @@ fn start(
     )
 }
 
+// What the answer says of a network: the turns done, and the counts.
 fn totals(header: Header, turns: u32, sizes: Sizes) -> Totals
     requires { ⌜ (sizes .metastates < 4294967296) × (sizes .arcs < 4294967296) ⌝ }
     ensures { λ r. ⌜

@@ -1,9 +1,9 @@
-// The combinations whose matrices meet a shifted matrix validly, and the arcs to those metastates.
+// The combinations whose matrices meet a shifted matrix validly, and the arcs to the metastates that they give.
 use crate::Sizes;
 use crate::Step;
 use crate::adding::enter;
-use crate::reading::matrix_of;
-use crate::reading::phone_of;
+use crate::records::matrix_of;
+use crate::records::phone_of;
 use definitions::Header;
 use definitions::wide;
 use matrix::Matrix;
@@ -22,7 +22,7 @@ ghost use Rattle.matrix.specs.Shapes.{widthOf};
 ghost use Rattle.network.specs.Combinations.{combinationsIn, numbered, nodesBook};
 ghost use Rattle.network.specs.Combinations.{Usable, Modelled, Ending};
 ghost use Rattle.network.specs.Networks.{networkHeld, roomOf, Holds};
-ghost use Rattle.network.specs.Steps.{Leaves};
+ghost use Rattle.network.specs.Steps.{AfterStep};
 ghost use Rattle.network.specs.Following.{NextFollower};
 
 // Whether a combination's matrix meets a matrix validly; not tried where the centre lacks its phone.
@@ -46,7 +46,7 @@ fn follows(header: Header, combinations: &[u64], number: usize, shifted: Matrix)
     )
 }
 
-// Where to look after a combination: at the next, or after all of its phone where the centre lacks that.
+// Where to look after a combination: at the next, or after all of its phone where the centre lacks that phone.
 fn after(
     header: Header,
     combinations: &[u64],
@@ -126,7 +126,7 @@ pub fn follow(
         (now metastates) (now arcs) (now chains)
         ⌝ }
     ensures { λ r. ⌜
-        Leaves (header .half) (length (combinationsIn header (now (combinations .entry))))
+        AfterStep (header .half) (length (combinationsIn header (now (combinations .entry))))
         (now (metastates .entry)) (now (arcs .entry))
         (performAll (nodesBook header (now (nodes .entry))) (combinationsIn header (now (combinations .entry)))
         (roomOf (now (metastates .entry)) (now (arcs .entry)))

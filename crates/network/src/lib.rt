@@ -6,7 +6,7 @@ mod connecting;
 mod following;
 pub mod known;
 pub mod leaving;
-mod reading;
+mod records;
 
 use definitions::Counts;
 use definitions::Fault;

@@ -16,7 +16,7 @@ fn from_zero(number: u32) -> usize
     wide(number) - 1
 }
 
-// The root of a phone's tree for a state, 0 beyond the table.
+// The root of a phone's tree for a state, 0 beyond the table; a phone or state 0 counts as 1.
 pub fn root_of(header: Header, roots: &[u32], phone: u32, state: u32) -> u32
     ensures { λ r. ⌜ r ≡ now (roots .entry) ! ((phone - 1) * header .states + (state - 1)) ⌝ }
 {

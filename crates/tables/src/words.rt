@@ -19,6 +19,7 @@ pub fn holds_only(words: &[u32], count: usize) -> bool
     true
 }
 
+// The same of 64-bit words.
 pub fn holds_only_sets(sets: &[u64], count: usize) -> bool
     ensures { λ r. ⌜ r ≡ holdsOnly count (now (sets .entry)) ⌝ }
 {

@@ -24,7 +24,7 @@ use Rattle.network.specs.declared.Step.{Step}
 use Rattle.matrix.specs.Shapes.{widthOf}
 use Rattle.network.specs.Combinations.{combinationsIn, nodesBook, Usable}
 use Rattle.network.specs.Networks.{metastatesIn, networkHeld, roomOf, Holds}
-use Rattle.network.specs.Steps.{Leaves}
+use Rattle.network.specs.Steps.{AfterStep}
 use Rattle.network.specs.laws.Starting.{beforeStart, starts-follow}
 
 -- no records hold no network
@@ -66,12 +66,12 @@ module _ {header : Header} {combinations : List ℕ} (usable : Usable header com
     cs = combinationsIn header combinations
 
     pub started : (nodes : List ℕ) {metastates arcs metastates′ arcs′ chains′ : List ℕ} {answer : Step}
-        → Leaves (header .half) (length cs) metastates arcs
+        → AfterStep (header .half) (length cs) metastates arcs
         (performAll (nodesBook header nodes) cs (roomOf metastates arcs)
         (networkHeld (header .half) none metastates arcs)
         (map (enter 0) (followersFrom (take (widthOf (header .half)) columns) 0 cs)))
         answer metastates′ arcs′ chains′
-        → Leaves (header .half) (length cs) metastates arcs
+        → AfterStep (header .half) (length cs) metastates arcs
         (performAll (nodesBook header nodes) cs (roomOf metastates arcs) noNetwork
         (startEvents (nodesBook header nodes) cs))
         answer metastates′ arcs′ chains′
@@ -80,6 +80,6 @@ module _ {header : Header} {combinations : List ℕ} (usable : Usable header com
         let entering : (List Metastate → Outcome Network) =
         λ l. performAll (nodesBook header nodes) cs (roomOf metastates arcs) noNetwork (map (enter 0) l) in
         subst (λ (l : List Metastate).
-        Leaves (header .half) (length cs) metastates arcs (entering l) answer metastates′ arcs′ chains′)
+        AfterStep (header .half) (length cs) metastates arcs (entering l) answer metastates′ arcs′ chains′)
         (ap (λ (m : Matrix). followersFrom m 0 cs) columns-is
         ∙ sym (starts-follow header cs (usable .each))) left

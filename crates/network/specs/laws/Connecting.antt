@@ -22,7 +22,7 @@ use Rattle.network.specs.declared.Build.the-variants as build
 use Rattle.network.specs.Answers.{buildOf}
 use Rattle.network.specs.Combinations.{combinationsIn, nodesBook}
 use Rattle.network.specs.Networks.{networkHeld, roomOf, Holds}
-use Rattle.network.specs.Steps.{Leaves, Connected}
+use Rattle.network.specs.Steps.{AfterStep, Connected}
 use Rattle.network.specs.laws.Steps.{step-stop}
 use Rattle.network.specs.laws.HeldBack.{held-empty}
 use Rattle.network.specs.laws.PerformedArcs.{performs-line}
@@ -37,7 +37,7 @@ cleared-hold {half} {count} {metastates} {arcs} e f =
 
 module _ (header : Header) (nodes combinations : List ℕ) (few : header .half ≤ 3)
     {metastates arcs metastates′ arcs′ chains′ : List ℕ} {answer : Step}
-    (left : Leaves (header .half) (length (combinationsIn header combinations)) metastates arcs
+    (left : AfterStep (header .half) (length (combinationsIn header combinations)) metastates arcs
     (performAll (nodesBook header nodes) (combinationsIn header combinations) (roomOf metastates arcs)
     noNetwork (startEvents (nodesBook header nodes) (combinationsIn header combinations)))
     answer metastates′ arcs′ chains′)

@@ -40,7 +40,7 @@ use Rattle.network.specs.Chains.{rowsIn, Linked, Found}
 use Rattle.matrix.specs.Shapes.{widthOf}
 use Rattle.network.specs.Combinations.{combinationsIn, nodesBook, Usable, Modelled}
 use Rattle.network.specs.Networks.{networkHeld, sizesOf, roomOf, Holds}
-use Rattle.network.specs.Steps.{stepOf, Leaves}
+use Rattle.network.specs.Steps.{stepOf, AfterStep}
 use Rattle.network.specs.laws.Linking.{linkedTo}
 use Rattle.network.specs.laws.HoldsMore.{held-sizes, arc-within, holds-arc, used-within, used-rows}
 use Rattle.network.specs.laws.HoldsMore.{holds-metastate}
@@ -129,7 +129,7 @@ module _ {half count : ℕ} {metastates arcs : List ℕ} {outcome : Outcome Netw
     (a : length arcs′ ≡ length arcs) where
   leaves-answered : (net : Network) → outcome ≡ answered net → answer ≡ step.Next (sizesOf net)
       → Holds half count net metastates′ arcs′ chains′
-      → Leaves half count metastates arcs outcome answer metastates′ arcs′ chains′
+      → AfterStep half count metastates arcs outcome answer metastates′ arcs′ chains′
   unfolding stepOf
   leaves-answered net e f held = record {
     answers = rw e f;
@@ -140,7 +140,7 @@ module _ {half count : ℕ} {metastates arcs : List ℕ} {outcome : Outcome Netw
   }
 
   leaves-refused : (fault : Fault) → outcome ≡ refuse fault 0 → answer ≡ step.Stop fault
-      → Leaves half count metastates arcs outcome answer metastates′ arcs′ chains′
+      → AfterStep half count metastates arcs outcome answer metastates′ arcs′ chains′
   unfolding stepOf
   leaves-refused fault e f = record {
     answers = rw e f;
@@ -182,7 +182,7 @@ module _ (metastates₀ : List ℕ) {half count : ℕ} {net : Network} {metastat
   arc-entered : {outcome : Outcome Network} {answer : Step} {arcs′ : List ℕ}
       → outcome ≡ addArc (roomOf metastates₀ arcs) a net
       → Answered sizes arcs answer → Appended sizes a arcs arcs′
-      → Leaves half count metastates₀ arcs outcome answer metastates arcs′ chains
+      → AfterStep half count metastates₀ arcs outcome answer metastates arcs′ chains
   unfolding roomIn addArc
   arc-entered {outcome} {answer} {arcs′} o f g = by-test (ltb (sizes .arcs) room)
       (λ t.
@@ -304,7 +304,7 @@ module _ {header : Header} {words : List ℕ} {sizes : Sizes} {number : ℕ}
       pub enter-known : (found ≡ 0 → ⊥) → {answer : Step} {arcs′ : List ℕ}
           → Answered sizes arcs answer
           → Appended sizes (intoArc header nodes words from number (found - 1)) arcs arcs′
-          → Leaves (header .half) (length (combinationsIn header words)) metastates arcs
+          → AfterStep (header .half) (length (combinationsIn header words)) metastates arcs
           (entered header nodes words metastates arcs sizes from number columns)
           answer metastates arcs′ chains
       unfolding arcInto modelsOf phoneOf combinationOf
@@ -316,7 +316,7 @@ module _ {header : Header} {words : List ℕ} {sizes : Sizes} {number : ℕ}
 
       -- there is no room for it
       pub enter-crowded : found ≡ 0 → min (length metastates / metastateSize) 65535 ≤ sizes .metastates
-          → Leaves (header .half) (length (combinationsIn header words)) metastates arcs
+          → AfterStep (header .half) (length (combinationsIn header words)) metastates arcs
           (entered header nodes words metastates arcs sizes from number columns)
           (step.Stop Crowd) metastates arcs chains
       unfolding roomIn
@@ -336,7 +336,7 @@ module _ {header : Header} {words : List ℕ} {sizes : Sizes} {number : ℕ}
           → chains′ ≡ linkedTo chains (sizes .metastates) (number ∷ columns)
           → Answered (withOne sizes) arcs answer
           → Appended (withOne sizes) (intoArc header nodes words from number (sizes .metastates)) arcs arcs′
-          → Leaves (header .half) (length (combinationsIn header words)) metastates arcs
+          → AfterStep (header .half) (length (combinationsIn header words)) metastates arcs
           (entered header nodes words metastates arcs sizes from number columns)
           answer metastates′ arcs′ chains′
       unfolding roomIn arcInto modelsOf phoneOf combinationOf

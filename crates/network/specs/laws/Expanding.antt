@@ -38,7 +38,7 @@ use Rattle.network.specs.declared.Step.the-variants as step
 use Rattle.matrix.specs.Shapes.{widthOf}
 use Rattle.network.specs.Combinations.{combinationsIn, nodesBook, Usable, Modelled}
 use Rattle.network.specs.Networks.{networkHeld, roomOf, sizesOf, Holds}
-use Rattle.network.specs.Steps.{AreArcs, Leaves, stepOf}
+use Rattle.network.specs.Steps.{AreArcs, AfterStep, stepOf}
 use Rattle.network.specs.laws.HeldBack.{held-back}
 use Rattle.network.specs.laws.HoldsMore.{held-sizes}
 use Rattle.network.specs.laws.OwnArcs.{last-state}
@@ -202,7 +202,7 @@ module _ {header : Header} {nodes combinations metastates arcs chains : List ℕ
                 -- ---- no room for all of them
 
                 pub turn-stops : not roomy ≡ true
-                    → Leaves (header .half) (length cs) metastates arcs (expand book cs room place net)
+                    → AfterStep (header .half) (length cs) metastates arcs (expand book cs room place net)
                     (step.Stop Tangle) metastates arcs′ chains
                 unfolding roomIn andThen stepOf
                 turn-stops t =
@@ -291,13 +291,13 @@ module _ {header : Header} {nodes combinations metastates arcs chains : List ℕ
                       {metastates″ arcs″ chains″ : List ℕ} → states ≡ header .states
                       → half ≡ header .half → all ≡ allPhones (min (header .phones) 64)
                       → shifted ≡ shiftedWords (2 * half) all columns
-                      → Leaves (header .half) (length cs) metastates arcs′
+                      → AfterStep (header .half) (length cs) metastates arcs′
                       (performAll book cs (roomOf metastates arcs′)
                       (networkHeld (header .half) next metastates arcs′)
                       (map (enter (1 + (place + 1) * states))
                       (followersFrom (take (widthOf (header .half)) shifted) 0 cs)))
                       answer metastates″ arcs″ chains″
-                      → Leaves (header .half) (length cs) metastates arcs (expand book cs room place net)
+                      → AfterStep (header .half) (length cs) metastates arcs (expand book cs room place net)
                       answer metastates″ arcs″ chains″
                   turn-goes {shifted = shifted} e l a f left =
                       let same = followed shifted e (shifted-is l a f) in

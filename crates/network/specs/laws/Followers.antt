@@ -21,7 +21,7 @@ use Rattle.definitions.specs.laws.Matrices.{meet-has, meet-length, valid-column
 use Rattle.definitions.specs.laws.SevenWords.{words-length, words-meet, words-take}
 use Rattle.tables.specs.laws.Known.{header-ranges}
 use Rattle.matrix.specs.Shapes.{widthOf}
-use Rattle.network.specs.Combinations.{combinationsIn, numbered, IsChoice, Usable, EndsAt}
+use Rattle.network.specs.Combinations.{combinationsIn, numbered, IsCombination, Usable, EndsAt}
 use Rattle.network.specs.Combinations.{Ending}
 use Rattle.network.specs.Following.{NextFollower}
 use Rattle.network.specs.laws.RecordWords.{phone-word, matrix-word}
@@ -109,7 +109,7 @@ module _ {shifted : Matrix} {cs : List Combination} {from number : ℕ} where
 -- ---- one step of the search
 
 -- a combination whose phone the centre lacks
-lacks : (header : Header) (c : Combination) (m : Matrix) → IsChoice header c → length m ≡ widthOf (header .half)
+lacks : (header : Header) (c : Combination) (m : Matrix) → IsCombination header c → length m ≡ widthOf (header .half)
     → has (c .phone) (m ! header .half) ≡ false → valid (meet m (c .matrix)) ≡ false
 lacks header c m choice e missing = by-test (valid (meet m (c .matrix))) (λ t. absurd (never (rw t tt))) (λ t. t)
   where

@@ -21,7 +21,7 @@ use Rattle.matrix.specs.Shapes.{widthOf}
 use Rattle.network.specs.Combinations.{combinationsIn, numbered, nodesBook}
 use Rattle.network.specs.Networks.{networkHeld, roomOf, Holds}
 use Rattle.network.specs.Following.{NextFollower}
-use Rattle.network.specs.Steps.{stepOf, Leaves}
+use Rattle.network.specs.Steps.{stepOf, AfterStep}
 use Rattle.network.specs.laws.HoldsMore.{held-sizes}
 use Rattle.network.specs.laws.Followers.{followersAt, metAt, followers-skip, followers-found, followers-out}
 use Rattle.network.specs.laws.HeldBack.{held-back}
@@ -107,7 +107,7 @@ module _ {header : Header} {nodes words columns : List ℕ} {from : ℕ} {metast
     answers-same e = cc
 
     pub followed-end : length cs ≤ number
-        → Leaves (header .half) (length cs) metastates₀ arcs₀ all (step.Next sizes) metastates arcs chains
+        → AfterStep (header .half) (length cs) metastates₀ arcs₀ all (step.Next sizes) metastates arcs chains
     unfolding performAll stepOf
     followed-end h = record {
       answers = sym (ap stepOf done ∙ ap step.Next (held-sizes (header .half) sizes metastates arcs));
@@ -150,11 +150,11 @@ module _ {header : Header} {nodes words columns : List ℕ} {from : ℕ} {metast
           same = rw (same-room, ← m)
 
       module _ {answer : Step} {metastates′ arcs′ chains′ : List ℕ}
-          (leaves : Leaves (header .half) (length cs) metastates arcs entered answer metastates′ arcs′ chains′)
+          (leaves : AfterStep (header .half) (length cs) metastates arcs entered answer metastates′ arcs′ chains′)
         where
           -- it is refused
           pub followed-stop : {fault : Fault} → answer ≡ step.Stop fault
-              → Leaves (header .half) (length cs) metastates₀ arcs₀ all (step.Stop fault) metastates′ arcs′ chains′
+              → AfterStep (header .half) (length cs) metastates₀ arcs₀ all (step.Stop fault) metastates′ arcs′ chains′
           unfolding andThen stepOf
           followed-stop {fault} stops =
               let (r, o, f) = step-stop entered fault (sym stops ∙ leaves .answers) in

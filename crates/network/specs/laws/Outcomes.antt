@@ -15,13 +15,13 @@ use Rattle.network.specs.declared.Step.the-variants as step
 use Rattle.network.specs.declared.Build.the-variants as build
 use Rattle.network.specs.Answers.{buildOf}
 use Rattle.network.specs.Networks.{networkHeld}
-use Rattle.network.specs.Steps.{Leaves, Connected}
+use Rattle.network.specs.Steps.{AfterStep, Connected}
 use Rattle.network.specs.laws.Steps.{step-next}
 use Rattle.network.specs.laws.HeldBack.{held-back}
 
 pub next-answered : {half count : ℕ} {metastates arcs metastates′ arcs′ chains′ : List ℕ}
     {outcome : Outcome Network} {answer : Step} {next : Sizes} → half ≤ 3
-    → Leaves half count metastates arcs outcome answer metastates′ arcs′ chains′ → answer ≡ step.Next next
+    → AfterStep half count metastates arcs outcome answer metastates′ arcs′ chains′ → answer ≡ step.Next next
     → outcome ≡ answered (networkHeld half next metastates′ arcs′)
 next-answered {half} {metastates′ = metastates′} {arcs′ = arcs′} {outcome = outcome} {next = next} few left a =
     let (net, is, sized) = step-next outcome next (sym a ∙ left .answers) in

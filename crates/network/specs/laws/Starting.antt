@@ -23,7 +23,7 @@ use Rattle.definitions.specs.laws.Matrices.{meet-column, meet-length, start-col
 use Rattle.definitions.specs.laws.Matrices.{valid-columns}
 use Rattle.matrix.specs.Shapes.{columnsAround}
 use Rattle.matrix.specs.laws.Shapes.{around-length, around-left, around-centre, around-right}
-use Rattle.network.specs.Combinations.{numbered, IsChoice}
+use Rattle.network.specs.Combinations.{numbered, IsCombination}
 
 -- the matrix that the starts follow
 abbrev pub beforeStart : Header → Matrix
@@ -38,7 +38,7 @@ silence-only s only = same-members (bitAnd 1 s) s λ p. has-and p 1 s ∙ go p (
     go p true h = rw (h tt)
     go p false h = and-false (has p 1)
 
-module _ (header : Header) (c : Combination) (choice : IsChoice header c) where
+module _ (header : Header) (c : Combination) (choice : IsCombination header c) where
   abbrev half : ℕ
   half = header .half
 
@@ -119,7 +119,7 @@ module _ (header : Header) (c : Combination) (choice : IsChoice header c) where
 
 -- the starts among combinations of the book, the first of which has this number
 starts-follow-from : (header : Header) (number : ℕ) (cs : List Combination)
-    → ((i : ℕ) → i < length cs → IsChoice header (numbered cs i))
+    → ((i : ℕ) → i < length cs → IsCombination header (numbered cs i))
     → startsFrom (header .half) number cs ≡ followersFrom (beforeStart header) number cs
 unfolding startsFrom followersFrom
 starts-follow-from header number [] each = refl
@@ -130,7 +130,7 @@ starts-follow-from header number (c ∷ cs) each =
     then record { number = number; matrix = meet (beforeStart header) (c .matrix) } ∷ rest else rest) next
 
 pub starts-follow : (header : Header) (cs : List Combination)
-    → ((number : ℕ) → number < length cs → IsChoice header (numbered cs number))
+    → ((number : ℕ) → number < length cs → IsCombination header (numbered cs number))
     → startsFrom (header .half) 0 cs
     ≡ followersFrom (columnsAround (header .half) 1 1 (allPhones (header .phones))) 0 cs
 starts-follow header = starts-follow-from header 0

@@ -27,7 +27,7 @@ use Rattle.network.specs.declared.Build.the-variants as build
 use Rattle.network.specs.Answers.{totalsOf, buildOf}
 use Rattle.network.specs.Combinations.{combinationsIn, nodesBook}
 use Rattle.network.specs.Networks.{networkHeld, roomOf, Holds}
-use Rattle.network.specs.Steps.{Leaves, Connected}
+use Rattle.network.specs.Steps.{AfterStep, Connected}
 use Rattle.network.specs.laws.Steps.{step-stop}
 use Rattle.network.specs.laws.HoldsMore.{held-sizes}
 use Rattle.network.specs.laws.PerformedArcs.{performs-line}
@@ -183,7 +183,7 @@ module _ (header : Header) (nodes combinations metastates₀ arcs₀ : List ℕ)
 
       module _ (h : turns < limit) {place : ℕ} (e : place ≡ turns) (g : place < sizes .metastates)
           {answer : Step} {metastates′ arcs′ chains′ : List ℕ}
-          (left : Leaves (header .half) (length cs) metastates arcs
+          (left : AfterStep (header .half) (length cs) metastates arcs
           (expand book cs (roomOf metastates arcs) place net) answer metastates′ arcs′ chains′)
         where
           outcome-is : expand book cs (roomOf metastates arcs) place net ≡ expand book cs room turns net

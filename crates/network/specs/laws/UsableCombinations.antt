@@ -30,14 +30,14 @@ use Rattle.tables.specs.Lending.{lentTables}
 use Rattle.tables.specs.laws.Known.{header-ranges}
 use Rattle.matrix.specs.Shapes.{widthOf}
 use Rattle.tables.specs.laws.KnownSound.{known-header, known-sound}
-use Rattle.network.specs.Combinations.{combinationIn, combinationsIn, numbered, IsChoice}
+use Rattle.network.specs.Combinations.{combinationIn, combinationsIn, numbered, IsCombination}
 use Rattle.network.specs.Combinations.{nodesBook, Usable, Modelled, EndsAt, Ending}
 use Rattle.network.specs.laws.PhoneEnds.{ends-sized, ends-at}
 
 -- ---- combinations read back
 
 module _ (header : Header) (ranged : InRange header) where
-  module _ (c : Combination) (choice : IsChoice header c) where
+  module _ (c : Combination) (choice : IsCombination header c) where
     few-leaves : length (c .leaves) ≤ 3
     few-leaves = omega (arith, choice .states, ranged .states-range .high)
 
@@ -73,7 +73,7 @@ module _ (header : Header) (ranged : InRange header) where
     choice-back = λ i. record { phone = c .phone; leaves = leaves-back i; matrix = matrix-back i }
 
   abbrev Choices : List Combination → Type 0
-  Choices cs = (number : ℕ) → number < length cs → IsChoice header (numbered cs number)
+  Choices cs = (number : ℕ) → number < length cs → IsCombination header (numbered cs number)
 
   choices-sized : (cs : List Combination) → Choices cs → T (allOf combinationSize (map combinationWords cs))
   unfolding every
@@ -126,7 +126,7 @@ module _ (header : Header) (nodes classes roots : List ℕ)
   chosen : (number : ℕ) → number < length found → Chosen book (numbered found number)
   chosen number h = chosen-at book (known-sound header nodes classes roots known) number h
 
-  is-choice : (number : ℕ) → number < length found → IsChoice header (numbered found number)
+  is-choice : (number : ℕ) → number < length found → IsCombination header (numbered found number)
   unfolding tablesBook
   is-choice number h =
       let c = chosen number h in
@@ -158,7 +158,7 @@ module _ (header : Header) (nodes classes roots : List ℕ)
     header-known = known-header header nodes classes roots known;
     few = back (λ cs. length cs ≤ 65535) few;
     flat = ap (concatMap combinationWords) (sym combinations-back);
-    each = back (λ cs. (number : ℕ) → number < length cs → IsChoice header (numbered cs number)) is-choice;
+    each = back (λ cs. (number : ℕ) → number < length cs → IsCombination header (numbered cs number)) is-choice;
   }
 
   -- each leaf of a combination is a leaf of the book

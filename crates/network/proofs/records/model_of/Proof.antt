@@ -1,9 +1,9 @@
--- `reading::model_of` meets its contract: the value of the leaf's record.
+-- `records::model_of` meets its contract: the value of the leaf's record.
 use mathlib.Core.Path.{ap}
 use borrow.Author.Needs.{needs}
 use Rattle.definitions.specs.declared.Node.{Node}
-use Rattle.network.proofs.reading.model_of.Statement.{statement}
-use Rattle.network.proofs.reading.model_of.Tie as tie
+use Rattle.network.proofs.records.model_of.Statement.{statement}
+use Rattle.network.proofs.records.model_of.Tie as tie
 
 mul-leaf : tie.Need-mul-leaf
 mul-leaf c = search needs

@@ -1,10 +1,10 @@
--- `reading::matrix_of` meets its contract: seven words of the record are there, and are the matrix.
+-- `records::matrix_of` meets its contract: seven words of the record are there, and are the matrix.
 use Prim.Native.Nat.{_+_, _-_, _*_}
 use borrow.Author.Needs.{needs}
 use Rattle.definitions.specs.Combinations.{combinationSize}
 use Rattle.network.specs.laws.RecordWords.{seven-words}
-use Rattle.network.proofs.reading.matrix_of.Statement.{statement}
-use Rattle.network.proofs.reading.matrix_of.Tie as tie
+use Rattle.network.proofs.records.matrix_of.Statement.{statement}
+use Rattle.network.proofs.records.matrix_of.Tie as tie
 
 mul-from : tie.Need-mul-from
 mul-from c = search needs

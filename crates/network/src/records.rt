@@ -1,5 +1,4 @@
 // What the records of combinations say: phone, matrix, and the models of their leaves.
-use definitions::wide;
 use matrix::Matrix;
 use matrix::words::matrix_from;
 use tables::records::node_at;
