@@ -3,6 +3,8 @@ use crate::printing::print;
 use crate::printing::print_number;
 use crate::printing::print_word;
 use crate::printing::print_words;
+use crate::printing::used_sets;
+use crate::printing::used_words;
 use definitions::Refusal;
 use definitions::number;
 use trees::Lookup;
@@ -14,6 +16,20 @@ pub fn print_refusal(refusal: Refusal) {
     print_word(number(fault));
     print(b" at line");
     print_number(refusal.line as u64);
+}
+
+// Whether a refusal left the tables cleared.
+pub fn print_cleared(nodes: &[u32], classes: &[u64], roots: &[u32]) {
+    if used_words(nodes) == 0 {
+        print(b", nodes");
+    }
+    if used_sets(classes) == 0 {
+        print(b", classes");
+    }
+    if used_words(roots) == 0 {
+        print(b", roots");
+    }
+    print(b" cleared\n");
 }
 
 // How many models there are, or the refusal.

@@ -1,4 +1,5 @@
 // One book: what reading answers and leaves, and then its trees and its network.
+use crate::answers::print_cleared;
 use crate::answers::print_refusal;
 use crate::networks::show_whole;
 use crate::printing::print;
@@ -29,42 +30,6 @@ fn print_tables(nodes: &[u32], classes: &[u64], roots: &[u32]) {
     print(b"\n  roots");
     print_words(roots);
     print(b"\n");
-}
-
-fn words_cleared(words: &[u32]) -> bool {
-    let mut i = 0;
-    while i < words.len() {
-        if words[i] != 0 {
-            return false;
-        }
-        i += 1;
-    }
-    true
-}
-
-fn sets_cleared(sets: &[u64]) -> bool {
-    let mut i = 0;
-    while i < sets.len() {
-        if sets[i] != 0 {
-            return false;
-        }
-        i += 1;
-    }
-    true
-}
-
-// Whether a refusal left the tables cleared.
-fn print_cleared(nodes: &[u32], classes: &[u64], roots: &[u32]) {
-    if words_cleared(nodes) {
-        print(b", nodes");
-    }
-    if sets_cleared(classes) {
-        print(b", classes");
-    }
-    if words_cleared(roots) {
-        print(b", roots");
-    }
-    print(b" cleared\n");
 }
 
 // Reads a book into tables for ten nodes and two words, three classes and seven roots, where something stood before.

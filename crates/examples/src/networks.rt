@@ -1,4 +1,5 @@
 // A book read and its network built into space of several sizes; what is left in it, and the arcs that leave the first states.
+use crate::answers::print_cleared;
 use crate::answers::print_refusal;
 use crate::printing::print;
 use crate::printing::print_number;
@@ -24,14 +25,14 @@ fn print_totals(word: &[u8], totals: Totals) {
     print(b" arcs\n");
 }
 
-// The answer of a build in words.
-fn print_build(answer: Build) {
+// The answer of a build in words, and whether a refusal left the tables cleared.
+fn print_build(answer: Build, nodes: &[u32], classes: &[u64], roots: &[u32]) {
     match answer {
         Build::Finished(totals) => print_totals(b" finished after", totals),
         Build::Stopped(totals) => print_totals(b" stopped after", totals),
         Build::Refused(refusal) => {
             print_refusal(refusal);
-            print(b"\n");
+            print_cleared(nodes, classes, roots);
         }
     }
 }
@@ -103,7 +104,7 @@ fn show_build(
         arcs,
         limit,
     );
-    print_build(answer);
+    print_build(answer, &nodes, &classes, &roots);
     print_space(combinations, metastates, arcs);
     answer
 }

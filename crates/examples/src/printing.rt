@@ -31,8 +31,8 @@ pub fn print_sets(sets: &[u64]) {
     }
 }
 
-// How many words come before the zeros at the end.
-fn used_words(words: &[u32]) -> usize
+// How many words come before the zeros at the end: none where all are cleared.
+pub fn used_words(words: &[u32]) -> usize
     ensures { λ r. ⌜ r ≤ length (now (words .entry)) ⌝ }
 {
     let mut used = words.len();
@@ -45,7 +45,7 @@ fn used_words(words: &[u32]) -> usize
     used
 }
 
-fn used_sets(sets: &[u64]) -> usize
+pub fn used_sets(sets: &[u64]) -> usize
     ensures { λ r. ⌜ r ≤ length (now (sets .entry)) ⌝ }
 {
     let mut used = sets.len();
