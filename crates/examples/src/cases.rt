@@ -32,6 +32,14 @@ fn print_tables(nodes: &[u32], classes: &[u64], roots: &[u32]) {
     print(b"\n");
 }
 
+// Whether a title begins with '+': then the book's network alone is shown.
+fn network_alone(title: &[u8]) -> bool {
+    if title.len() == 0 {
+        return false;
+    }
+    title[0] == b'+'
+}
+
 // Reads a book into tables for ten nodes and two words, three classes and seven roots, where something stood before.
 pub fn show_case(title: &[u8], text: &[u8]) {
     let mut nodes = [7u32; 52];
@@ -45,8 +53,10 @@ pub fn show_case(title: &[u8], text: &[u8]) {
             print(b" accepted\n");
             print_header(header);
             print_tables(&nodes, &classes, &roots);
-            show_trees(header, &nodes, &classes, &roots);
-            show_foreign(header, &mut nodes, &mut classes, &mut roots);
+            if !network_alone(title) {
+                show_trees(header, &nodes, &classes, &roots);
+                show_foreign(header, &mut nodes, &mut classes, &mut roots);
+            }
             show_whole(text);
         }
         Reading::Refused(refusal) => {

@@ -3,7 +3,7 @@ use mathlib.Core.Path.{_≡_}
 use mathlib.Core.List.{List, [], map}
 use Prim.Native.Nat.{ℕ, _/_, _≤_, _<_, _^_}
 use lib.Dec.{T}
-use lib.ListN.{length, take, drop, getD}
+use lib.ListN.{length, take, drop}
 use Rattle.definitions.specs.declared.Header.{Header}
 use Rattle.definitions.specs.Lists.{_!_, concatMap, records}
 use Rattle.definitions.specs.PhoneSets.{has}
@@ -12,7 +12,7 @@ use Rattle.definitions.specs.Tables.{Book, tablesBook}
 use Rattle.definitions.specs.ForeignTables.{headerKnown}
 use Rattle.definitions.specs.Lookup.{nodeAt}
 use Rattle.definitions.specs.Combinations.{Combination, combinationSize, combinationWords}
-use Rattle.definitions.specs.Metastates.{noCombination}
+use Rattle.definitions.specs.laws.Metastates.{numbered}
 use Rattle.tables.specs.Lending.{lentTables}
 use Rattle.matrix.specs.Shapes.{widthOf}
 
@@ -29,9 +29,6 @@ combinationIn header words =
 unfoldable pub combinationsIn : Header → (words : List ℕ) → List Combination
 combinationsIn header words =
     map (combinationIn header) (records combinationSize (length words / combinationSize) words)
-
-abbrev pub numbered : List Combination → (number : ℕ) → Combination
-numbered combinations number = getD combinations number noCombination
 
 -- what connecting needs of the book: its nodes, and not its classes and roots
 abbrev pub nodesBook : Header → (nodes : List ℕ) → Book

@@ -6,7 +6,7 @@ use Prim.Native.Nat.{ℕ, _≤_, _<_}
 use lib.ListN.{length}
 use Rattle.definitions.specs.Matrices.{Matrix, valid, meet}
 use Rattle.definitions.specs.Combinations.{Combination}
-use Rattle.network.specs.Combinations.{numbered}
+use Rattle.definitions.specs.laws.Metastates.{numbered}
 
 -- the first number, from one on, of a combination that meets a matrix validly, or the count of combinations
 pub record NextFollower (shifted : Matrix) (combinations : List Combination) (from number : ℕ) : Type 0 where

@@ -21,7 +21,8 @@ use Rattle.definitions.specs.laws.Matrices.{meet-has, meet-length, valid-column
 use Rattle.definitions.specs.laws.SevenWords.{words-length, words-meet, words-take}
 use Rattle.tables.specs.laws.Known.{header-ranges}
 use Rattle.matrix.specs.Shapes.{widthOf}
-use Rattle.network.specs.Combinations.{combinationsIn, numbered, IsCombination, Usable, EndsAt}
+use Rattle.definitions.specs.laws.Metastates.{numbered}
+use Rattle.network.specs.Combinations.{combinationsIn, IsCombination, Usable, EndsAt}
 use Rattle.network.specs.Combinations.{Ending}
 use Rattle.network.specs.Following.{NextFollower}
 use Rattle.network.specs.laws.RecordWords.{phone-word, matrix-word}

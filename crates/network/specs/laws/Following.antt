@@ -18,7 +18,8 @@ use Rattle.network.specs.declared.Sizes.{Sizes}
 use Rattle.network.specs.declared.Step.{Step}
 use Rattle.network.specs.declared.Step.the-variants as step
 use Rattle.matrix.specs.Shapes.{widthOf}
-use Rattle.network.specs.Combinations.{combinationsIn, numbered, nodesBook}
+use Rattle.definitions.specs.laws.Metastates.{numbered}
+use Rattle.network.specs.Combinations.{combinationsIn, nodesBook}
 use Rattle.network.specs.Networks.{networkHeld, roomOf, Holds}
 use Rattle.network.specs.Following.{NextFollower}
 use Rattle.network.specs.Steps.{stepOf, AfterStep}

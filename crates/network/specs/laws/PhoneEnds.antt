@@ -20,7 +20,8 @@ use Rattle.definitions.specs.laws.Leaves.{phoneMatrix}
 use Rattle.definitions.specs.laws.Sound.{Sound}
 use Rattle.definitions.specs.demand.Chosen.{choose-begins}
 use Rattle.metastates.specs.Answers.{endOf, endsOf}
-use Rattle.network.specs.Combinations.{numbered, EndsAt}
+use Rattle.definitions.specs.laws.Metastates.{numbered}
+use Rattle.network.specs.Combinations.{EndsAt}
 
 module _ (book : Book) (sound : Sound book) where
   abbrev ofPhones : (first count : ℕ) → List Combination

@@ -27,7 +27,8 @@ use Rattle.definitions.specs.laws.Tables.{node-of-first}
 use Rattle.tables.specs.laws.Known.{header-ranges}
 use Rattle.matrix.specs.Shapes.{widthOf}
 use Rattle.definitions.specs.laws.Walks.{model-at}
-use Rattle.network.specs.Combinations.{combinationIn, combinationsIn, numbered, nodesBook}
+use Rattle.definitions.specs.laws.Metastates.{numbered}
+use Rattle.network.specs.Combinations.{combinationIn, combinationsIn, nodesBook}
 use Rattle.network.specs.Combinations.{Usable, Modelled}
 
 -- seven words that are there, read as a matrix

@@ -23,7 +23,8 @@ use Rattle.definitions.specs.laws.Matrices.{meet-column, meet-length, start-col
 use Rattle.definitions.specs.laws.Matrices.{valid-columns}
 use Rattle.matrix.specs.Shapes.{columnsAround}
 use Rattle.matrix.specs.laws.Shapes.{around-length, around-left, around-centre, around-right}
-use Rattle.network.specs.Combinations.{numbered, IsCombination}
+use Rattle.definitions.specs.laws.Metastates.{numbered}
+use Rattle.network.specs.Combinations.{IsCombination}
 
 -- the matrix that the starts follow
 abbrev pub beforeStart : Header → Matrix

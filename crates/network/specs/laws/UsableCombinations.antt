@@ -30,7 +30,8 @@ use Rattle.tables.specs.Lending.{lentTables}
 use Rattle.tables.specs.laws.Known.{header-ranges}
 use Rattle.matrix.specs.Shapes.{widthOf}
 use Rattle.tables.specs.laws.KnownSound.{known-header, known-sound}
-use Rattle.network.specs.Combinations.{combinationIn, combinationsIn, numbered, IsCombination}
+use Rattle.definitions.specs.laws.Metastates.{numbered}
+use Rattle.network.specs.Combinations.{combinationIn, combinationsIn, IsCombination}
 use Rattle.network.specs.Combinations.{nodesBook, Usable, Modelled, EndsAt, Ending}
 use Rattle.network.specs.laws.PhoneEnds.{ends-sized, ends-at}
 
