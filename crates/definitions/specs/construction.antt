@@ -5,3 +5,5 @@ pub mod Turning
 pub mod Places
 pub mod Finished
 pub mod Turns
+pub mod Sources
+pub mod ArcRanges

@@ -1,4 +1,4 @@
--- Demand 3: the whole path theorem, step by step.
+-- Demand 3: the whole path theorem, step by step; then, that network text can hold every network.
 pub mod Windows
 pub mod Chains
 pub mod TreeWindows
@@ -16,3 +16,4 @@ pub mod ProperNetwork
 pub mod Main
 pub mod Assembly
 pub mod Demand
+pub mod KnownNetwork

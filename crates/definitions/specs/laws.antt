@@ -13,6 +13,7 @@ pub mod Fields
 pub mod LineFields
 pub mod Lines
 pub mod Reading
+pub mod RefusalLines
 pub mod Ranges
 pub mod Tables
 pub mod Books
@@ -32,3 +33,9 @@ pub mod Ascending
 pub mod Metastates
 pub mod Limits
 pub mod Contexts
+pub mod NetworkLines
+pub mod NetworkTexts
+pub mod NetworkKnown
+pub mod NetworkBytes
+pub mod RoundTrips
+pub mod Program

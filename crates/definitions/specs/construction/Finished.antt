@@ -1,13 +1,13 @@
--- What a finished build leaves: a table without repetition that has the start metastates and all followers,
--- and the arcs, told by the places of that table. The idea: a build is told by the list of all its events,
--- the start events and the turn events of each metastate of the table in order. Demand 3 is about what is
--- left so.
+-- What a build leaves: a table without repetition that has the start metastates and the followers of all that
+-- are expanded, and the arcs, told by the places of that table. In a finished build all are expanded. The idea:
+-- a build is told by the list of all its events, the start events and the turn events of the expanded
+-- metastates of the table in order. Demand 3 is about what a finished build leaves.
 use mathlib.Core.Path.{_≡_, refl, sym, ap, ap₂, _∙_, subst}
 use mathlib.Core.List.{List, [], _∷_, _++_, map, append-assoc, append-nil, map-append, map-map, map-id}
 use Prim.Native.Nat.{ℕ, zero, suc, _+_, _<_}
 use native.Mathlib.Omega.{arith}
-use lib.ListN.{length, take, drop, getD}
-use lib.Seq.{take-append-le, take-all}
+use lib.ListN.{length, take, drop, getD, length-take, take-append-drop}
+use lib.Seq.{take-append-le, take-all, getD-take}
 use Rattle.definitions.specs.Lists.{concatMap}
 use Rattle.definitions.specs.Faults.{answered}
 use Rattle.definitions.specs.Tables.{Book}
@@ -15,18 +15,19 @@ use Rattle.definitions.specs.Combinations.{Combination}
 use Rattle.definitions.specs.Arcs.{Arc, INITIAL, firstState, lastState}
 use Rattle.definitions.specs.Metastates.{Metastate, modelsOf, starts, followers}
 use Rattle.definitions.specs.Connecting.{Network, Event, plain, enter, ownArcs, finalArcs, arcInto}
-use Rattle.definitions.specs.Connecting.{startEvents, turnEvents, Room, finished, noMetastate}
+use Rattle.definitions.specs.Connecting.{startEvents, turnEvents, Room, Built, finished, noMetastate}
 use Rattle.definitions.specs.Connecting.{noNetwork, connect}
+use Rattle.definitions.specs.Building.{networkIn}
 use Rattle.definitions.specs.laws.Lists.{concatMap-append}
 use Rattle.definitions.specs.laws.Members.{isIn, distinct, in-left, in-right, in-concatMap}
 use Rattle.definitions.specs.construction.Table.{placeOf, place-at}
 use Rattle.definitions.specs.construction.Performing.{enteredBy, enteredIn, eventArc, Performed}
 use Rattle.definitions.specs.construction.Performing.{performed-append, all-performed}
 use Rattle.definitions.specs.construction.Turning.{starts-entered, turn-entered, Turn, KeptByTurns}
-use Rattle.definitions.specs.construction.Turning.{AtEnd, one-turn, connect-keeps}
+use Rattle.definitions.specs.construction.Turning.{AtEnd, claim-at-end, one-turn, connect-keeps}
 
 module _ (book : Book) (combinations : List Combination) where
-  -- the arcs of one metastate of a finished table
+  -- the arcs of one metastate of a table
   unfoldable pub turnArcs : (table : List Metastate) → Metastate → List Arc
   turnArcs table q =
       ownArcs (firstState (book .states) (placeOf table q)) (drop 1 (modelsOf book combinations q))
@@ -35,15 +36,22 @@ module _ (book : Book) (combinations : List Combination) where
       (λ y. arcInto book combinations (lastState (book .states) (placeOf table q)) (placeOf table y) y)
       (followers book combinations q)
 
-  pub record Finished (net : Network) : Type 0 where
+  -- a network whose table begins with these, the expanded ones
+  pub record Expansion (done : List Metastate) (net : Network) : Type 0 where
     pub once : distinct (net .metastates)
+    pub listed : (x : Metastate) → isIn x done → isIn x (net .metastates)
+    pub places : (i : ℕ) → i < length done → placeOf (net .metastates) (getD done i noMetastate) ≡ i
     pub starts-in : (x : Metastate) → isIn x (starts book combinations) → isIn x (net .metastates)
-    pub followers-in : (x y : Metastate) → isIn x (net .metastates) → isIn y (followers book combinations x)
+    pub followers-in : (x y : Metastate) → isIn x done → isIn y (followers book combinations x)
         → isIn y (net .metastates)
     pub arcs : net .arcs
         ≡ map (λ x. arcInto book combinations INITIAL (placeOf (net .metastates) x) x)
         (starts book combinations)
-        ++ concatMap (turnArcs (net .metastates)) (net .metastates)
+        ++ concatMap (turnArcs (net .metastates)) done
+
+  -- all of the table are expanded
+  abbrev pub Finished : Network → Type 0
+  Finished net = Expansion (net .metastates) net
 
   -- ---- the events of a build
 
@@ -159,55 +167,74 @@ module _ (book : Book) (combinations : List Combination) where
         ∙ ap₂ _++_ (ap (λ p. map add (turnEvents book combinations p q)) here ∙ turn-arcs q)
         (arcs-from (suc at) part (λ i k. let e = h (suc i) (omega arith) in omega arith))
 
-    all-arcs : distinct table
-        → map (eventArc book combinations table) (startEvents book combinations ++ eventsFrom 0 table)
+    all-arcs : (done : List Metastate)
+        → ((i : ℕ) → i < length done → placeOf table (getD done i noMetastate) ≡ i)
+        → map (eventArc book combinations table) (startEvents book combinations ++ eventsFrom 0 done)
         ≡ map (λ x. arcInto book combinations INITIAL (placeOf table x) x) (starts book combinations)
-        ++ concatMap (turnArcs table) table
+        ++ concatMap (turnArcs table) done
     unfolding startEvents
-    all-arcs u =
-        map-append (eventArc book combinations table) (startEvents book combinations) (eventsFrom 0 table)
+    all-arcs done at =
+        map-append (eventArc book combinations table) (startEvents book combinations) (eventsFrom 0 done)
         ∙ ap₂ _++_ (enter-arcs INITIAL (starts book combinations))
-        (arcs-from 0 table (λ i h. let e = place-at table u i h in omega arith))
+        (arcs-from 0 done (λ i h. let e = at i h in omega arith))
 
-  -- ---- the finished build
+  -- ---- what is left when some are expanded
 
-  module _ (room : Room) (limit turns : ℕ) (net : Network)
-      (e : connect book combinations room limit ≡ answered (finished turns net)) where
-    at-end : AtEnd Expanded (0 + limit) (finished turns net)
-    at-end =
-        connect-keeps book combinations room Expanded (finished turns net) (turn-expanded room)
-        (λ net now. start-expanded net (all-performed book combinations room noNetwork _ net now)) limit e
-
-    -- every metastate is expanded, each in one turn
-    turns-done : turns ≡ length (net .metastates)
-    turns-done = at-end .1
-
-    performed : Performed book combinations noNetwork
-        (startEvents book combinations ++ eventsFrom 0 (net .metastates)) net
+  module _ (turns : ℕ) (net : Network) (performed : Expanded turns net) where
+    expansion : Expansion (take turns (net .metastates)) net
     unfolding Expanded
-    performed =
-        let first = startEvents book combinations in
-        let whole = take-all turns (net .metastates) (omega (arith, turns-done)) in
-        subst (λ table. Performed book combinations noNetwork (first ++ eventsFrom 0 table) net) whole
-        (at-end .0)
-
-    table-once : distinct (net .metastates)
-    table-once = performed .once tt
-
-    -- all that starts or follows is in the table
-    reached-in : (x : Metastate)
-        → isIn x (starts book combinations ++ concatMap (followers book combinations) (net .metastates))
-        → isIn x (net .metastates)
-    reached-in x h = performed .entered-in x (subst (isIn x) (sym (entered-all (net .metastates))) h)
-
-    pub build-finished : Finished net
-    build-finished =
-        let follow = followers book combinations in
+    expansion =
+        let table : List Metastate = net .metastates in
+        let done : List Metastate = take turns table in
+        let once : distinct table = performed .once tt in
         record {
-          once = table-once;
+          once = once;
+          listed = λ x h. subst (isIn x) (take-append-drop turns table) (in-left x done (drop turns table) h);
+          places = places once;
           starts-in = λ x h. reached-in x (in-left x (starts book combinations) _ h);
           followers-in =
               λ x y h i. reached-in y
-              (in-right y (starts book combinations) _ (in-concatMap follow x y (net .metastates) h i));
-          arcs = performed .added ∙ all-arcs (net .metastates) table-once;
+              (in-right y (starts book combinations) _
+              (in-concatMap (followers book combinations) x y done h i));
+          arcs = performed .added ∙ all-arcs table done (places once);
         }
+      where
+        -- each of them stands in the table at its own place
+        places : distinct (net .metastates) → (i : ℕ) → i < length (take turns (net .metastates))
+            → placeOf (net .metastates) (getD (take turns (net .metastates)) i noMetastate) ≡ i
+        places once i h =
+            let some : (i < turns) × (i < length (net .metastates)) =
+            omega (arith, length-take turns (net .metastates)) in
+            rw (getD-take turns (net .metastates) i noMetastate (some .0))
+            (place-at (net .metastates) once i (some .1))
+
+        -- all that starts or follows is in the table
+        reached-in : (x : Metastate)
+            → isIn x (starts book combinations
+            ++ concatMap (followers book combinations) (take turns (net .metastates)))
+            → isIn x (net .metastates)
+        reached-in x h =
+            performed .entered-in x
+            (subst (isIn x) (sym (entered-all (take turns (net .metastates)))) h)
+
+  module _ (room : Room) (limit : ℕ) where
+    at-end : (built : Built) → connect book combinations room limit ≡ answered built
+        → AtEnd Expanded (0 + limit) built
+    at-end built e =
+        connect-keeps book combinations room Expanded built (turn-expanded room)
+        (λ net now. start-expanded net (all-performed book combinations room noNetwork _ net now)) limit e
+
+    -- every build that answers has expanded the first metastates of its table
+    pub build-expanded : (built : Built) → connect book combinations room limit ≡ answered built
+        → (turns : ℕ) × Expansion (take turns (networkIn built .metastates)) (networkIn built)
+    build-expanded built e =
+        let (turns, performed) = claim-at-end Expanded (0 + limit) built (at-end built e) in
+        (turns, expansion turns (networkIn built) performed)
+
+    -- a finished build has expanded all, each in one turn
+    pub build-finished : (turns : ℕ) (net : Network)
+        → connect book combinations room limit ≡ answered (finished turns net) → Finished net
+    build-finished turns net e =
+        let (performed, all) = at-end (finished turns net) e in
+        let whole = take-all turns (net .metastates) (omega arith) in
+        subst (λ done. Expansion done net) whole (expansion turns net performed)

@@ -129,7 +129,7 @@ module _ (book : Book) (combinations : List Combination) where
         → a ≡ eventArc (net .metastates) event → addArc room a net ≡ answered next
         → Performed net (event ∷ []) next
     known-performed event a net next h k e =
-        subst (Performed net (event ∷ [])) (arc-added room net a next e)
+        subst (Performed net (event ∷ [])) (arc-added room net a next e .1)
         (record {
           more = [];
           grown = sym (append-nil (net .metastates));
@@ -146,7 +146,7 @@ module _ (book : Book) (combinations : List Combination) where
     unfolding concatMap enteredBy eventArc
     new-performed from x net next k e =
         let (new, end) = place-new 0 x (net .metastates) k in
-        subst (Performed net (enter from x ∷ [])) (both-added room net x _ next e .1)
+        subst (Performed net (enter from x ∷ [])) (both-added room net x _ next e .2)
         (record {
           more = x ∷ [];
           grown = refl;

@@ -8,13 +8,14 @@ use Rattle.definitions.specs.Faults.{answered}
 use Rattle.definitions.specs.Tables.{Book}
 use Rattle.definitions.specs.Combinations.{Combination}
 use Rattle.definitions.specs.Metastates.{Metastate}
-use Rattle.definitions.specs.Connecting.{noNetwork, Network, Room, Built, finished, stopped}
+use Rattle.definitions.specs.Connecting.{noNetwork, Network, Room, Built}
 use Rattle.definitions.specs.Connecting.{noMetastate, connect}
 use Rattle.definitions.specs.Building.{networkIn}
 use Rattle.definitions.specs.laws.Members.{distinct, same-place}
 use Rattle.definitions.specs.laws.Metastates.{metastates-equal}
 use Rattle.definitions.specs.construction.Performing.{all-performed}
-use Rattle.definitions.specs.construction.Turning.{AtEnd, one-turn, connect-keeps}
+use Rattle.definitions.specs.construction.Turning.{AtEnd, claim-at-end, one-turn}
+use Rattle.definitions.specs.construction.Turning.{connect-keeps}
 
 module _ (book : Book) (combinations : List Combination) (room : Room) (limit : ℕ) (built : Built)
     (answers : connect book combinations room limit ≡ answered built)
@@ -33,12 +34,7 @@ module _ (book : Book) (combinations : List Combination) (room : Room) (limit : 
 
     -- no metastate stands there twice
     table-once : distinct tableOf
-    unfolding networkIn
-    table-once = go built once-at-end
-      where
-        go : (b : Built) → AtEnd Once (0 + limit) b → distinct (networkIn b .metastates)
-        go (finished turns net) h = h .0
-        go (stopped turns net) h = h .0
+    table-once = claim-at-end Once (0 + limit) built once-at-end .1
 
     pub number-and-matrix-place : (i j : ℕ) → i < length tableOf → j < length tableOf
         → getD tableOf i noMetastate .number ≡ getD tableOf j noMetastate .number

@@ -1,5 +1,5 @@
--- A claim that the start events bring about and every turn keeps holds of a finished build, which has
--- expanded its whole table. So what holds of the start metastates and is passed on to followers holds of the
+-- A claim that the start events bring about and every turn keeps holds of every build that answers; a finished one
+-- has expanded its whole table. So what holds of the start metastates and is passed on to followers holds of the
 -- whole table. Which events a build has performed is such a claim (construction/Finished.antt).
 use mathlib.Core.Path.{_≡_, refl, ap, ap₂, _∙_, subst}
 use mathlib.Core.Logic.{⊎-elim}
@@ -20,6 +20,7 @@ use Rattle.definitions.specs.Connecting.{Network, Event, plain, enter, o
 use Rattle.definitions.specs.Connecting.{startEvents, turnEvents, Room, Built, finished, stopped}
 use Rattle.definitions.specs.Connecting.{noMetastate, noNetwork, performAll, expand, turnsFrom}
 use Rattle.definitions.specs.Connecting.{connect}
+use Rattle.definitions.specs.Building.{networkIn}
 use Rattle.definitions.specs.laws.Tests.{by-test}
 use Rattle.definitions.specs.laws.Lists.{concatMap-append}
 use Rattle.definitions.specs.laws.Members.{isIn, in-at, of-append}
@@ -42,6 +43,13 @@ entered-plain (a ∷ arcs) = entered-plain arcs
 abbrev pub AtEnd : (ℕ → Network → Type 0) → (enough : ℕ) → Built → Type 0
 AtEnd P enough (finished turns net) = P turns net × (turns ≡ length (net .metastates))
 AtEnd P enough (stopped turns net) = P turns net × (turns ≡ enough) × (turns < length (net .metastates))
+
+-- the claim alone, of the network that the build answers with
+pub claim-at-end : (P : ℕ → Network → Type 0) (enough : ℕ) (built : Built) → AtEnd P enough built
+    → (turns : ℕ) × P turns (networkIn built)
+unfolding networkIn
+claim-at-end P enough (finished turns net) h = (turns, h .0)
+claim-at-end P enough (stopped turns net) h = (turns, h .0)
 
 module _ (book : Book) (combinations : List Combination) where
   pub starts-entered : enteredIn (startEvents book combinations) ≡ starts book combinations
@@ -167,11 +175,13 @@ module _ (book : Book) (combinations : List Combination) where
         (λ x h. first x (subst (isIn x) starts-entered h))
 
     -- what holds of the start metastates and is passed on to followers holds of the whole table
-    pub table-holds : (room : Room) (limit turns : ℕ) (net : Network)
+    pub table-holds : (room : Room) (limit : ℕ) (built : Built)
         → ((x : Metastate) → isIn x (starts book combinations) → P x)
         → ((x y : Metastate) → P x → isIn y (followers book combinations x) → P y)
-        → connect book combinations room limit ≡ answered (finished turns net)
-        → (x : Metastate) → isIn x (net .metastates) → P x
-    table-holds room limit turns net first pass e =
-        connect-keeps room (λ turns net. AllHold (net .metastates)) (finished turns net) (turns-hold room pass)
-        (λ net now. starts-hold first net (all-performed book combinations room noNetwork _ net now)) limit e .0
+        → connect book combinations room limit ≡ answered built
+        → (x : Metastate) → isIn x (networkIn built .metastates) → P x
+    table-holds room limit built first pass e =
+        claim-at-end (λ turns net. AllHold (net .metastates)) (0 + limit) built
+        (connect-keeps room (λ turns net. AllHold (net .metastates)) built (turns-hold room pass)
+        (λ net now. starts-hold first net (all-performed book combinations room noNetwork _ net now)) limit e)
+        .1

@@ -6,12 +6,13 @@ use mathlib.Core.Logic.{_↔_, Iff·rfl, Iff·symm, Iff·trans, Iff·and}
 use mathlib.Core.List.{List}
 use mathlib.Core.Option.{some}
 use Prim.Native.Nat.{ℕ}
-use lib.Dec.{T}
+use lib.Dec.{T, lit<}
 use Rattle.definitions.specs.declared.Header.{Header}
 use Rattle.definitions.specs.Faults.{Outcome, answered}
 use Rattle.definitions.specs.BookLines.{BookLine, headerOf}
 use Rattle.definitions.specs.BookReading.{Lent, readBook}
 use Rattle.definitions.specs.Tables.{Book, bookOf, Tables, tablesLeft, tablesBook}
+use Rattle.definitions.specs.ForeignTables.{tablesKnown}
 use Rattle.definitions.specs.Combinations.{Combination, combinations, combine}
 use Rattle.definitions.specs.Arcs.{arcsIn}
 use Rattle.definitions.specs.Connecting.{Network, Built, finished, connect}
@@ -20,7 +21,7 @@ use Rattle.definitions.specs.Building.{buffersLeft}
 use Rattle.definitions.specs.Paths.{Carries}
 use Rattle.definitions.specs.TreesGive.{silentEnds, treesGive}
 use Rattle.definitions.specs.laws.Records.{arcs-read}
-use Rattle.definitions.specs.laws.Judging.{judge-answered, andThen-answered}
+use Rattle.definitions.specs.laws.Judging.{passes-at, judge-answered, andThen-answered}
 use Rattle.definitions.specs.laws.Books.{accepted-book}
 use Rattle.definitions.specs.laws.Accepted.{accepted-sound}
 use Rattle.definitions.specs.laws.ModelsAlong.{given-is}
@@ -28,27 +29,38 @@ use Rattle.definitions.specs.demand.Network.{BuiltFrom}
 use Rattle.definitions.specs.demand.Main.{book-exactly}
 
 module _ (header : Header) (tables : Tables) (space : Space) where
-  -- the combinations that are connected are those of the book in the tables
+  -- the combinations that are connected are those of the book in the tables, which are known
   combined : (found : List Combination) → combine header tables (space .combinations) ≡ answered found
-      → combinations (tablesBook header tables) ≡ found
+      → T (tablesKnown header tables)
+      × (combinations (tablesBook header tables) ≡ found)
   unfolding combine
-  combined found e = let (passed, same) = judge-answered 0 _ _ found e in cc
+  combined found e =
+      let (passed, same) = judge-answered 0 _ _ found e in (passes-at _ passed 0 (lit< tt), cc)
 
-  build-connects : (limit : ℕ) (built : Built) → build header tables space limit ≡ answered built
+  pub built-tables-known : (limit : ℕ) (built : Built) → build header tables space limit ≡ answered built
+      → T (tablesKnown header tables)
+  unfolding build
+  built-tables-known limit built e =
+      let choices = combine header tables (space .combinations) in
+      let (found, combines, connects) = andThen-answered choices _ built e in
+      combined found combines .0
+
+  pub build-connects : (limit : ℕ) (built : Built) → build header tables space limit ≡ answered built
       → connect (tablesBook header tables) (combinations (tablesBook header tables)) (roomIn space) limit
       ≡ answered built
   unfolding build
   build-connects limit built e =
       let choices = combine header tables (space .combinations) in
       let (found, combines, connects) = andThen-answered choices _ built e in
-      rw (combined found combines) connects
+      rw (combined found combines .1) connects
 
--- the arcs decoded from the buffer that a finished build leaves
-pub arcs-decoded : (book : Book) (space : Space) (states turns : ℕ) (net : Network) (answer : Outcome Built)
-    → answer ≡ answered (finished turns net)
-    → arcsIn (countsIn states net .arcs) (buffersLeft book space answer .arcs) ≡ net .arcs
-unfolding countsIn buffersLeft buffersOf networkIn
-arcs-decoded book space states turns net answer e = rw e (arcs-read (space .arcs) (net .arcs))
+-- the arcs decoded from the buffer that a build leaves, finished or stopped
+pub arcs-decoded : (book : Book) (space : Space) (states : ℕ) (built : Built) (answer : Outcome Built)
+    → answer ≡ answered built
+    → arcsIn (countsIn states (networkIn built) .arcs) (buffersLeft book space answer .arcs)
+    ≡ networkIn built .arcs
+unfolding countsIn buffersLeft buffersOf
+arcs-decoded book space states built answer e = rw e (arcs-read (space .arcs) (networkIn built .arcs))
 
 module _ (lent : Lent) (text : List ℕ) (lines : List BookLine) (accepted : readBook lent text ≡ answered lines)
     (space : Space) (limit turns : ℕ) (net : Network)

@@ -28,7 +28,7 @@ use Rattle.definitions.specs.BookReading.{Lent, readBook}
 use Rattle.definitions.specs.Tables.{Book, bookOf, Tables, tablesLeft, tablesBook}
 use Rattle.definitions.specs.Arcs.{Arc, arcsIn}
 use Rattle.definitions.specs.Connecting.{Network, Built, finished}
-use Rattle.definitions.specs.Building.{Space, build, countsIn, buffersLeft}
+use Rattle.definitions.specs.Building.{Space, build, networkIn, countsIn, buffersLeft}
 use Rattle.definitions.specs.Paths.{accepting, Carries}
 use Rattle.definitions.specs.TreesGive.{silentEnds, treesGive}
 use Rattle.definitions.specs.demand.Main.{book-one-path, book-every-arc}
@@ -66,10 +66,10 @@ module _ (lent : Lent) (text : List ℕ) (lines : List BookLine) (space : Space)
   pub demand3 : readBook lent text ≡ answered lines
       → (turns : ℕ) (net : Network) → buildAnswer ≡ answered (finished turns net)
       → Demand3 lines (countsIn (headerOf lines .states) net) arcBuffer
-  unfolding countsIn
+  unfolding countsIn networkIn
   demand3 accepted turns net built =
       let left : Book = tablesBook (headerOf lines) tablesRead in
-      let arcs = arcs-decoded left space (headerOf lines .states) turns net buildAnswer built in
+      let arcs = arcs-decoded left space (headerOf lines .states) (finished turns net) buildAnswer built in
       let made = built-from lent text lines accepted space limit turns net built in
       record {
         exactly = rw arcs (exactly-by-lines lent text lines accepted space limit turns net built);

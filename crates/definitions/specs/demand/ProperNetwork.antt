@@ -12,22 +12,22 @@ use Rattle.definitions.specs.Lists.{every}
 use Rattle.definitions.specs.Tables.{Book}
 use Rattle.definitions.specs.Lookup.{modelAt}
 use Rattle.definitions.specs.Combinations.{combinations}
-use Rattle.definitions.specs.Metastates.{Metastate, combinationOf, phoneOf, modelsOf, starts}
-use Rattle.definitions.specs.Metastates.{followers}
-use Rattle.definitions.specs.Connecting.{Network, noMetastate, arcInto, finalArcs}
+use Rattle.definitions.specs.Metastates.{Metastate, combinationOf, phoneOf, modelsOf, followers}
+use Rattle.definitions.specs.Connecting.{Network, noMetastate, arcInto, finalArcs, finished}
+use Rattle.definitions.specs.Building.{networkIn}
 use Rattle.definitions.specs.laws.Members.{isIn, of-map, every-in}
 use Rattle.definitions.specs.laws.Ranges.{phone-range}
 use Rattle.definitions.specs.laws.Sound.{Sound}
 use Rattle.definitions.specs.laws.ModelsAlong.{leafModels}
-use Rattle.definitions.specs.laws.Metastates.{start-is, follower-is, starts-once, followers-once}
+use Rattle.definitions.specs.laws.Metastates.{starts-once, followers-once}
 use Rattle.definitions.specs.construction.Table.{placed}
 use Rattle.definitions.specs.construction.Turning.{table-holds}
 use Rattle.definitions.specs.construction.Finished.{turnArcs, Finished, build-finished}
 use Rattle.definitions.specs.graph.Graph.{Graph, Proper, arcsOf, Reachable, Alive}
 use Rattle.definitions.specs.demand.Chosen.{LeafOf, Chosen, combinationAt, chosen-at}
 use Rattle.definitions.specs.demand.Network.{graphOf, BuiltFrom}
-use Rattle.definitions.specs.demand.Sentences.{Constructed, constructed-follower}
-use Rattle.definitions.specs.demand.Ways.{constructed-start}
+use Rattle.definitions.specs.demand.Sentences.{Constructed}
+use Rattle.definitions.specs.demand.Ways.{table-constructed}
 use Rattle.definitions.specs.demand.Alive.{constructed-alive}
 
 module _ (book : Book) (net : Network) (built : BuiltFrom book net) where
@@ -44,23 +44,18 @@ module _ (book : Book) (net : Network) (built : BuiltFrom book net) where
   left =
       build-finished book (combinations book) (built .room) (built .limit) (built .turns) net (built .connects)
 
-  holds : (P : Metastate → Type 0) → ((x : Metastate) → isIn x (starts book (combinations book)) → P x)
-      → ((x y : Metastate) → P x → isIn y (followers book (combinations book) x) → P y)
-      → (x : Metastate) → isIn x table → P x
-  holds P first pass =
-      table-holds book (combinations book) P (built .room) (built .limit) (built .turns) net first pass
-      (built .connects)
-
   -- ---- every metastate of the table is the construction's, is reached and leads on
 
   constructed : (x : Metastate) → isIn x table → Constructed book x
+  unfolding networkIn
   constructed =
-      holds (Constructed book)
-      (λ x h. constructed-start book sound x (start-is book (combinations book) x .0 h))
-      (λ x y k h. constructed-follower book sound x y k (follower-is book (combinations book) x y .0 h))
+      table-constructed book sound (built .room) (built .limit) (finished (built .turns) net) (built .connects)
 
   reachable : (x : Metastate) → isIn x table → Reachable network x
-  reachable = holds (Reachable network) (λ x h. ([], λ us onward. (h, onward))) further
+  unfolding networkIn
+  reachable =
+      table-holds book (combinations book) (Reachable network) (built .room) (built .limit)
+      (finished (built .turns) net) (λ x h. ([], λ us onward. (h, onward))) further (built .connects)
     where
       further : (x y : Metastate) → Reachable network x → isIn y (followers book (combinations book) x)
           → Reachable network y

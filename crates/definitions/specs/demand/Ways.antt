@@ -11,18 +11,23 @@ use lib.Dec.{T, eqb}
 use lib.ListN.{length, take, drop, replicate, length-map, take-append-drop}
 use lib.Seq.{drop-drop}
 use Rattle.definitions.specs.Lists.{_!_, every}
+use Rattle.definitions.specs.Faults.{answered}
 use Rattle.definitions.specs.BookLines.{isPhone}
 use Rattle.definitions.specs.Tables.{Book}
 use Rattle.definitions.specs.Matrices.{startCut}
 use Rattle.definitions.specs.Combinations.{combinations}
 use Rattle.definitions.specs.Metastates.{Metastate}
+use Rattle.definitions.specs.Connecting.{Room, Built, connect}
+use Rattle.definitions.specs.Building.{networkIn}
 use Rattle.definitions.specs.TreesGive.{withSilence, silentEnds}
 use Rattle.definitions.specs.laws.Tests.{T-and, T-eqb}
 use Rattle.definitions.specs.laws.Lists.{every-cons}
+use Rattle.definitions.specs.laws.Members.{isIn}
 use Rattle.definitions.specs.laws.Sound.{AllPhones, Sound}
 use Rattle.definitions.specs.laws.Matrices.{start-length, start-below}
-use Rattle.definitions.specs.laws.Metastates.{metastates-equal, StartOf, start-is, may-end}
+use Rattle.definitions.specs.laws.Metastates.{metastates-equal, StartOf, start-is, follower-is, may-end}
 use Rattle.definitions.specs.laws.Contexts.{around-length, around-left, around-right, around-phones}
+use Rattle.definitions.specs.construction.Turning.{table-holds}
 use Rattle.definitions.specs.graph.Graph.{Way}
 use Rattle.definitions.specs.demand.Windows.{admits, start-admits, admits-valid}
 use Rattle.definitions.specs.demand.Chains.{AdmitEach}
@@ -31,8 +36,8 @@ use Rattle.definitions.specs.demand.Network.{graphOf}
 use Rattle.definitions.specs.demand.Passages.{numbersAlong, Listed, matricesOf, phonesOf, stepOf}
 use Rattle.definitions.specs.demand.Passages.{along, lastAlong, Passage, onward-passage}
 use Rattle.definitions.specs.demand.Passages.{passage-onward}
-use Rattle.definitions.specs.demand.Sentences.{Constructed, Sentence, sentence-all, passage-sentence}
-use Rattle.definitions.specs.demand.Sentences.{sentence-passage, centres, last-phone}
+use Rattle.definitions.specs.demand.Sentences.{Constructed, Sentence, sentence-all, constructed-follower}
+use Rattle.definitions.specs.demand.Sentences.{passage-sentence, sentence-passage, centres, last-phone}
 
 module _ (book : Book) where
   -- the metastate where a sentence starts with a combination, and the metastates of a sequence of numbers
@@ -81,6 +86,15 @@ module _ (book : Book) (sound : Sound book) where
         is-valid = s .is-valid;
         inside = λ Z h. start-windows x s Z .0 h .0;
       }
+
+  -- so every metastate of a build's table is one of the construction's
+  pub table-constructed : (room : Room) (limit : ℕ) (built : Built)
+      → connect book (combinations book) room limit ≡ answered built
+      → (x : Metastate) → isIn x (networkIn built .metastates) → Constructed book x
+  table-constructed room limit built e =
+      table-holds book (combinations book) (Constructed book) room limit built
+      (λ x h. constructed-start x (start-is book (combinations book) x .0 h))
+      (λ x y k h. constructed-follower book sound x y k (follower-is book (combinations book) x y .0 h)) e
 
   -- ---- from a way to windows
 

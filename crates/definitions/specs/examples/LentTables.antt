@@ -11,7 +11,7 @@ use Rattle.definitions.specs.Tables.{Tables, tablesLeft}
 use Rattle.definitions.specs.Lookup.{leafLookupInTable}
 use Rattle.definitions.specs.Transcription.{transcribe}
 use Rattle.definitions.specs.examples.Everything.{everything}
-use Rattle.definitions.specs.examples.Example.{input, header, lent, tables}
+use Rattle.definitions.specs.examples.Example.{input, header, tables}
 use Rattle.definitions.specs.examples.Example.{Result, gives, refuses, read, given}
 use Rattle.definitions.specs.examples.Example.{Case, _is_, Holds, example}
 

@@ -187,6 +187,10 @@ module _ (header : Header) (nodes : List TreeNode) (fit : allFrom (NodeFits head
   question-fitting node class position yesNode noNode q =
       node-fits node _ q (question-listed nodes node class position yesNode noNode q)
 
+  pub leaf-fitting : (node model : ℕ) → node < length nodes → nodeAt nodes node ≡ leaf model
+      → Within (1 ‥ 65535) model
+  leaf-fitting node model h q = node-fits node (leaf model) q h
+
   pub fitting-forward : header .nodes ≡ length nodes → Forward nodes
   fitting-forward count node class position yesNode noNode q =
       let f = question-fitting node class position yesNode noNode q in (
@@ -210,7 +214,7 @@ module _ (header : Header) (book : Book) (ranged : InRange header) (heads : Head
             question-fitting header (book .nodes) nodes node class position yesNode noNode q .position-high,
             heads .half,
           );
-      model = λ node model h q. node-fits header (book .nodes) nodes node (leaf model) q h .low;
+      model = λ node model h q. leaf-fitting header (book .nodes) nodes node model h q .low;
       root = λ phone state.
           rw (← heads .nodes) (root-listed header 0 (book .roots) _ (ranged .nodes-range .low) roots);
     }

@@ -8,7 +8,7 @@ use Prim.Native.Nat.{ℕ, zero, suc, _+_, _-_, _*_, _^_, _≤_, _<_}
 use native.Mathlib.Nat.{pow-le-pow-right, sub-zero}
 use native.Mathlib.Omega.{arith}
 use lib.Dec.{T, ltb, eqb, not-T, eqb→eq, ltb→lt, lt→ltb}
-use lib.ListN.{length, replicate, length-append, length-replicate, length-map}
+use lib.ListN.{length, replicate, length-append, length-replicate}
 use borrow.Author.Tests.{eqb-true}
 use Rattle.definitions.specs.Lists.{if_then_else_, every, concatMap, records}
 use Rattle.definitions.specs.Numerals.{isDigit, isNumeral, valueOf, numeral}
@@ -16,8 +16,8 @@ use Rattle.definitions.specs.Lines.{space, Field, blank, malformed, numb
 use Rattle.definitions.specs.Lines.{fieldOf, fieldText}
 use Rattle.definitions.specs.laws.Tests.{if-true, if-false}
 use Rattle.definitions.specs.laws.Lists.{every-cons}
-use Rattle.definitions.specs.laws.Records.{joined, allOf, sized-parts, concatMap-joined, sized-more}
-use Rattle.definitions.specs.laws.Records.{joined-length, records-joined}
+use Rattle.definitions.specs.laws.Members.{isIn, in-every, map-back}
+use Rattle.definitions.specs.laws.Records.{joined, allOf, sized-parts, written-length, written-records}
 use Rattle.definitions.specs.laws.Numerals.{digit-range, isNumeral-digits, numeral-is, numeral-value}
 use Rattle.definitions.specs.laws.Numerals.{numeral-writes, numeral-length, value-below}
 
@@ -162,32 +162,19 @@ textOf-writes bytes l h = go (fieldOf bytes) refl h
 
 -- ---- fields one after the other
 
-texts-sized : (fields : List Field) → T (every fits fields) → T (allOf 6 (map textOf fields))
-unfolding every
-texts-sized [] h = tt
-texts-sized (f ∷ fields) h =
-    let (fit, fitting) = every-cons fits f fields .0 h in
-    sized-more 6 (textOf f) (map textOf fields) (textOf-length f fit) (texts-sized fields fitting)
-
-texts-reads : (fields : List Field) → T (every fits fields) → map fieldOf (map textOf fields) ≡ fields
-unfolding every
-texts-reads [] h = refl
-texts-reads (f ∷ fields) h =
-    let (fit, fitting) = every-cons fits f fields .0 h in
-    ap₂ (λ (x : Field) (r : List Field). x ∷ r) (textOf-reads f fit) (texts-reads fields fitting)
+texts-sized : (fields : List Field) → T (every fits fields) → (f : Field) → isIn f fields
+    → length (textOf f) ≡ 6
+texts-sized fields h f i = textOf-length f (in-every fits fields h f i)
 
 pub fields-reads : (fields : List Field) (rest : List ℕ) → T (every fits fields)
     → map fieldOf (records 6 (length fields) (concatMap textOf fields ++ rest)) ≡ fields
 fields-reads fields rest h =
-    let texts : List (List ℕ) = map textOf fields in
-    let apart = records-joined 6 texts rest (texts-sized fields h) in
-    rw (concatMap-joined textOf fields, ← length-map fields textOf, apart) (texts-reads fields h)
+    ap (map fieldOf) (written-records textOf 6 fields (texts-sized fields h) rest)
+    ∙ map-back textOf fieldOf fields (λ f i. textOf-reads f (in-every fits fields h f i))
 
 pub fields-length : (fields : List Field) → T (every fits fields)
     → length (concatMap textOf fields) ≡ 6 * length fields
-fields-length fields h =
-    ap length (concatMap-joined textOf fields) ∙ joined-length 6 (map textOf fields) (texts-sized fields h)
-    ∙ rw length-map
+fields-length fields h = written-length textOf 6 fields (texts-sized fields h)
 
 pub fields-writes : (texts : List (List ℕ)) → T (allOf 6 texts) → T (every isRead (map fieldOf texts))
     → (concatMap textOf (map fieldOf texts) ≡ joined texts) × T (every fits (map fieldOf texts))

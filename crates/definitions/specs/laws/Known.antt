@@ -1,18 +1,18 @@
 -- The tables of an accepted book are known: the test for foreign tables passes on what reading leaves, so
 -- combining never refuses it by 18. Each line passed tests that ask the same of its numbers, and the H line
 -- those that ask for wide enough tables.
-use mathlib.Core.Path.{_≡_, sym, ap, _∙_, subst}
+use mathlib.Core.Path.{_≡_, refl, sym, ap, ap₂, _∙_, subst}
 use mathlib.Core.Logic.{inl, inr}
 use mathlib.Core.List.{List, [], _∷_, map}
 use mathlib.Core.Bool.{Bool, true, _&&_, _||_}
 use Prim.Native.Nat.{ℕ, suc, _-_, _*_, _^_, _≤_, _<_}
-use lib.Dec.{T, leb, ltb, eqb, le→leb, lt→ltb}
-use lib.ListN.{length, take, drop}
-use lib.Seq.{drop-at}
+use lib.Dec.{T, leb, ltb, eqb, leb→le, le→leb, lt→ltb, eqb→eq}
+use lib.ListN.{length, take, drop, length-drop, take-append-drop}
+use lib.Seq.{drop-at, length-take-le}
 use borrow.Author.Tests.{lt-ltb, le-leb}
 use Rattle.definitions.specs.declared.Fault.the-variants.{Choices}
 use Rattle.definitions.specs.declared.Header.{Header}
-use Rattle.definitions.specs.Lists.{every, select, concatMap, upFrom, padded}
+use Rattle.definitions.specs.Lists.{every, select, concatMap, upFrom, cleared, padded}
 use Rattle.definitions.specs.Faults.{answered, _unless_, judge}
 use Rattle.definitions.specs.Forms.{Range, _‥_}
 use Rattle.definitions.specs.Lines.{inRanges}
@@ -41,7 +41,7 @@ use Rattle.definitions.specs.laws.PhoneSets.{setOf-below}
 
 -- ---- the header
 
-within-passes : (r : Range) (n : ℕ) → Within r n → (leb (r .lowest) n && leb n (r .highest)) ≡ true
+pub within-passes : (r : Range) (n : ℕ) → Within r n → (leb (r .lowest) n && leb n (r .highest)) ≡ true
 within-passes r n w = rw (le-leb (r .lowest) n (w .low), le-leb n (r .highest) (w .high))
 
 header-known : (header : Header) → InRange header → T (headerKnown header)
@@ -66,7 +66,7 @@ all-in P at (y ∷ l) h x (inr i) = all-in P (suc at) l (h .1) x i
 -- ---- padded tables
 
 -- there is nothing beyond the used words
-holds-used : (size count : ℕ) (used : List ℕ) → count ≡ length used → count ≤ size
+pub holds-used : (size count : ℕ) (used : List ℕ) → count ≡ length used → count ≤ size
     → T (holdsOnly count (padded size used))
 unfolding holdsOnly padded
 holds-used size count used e w =
@@ -84,6 +84,24 @@ words-known : (size count : ℕ) (used : List ℕ) (test : ℕ → Bool) → cou
 words-known size count used test e w h =
     T-and (holdsOnly count (padded size used)) (every test (take count (padded size used))) .1
     (holds-used size count used e w, rw (padded-take size count used e) (every-in test used h))
+
+zeros-cleared : (l : List ℕ) → T (every (λ word. eqb word 0) l) → l ≡ cleared (length l)
+unfolding every
+zeros-cleared [] h = refl
+zeros-cleared (x ∷ l) h =
+    let (first, rest) = T-and (eqb x 0) (every (λ word. eqb word 0) l) .0 h in
+    ap₂ (λ (y : ℕ) (k : List ℕ). y ∷ k) (eqb→eq x 0 first) (zeros-cleared l rest)
+
+-- a table that holds only its first words has these, and zeros beyond
+pub holds-padded : (count : ℕ) (words : List ℕ) → T (holdsOnly count words)
+    → (count ≤ length words) × (words ≡ padded (length words) (take count words))
+unfolding holdsOnly padded
+holds-padded count words h =
+    let (room, zeros) = T-and (leb count (length words)) (every (λ word. eqb word 0) (drop count words)) .0 h in
+    let within : count ≤ length words = leb→le _ _ room in
+    let rest : drop count words ≡ cleared (length words - count) =
+    zeros-cleared (drop count words) zeros ∙ ap cleared (length-drop count words) in
+    (within, sym (take-append-drop count words) ∙ rw (rest, length-take-le count words within))
 
 -- ---- nodes: records as their lines leave them
 

@@ -1,7 +1,7 @@
 -- Laws about adding to a network within its room: 31 where there is no room for a new metastate, whatever room
 -- there is for arcs, 32 where there is none for an arc; and what an addition that is answered leaves.
 -- construction/Performing and Turns use them.
-use mathlib.Core.Path.{_≡_, ap, _∙_}
+use mathlib.Core.Path.{_≡_, sym, ap, _∙_, subst}
 use mathlib.Core.List.{[], _∷_, _++_}
 use Prim.Native.Nat.{_≤_, _<_}
 use lib.Dec.{ltb, ltb→lt}
@@ -42,9 +42,13 @@ module _ (room : Room) (net : Network) where
   -- ---- room
 
   pub arc-added : (a : Arc) (next : Network) → addArc room a net ≡ answered next
-      → withArc net a ≡ next
+      → (length (net .arcs) < room .arcs)
+      × (withArc net a ≡ next)
   unfolding addArc
-  arc-added a next e = test-answered (ltb (length (net .arcs)) (room .arcs)) Tangle 0 (withArc net a) next e .1
+  arc-added a next e =
+      let (fits, same) =
+      test-answered (ltb (length (net .arcs)) (room .arcs)) Tangle 0 (withArc net a) next e in
+      (ltb→lt (length (net .arcs)) (room .arcs) fits, same)
 
   metastate-added : (x : Metastate) (next : Network) → addMetastate room x net ≡ answered next
       → (length (net .metastates) < room .metastates)
@@ -58,12 +62,14 @@ module _ (room : Room) (net : Network) where
 pub both-added : (room : Room) (net : Network) (x : Metastate) (a : Arc) (next : Network)
     → addBoth room x a net ≡ answered next
     → (length (net .metastates) < room .metastates)
+    × (length (net .arcs) < room .arcs)
     × (withArc (withMetastate net x) a ≡ next)
 unfolding addBoth
 both-added room net x a next e =
     let (middle, first, second) = andThen-answered (addMetastate room x net) (addArc room a) next e in
-    let (fits, grown) = metastate-added room net x middle first in (
+    let (fits, grown) = metastate-added room net x middle first in
+    let (arc-fits, same) = arc-added room middle a next second in (
       fits,
-      ap (λ (n : Network). withArc n a) grown
-          ∙ arc-added room middle a next second,
+      subst (λ (n : Network). length (n .arcs) < room .arcs) (sym grown) arc-fits,
+      ap (λ (n : Network). withArc n a) grown ∙ same,
     )

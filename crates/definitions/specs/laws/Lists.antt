@@ -154,6 +154,10 @@ clear-itself l l′ e = e ∙ ap cleared (sym (clear-length l l′ e))
 
 -- ---- a lent buffer that begins with its used words
 
+pub padded-none : (size : ℕ) → cleared size ≡ padded size []
+unfolding padded
+padded-none size = rw sub-zero
+
 pub drop-cleared : (count size : ℕ) → drop count (cleared size) ≡ cleared (size - count)
 drop-cleared zero size = rw sub-zero
 drop-cleared (suc count) zero = rw zero-sub

@@ -1,7 +1,7 @@
 -- Laws about the elements of a list: which are in a list built from others, at which place, and no element
 -- twice. The proofs about tables, arcs, leaves and combinations use them. The library's own membership is an
 -- indexed type; this one computes on the list, so a proof of it is taken apart by `inl` and `inr`.
-use mathlib.Core.Path.{_≡_, refl, sym, ap, subst}
+use mathlib.Core.Path.{_≡_, refl, sym, ap, ap₂, subst}
 use mathlib.Core.Logic.{_⊎_, inl, inr, ⊎-elim}
 use mathlib.Core.List.{List, [], _∷_, _++_, map}
 use mathlib.Core.Bool.{Bool, true, false}
@@ -80,6 +80,13 @@ of-concatMap {A} f y (x ∷ l) h = go (of-append y (f x) (concatMap f l) h) (λ 
     go (inl i) rest = (x, inl refl, i)
     go (inr i) rest = let (z, j, k) = rest i in (z, inr j, k)
 
+-- what gives each element back gives the list back
+pub map-back : {A B : Type 0} (f : A → B) (g : B → A) (l : List A) → ((x : A) → isIn x l → g (f x) ≡ x)
+    → map g (map f l) ≡ l
+map-back f g [] h = refl
+map-back {A} f g (x ∷ l) h =
+    ap₂ (λ (y : A) (k : List A). y ∷ k) (h x (inl refl)) (map-back f g l (λ y i. h y (inr i)))
+
 -- ---- counting up
 
 pub of-upFrom : (a count x : ℕ) → isIn x (upFrom a count) → (a ≤ x) × (x < a + count)
@@ -103,6 +110,17 @@ pub every-in : {A : Type 0} (test : A → Bool) (l : List A) → ((x : A) → is
 unfolding every
 every-in test [] h = tt
 every-in test (x ∷ l) h = every-cons test x l .1 (h x (inl refl), every-in test l (λ y i. h y (inr i)))
+
+pub in-every : {A : Type 0} (test : A → Bool) (l : List A) → T (every test l) → (x : A) → isIn x l
+    → T (test x)
+in-every test [] h x i = absurd i
+in-every test (y ∷ l) h x (inl e) = subst (λ z. T (test z)) (sym e) (every-cons test y l .0 h .0)
+in-every test (y ∷ l) h x (inr i) = in-every test l (every-cons test y l .0 h .1) x i
+
+-- and so a weaker one
+pub every-weaker : {A : Type 0} (test weaker : A → Bool) → ((x : A) → T (test x) → T (weaker x)) → (l : List A)
+    → T (every test l) → T (every weaker l)
+every-weaker test weaker f l h = every-in weaker l (λ x i. f x (in-every test l h x i))
 
 -- ---- an element that is there if a test holds
 

@@ -1,18 +1,20 @@
 -- Laws about records laid out flat: the records of lists joined are those lists, whatever stands after them,
 -- and records joined are the text that they were taken from. Lines, nodes, combinations, metastates and arcs
 -- are all kept so.
-use mathlib.Core.Path.{_≡_, refl, sym, ap, _∙_}
+use mathlib.Core.Path.{_≡_, refl, sym, ap, ap₂, _∙_, subst}
 use mathlib.Core.List.{List, [], _∷_, _++_, map, append-assoc, append-nil}
 use mathlib.Core.Bool.{Bool}
-use Prim.Native.Nat.{ℕ, zero, suc, _+_, _-_, _*_, _≤_, _<_}
-use native.Mathlib.Nat.{mul-zero, mul-suc}
+use Prim.Native.Nat.{ℕ, zero, suc, _+_, _-_, _*_, _/_, _≤_, _<_}
+use native.Mathlib.Nat.{mul-zero, mul-suc, mul-div-cancel-left}
 use native.Mathlib.Omega.{arith}
 use lib.Dec.{T, eqb, eqb→eq, eqb-refl}
 use lib.ListN.{length, take, drop, getD, length-append, length-drop, length-map}
 use lib.Seq.{take-at, drop-at, drop-drop, take-add, length-take-le}
 use Rattle.definitions.specs.Lists.{every, concatMap, records, cleared, padded}
 use Rattle.definitions.specs.Arcs.{Arc, arcSize, arcWords, arcOf, arcsIn}
-use Rattle.definitions.specs.laws.Lists.{every-cons}
+use Rattle.definitions.specs.laws.Tests.{eq→eqb}
+use Rattle.definitions.specs.laws.Lists.{every-cons, same-at}
+use Rattle.definitions.specs.laws.Members.{isIn, of-map, every-in, map-back}
 
 -- ---- lists joined, and records of a list
 
@@ -112,35 +114,64 @@ module _ (size : ℕ) where
 
 -- ---- elements written as records of one size
 
-module _ {A : Type 0} (words : A → List ℕ) (size : ℕ) (sized : (x : A) → length (words x) ≡ size) where
-  flat-sized : (xs : List A) → T (allOf size (map words xs))
-  unfolding every
-  flat-sized [] = tt
-  flat-sized (x ∷ xs) = sized-more size (words x) (map words xs) (sized x) (flat-sized xs)
+module _ {A : Type 0} (words : A → List ℕ) (size : ℕ) (xs : List A)
+    (sized : (x : A) → isIn x xs → length (words x) ≡ size)
+  where
+    written-sized : T (allOf size (map words xs))
+    written-sized =
+        every-in (λ (l : List ℕ). eqb (length l) size) (map words xs)
+        (λ l i. let (x, j, e) = of-map words l xs i in eq→eqb (length l) size (ap length e ∙ sized x j))
 
+    pub written-length : length (concatMap words xs) ≡ size * length xs
+    written-length =
+        ap length (concatMap-joined words xs) ∙ joined-length size (map words xs) written-sized ∙ rw length-map
+
+    pub written-records : (rest : List ℕ)
+        → records size (length xs) (concatMap words xs ++ rest) ≡ map words xs
+    written-records rest =
+        rw (concatMap-joined words xs, ← length-map xs words)
+        (records-joined size (map words xs) rest written-sized)
+
+    -- where nothing stands after them
+    pub written-all : 0 < size
+        → records size (length (concatMap words xs) / size) (concatMap words xs) ≡ map words xs
+    written-all some =
+        let flat : List ℕ = concatMap words xs in
+        let count : length flat / size ≡ length xs =
+        ap (λ (n : ℕ). n / size) written-length ∙ mul-div-cancel-left (length xs) some in
+        ap₂ (records size) count (sym (append-nil flat)) ∙ written-records []
+
+-- whichever they are
+module _ {A : Type 0} (words : A → List ℕ) (size : ℕ) (sized : (x : A) → length (words x) ≡ size) where
   pub flat-length : (xs : List A) → length (concatMap words xs) ≡ size * length xs
-  flat-length xs =
-      ap length (concatMap-joined words xs) ∙ joined-length size (map words xs) (flat-sized xs) ∙ rw length-map
+  flat-length xs = written-length words size xs (λ x i. sized x)
 
   pub flat-records : (xs : List A) (rest : List ℕ)
       → records size (length xs) (concatMap words xs ++ rest) ≡ map words xs
-  flat-records xs rest =
-      rw (concatMap-joined words xs, ← length-map xs words)
-      (records-joined size (map words xs) rest (flat-sized xs))
+  flat-records xs = written-records words size xs (λ x i. sized x)
+
+-- in a text that is its records written again, each record is
+pub record-again : (again : List ℕ → List ℕ) (size : ℕ) → 0 < size
+    → ((part : List ℕ) → length (again part) ≡ size) → (text : List ℕ)
+    → text ≡ concatMap again (records size (length text / size) text) → (i : ℕ) → i < length text / size
+    → again (take size (drop (size * i) text)) ≡ take size (drop (size * i) text)
+record-again again size some sized text e i h =
+    let own : List (List ℕ) = records size (length text / size) text in
+    let all : own ≡ map again own =
+    subst (λ t. records size (length t / size) t ≡ map again own) (sym e)
+    (written-all again size own (λ part j. sized part) some) in
+    subst (λ part. again part ≡ part) (record-at size (length text / size) text i h)
+    (same-at again own [] i (rw records-length h) (sym all))
 
 -- the arcs in a buffer are those that were written there
-arcs-back : (arcs : List Arc) → map arcOf (map arcWords arcs) ≡ arcs
-unfolding arcOf arcWords
-arcs-back [] = refl
-arcs-back (a ∷ arcs) = ap (λ (l : List Arc). a ∷ l) (arcs-back arcs)
-
 pub arc-sized : (a : Arc) → length (arcWords a) ≡ arcSize
 unfolding arcWords
 arc-sized a = refl
 
 pub arcs-read : (size : ℕ) (arcs : List Arc)
     → arcsIn (length arcs) (padded size (concatMap arcWords arcs)) ≡ arcs
-unfolding arcsIn padded
+unfolding arcsIn padded arcOf arcWords
 arcs-read size arcs =
     let rest : List ℕ = cleared (size - length (concatMap arcWords arcs)) in
-    ap (map arcOf) (flat-records arcWords arcSize arc-sized arcs rest) ∙ arcs-back arcs
+    ap (map arcOf) (flat-records arcWords arcSize arc-sized arcs rest)
+    ∙ map-back arcWords arcOf arcs (λ a i. refl)

@@ -1,0 +1,139 @@
+-- The sources of a build's arcs never descend, finished or stopped: the arcs from INITIAL come first, then
+-- those of the expanded metastates in the order of the table, each from its first state to its last. Network
+-- text asks for that order (demand/KnownNetwork.antt).
+use mathlib.Core.Path.{_≡_, refl, subst}
+use mathlib.Core.Logic.{inl, inr}
+use mathlib.Core.List.{List, [], _∷_, _++_, map}
+use Prim.Native.Nat.{ℕ, suc, _+_, _-_, _≤_, _<_}
+use native.Mathlib.Nat.{suc-mul}
+use native.Mathlib.Omega.{arith}
+use lib.Dec.{T, leb, le→leb}
+use lib.ListN.{length, drop, getD, length-drop}
+use Rattle.definitions.specs.Lists.{concatMap}
+use Rattle.definitions.specs.Tables.{Book}
+use Rattle.definitions.specs.Combinations.{Combination}
+use Rattle.definitions.specs.Arcs.{Arc, INITIAL, firstState, lastState}
+use Rattle.definitions.specs.Metastates.{Metastate, modelsOf, starts, followers, mayEnd}
+use Rattle.definitions.specs.Connecting.{Network, ownArcs, finalArcs, arcInto, noMetastate}
+use Rattle.definitions.specs.NetworkText.{neverDescending}
+use Rattle.definitions.specs.laws.Tests.{T-and, by-test}
+use Rattle.definitions.specs.laws.Members.{isIn}
+use Rattle.definitions.specs.construction.Table.{placeOf}
+use Rattle.definitions.specs.construction.Finished.{turnArcs, Expansion}
+
+-- ---- rising
+
+-- the sources of arcs never descend, from a lowest to a highest
+abbrev Rises : (low : ℕ) → List Arc → (high : ℕ) → Type 0
+Rises low [] high = low ≤ high
+Rises low (a ∷ arcs) high = (low ≤ a .from) × Rises (a .from) arcs high
+
+rises-lower : (lower low high : ℕ) (arcs : List Arc) → lower ≤ low → Rises low arcs high
+    → Rises lower arcs high
+rises-lower lower low high [] l r = omega arith
+rises-lower lower low high (a ∷ arcs) l r = (omega (arith, r .0), r .1)
+
+rises-append : (low middle high : ℕ) (k l : List Arc) → Rises low k middle → Rises middle l high
+    → Rises low (k ++ l) high
+rises-append low middle high [] l r s = rises-lower low middle high l r s
+rises-append low middle high (a ∷ k) l r s = (r .0, rises-append (a .from) middle high k l (r .1) s)
+
+rises-never : (low high : ℕ) (arcs : List Arc) → Rises low arcs high → T (neverDescending arcs)
+unfolding neverDescending
+rises-never low high [] r = tt
+rises-never low high (a ∷ []) r = tt
+rises-never low high (a ∷ b ∷ arcs) r =
+    T-and (leb (a .from) (b .from)) (neverDescending (b ∷ arcs)) .1
+    (le→leb (a .from) (b .from) (r .1 .0), rises-never (a .from) high (b ∷ arcs) (r .1))
+
+-- ---- the arcs of a build
+
+-- a metastate's own arcs rise from state to state
+rises-own : (state high : ℕ) (models : List ℕ) → state + length models ≤ high
+    → Rises state (ownArcs state models) high
+unfolding ownArcs
+rises-own state high [] l = omega arith
+rises-own state high (model ∷ models) l = (
+  omega arith,
+  rises-lower state (suc state) high (ownArcs (suc state) models) (omega arith)
+      (rises-own (suc state) high models (omega arith)),
+)
+
+module _ (book : Book) (combinations : List Combination) where
+  -- those from one state stay there
+  rises-into : (from : ℕ) (place : Metastate → ℕ) (xs : List Metastate)
+      → Rises from (map (λ x. arcInto book combinations from (place x) x) xs) from
+  unfolding arcInto
+  rises-into from place [] = omega arith
+  rises-into from place (x ∷ xs) = (omega arith, rises-into from place xs)
+
+  rises-final : (place : ℕ) (q : Metastate)
+      → Rises (lastState (book .states) place) (finalArcs book combinations place q)
+      (lastState (book .states) place)
+  unfolding finalArcs
+  rises-final place q =
+      by-test (mayEnd book combinations q) (λ e. rw e (omega arith, omega arith)) (λ e. rw e (omega arith))
+
+  module _ (some-state : 1 ≤ book .states) (table : List Metastate) where
+    -- the arcs of one metastate rise from its first state to its last
+    rises-turn : (q : Metastate) → length (modelsOf book combinations q) ≡ book .states
+        → Rises (firstState (book .states) (placeOf table q)) (turnArcs book combinations table q)
+        (lastState (book .states) (placeOf table q))
+    unfolding turnArcs lastState
+    rises-turn q count =
+        let place : ℕ = placeOf table q in
+        let first : ℕ = firstState (book .states) place in
+        let last : ℕ = first + (book .states - 1) in
+        let models : List ℕ = drop 1 (modelsOf book combinations q) in
+        let own : List Arc = ownArcs first models in
+        let final : List Arc = finalArcs book combinations place q in
+        let all : first + length models ≤ last = rw (length-drop, count) (omega arith) in
+        rises-append first last last (own ++ final) _
+        (rises-append first last last own final (rises-own first last models all) (rises-final place q))
+        (rises-into last (placeOf table) (followers book combinations q))
+
+    -- those of one after the other rise on
+    rises-turns : (at : ℕ) (done : List Metastate)
+        → ((x : Metastate) → isIn x done → length (modelsOf book combinations x) ≡ book .states)
+        → ((i : ℕ) → i < length done → placeOf table (getD done i noMetastate) ≡ at + i)
+        → Rises (firstState (book .states) at) (concatMap (turnArcs book combinations table) done)
+        (firstState (book .states) (at + length done))
+    unfolding concatMap firstState lastState
+    rises-turns at [] counts places = omega arith
+    rises-turns at (q ∷ done) counts places =
+        let k : ℕ = book .states in
+        let own : List Arc = turnArcs book combinations table q in
+        let later : List Arc = concatMap (turnArcs book combinations table) done in
+        let head : placeOf table q ≡ at + 0 = places 0 (omega arith) in
+        let here : placeOf table q ≡ at = omega arith in
+        let end : suc at + length done ≡ at + suc (length done) = omega arith in
+        let high : ℕ = firstState k (at + suc (length done)) in
+        let turn : Rises (firstState k at) own (lastState k at) =
+        subst (λ p. Rises (firstState k p) own (lastState k p)) here (rises-turn q (counts q (inl refl))) in
+        let rest : Rises (firstState k (suc at)) later high =
+        subst (λ n. Rises (firstState k (suc at)) later (firstState k n)) end
+        (rises-turns (suc at) done (λ x h. counts x (inr h))
+        (λ i h. let e = places (suc i) (omega arith) in omega arith)) in
+        rises-append (firstState k at) (lastState k at) high own later turn
+        (rises-lower (lastState k at) (firstState k (suc at)) high later (omega (arith, suc-mul at k)) rest)
+
+  -- the arcs of a network whose metastates have a model for each state
+  pub sources-rise : (done : List Metastate) (net : Network) → Expansion book combinations done net
+      → 1 ≤ book .states
+      → ((x : Metastate) → isIn x (net .metastates) → length (modelsOf book combinations x) ≡ book .states)
+      → T (neverDescending (net .arcs))
+  sources-rise done net left some-state counts =
+      let k : ℕ = book .states in
+      let table : List Metastate = net .metastates in
+      let into : Metastate → Arc = λ x. arcInto book combinations INITIAL (placeOf table x) x in
+      let first : List Arc = map into (starts book combinations) in
+      let later : List Arc = concatMap (turnArcs book combinations table) done in
+      let high : ℕ = firstState k (0 + length done) in
+      let turns : Rises (firstState k 0) later high =
+      rises-turns some-state table 0 done (λ x h. counts x (left .listed x h))
+      (λ i h. let e = left .places i h in omega arith) in
+      rw (left .arcs)
+      (rises-never INITIAL high (first ++ later)
+      (rises-append INITIAL INITIAL high first later
+      (rises-into INITIAL (placeOf table) (starts book combinations))
+      (rises-lower INITIAL (firstState k 0) high later (omega arith) turns)))
