@@ -8,6 +8,8 @@ pub mod ranges;
 pub mod texts;
 pub mod writing;
 
+use definitions::Fault;
+
 // The letters that a kind of text has.
 pub enum Letters {
     Book,
@@ -25,6 +27,12 @@ pub struct Row {
 pub struct Parsed {
     pub formed: bool,
     pub row: Row,
+}
+
+// What becomes of a line: it passes its tests, or it has a fault.
+pub enum Verdict {
+    Passed,
+    Failed(Fault),
 }
 
 // One field of six bytes.

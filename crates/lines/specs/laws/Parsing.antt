@@ -17,6 +17,7 @@ use Rattle.definitions.specs.Forms.{Range, Form}
 use Rattle.definitions.specs.Lines.{Field, blank, malformed, number, isBlank, fieldOf, skipSpaces, digitsField}
 use Rattle.definitions.specs.Lines.{fieldsOf, numbersOf, formOf, withLetter, lineOf}
 use Rattle.definitions.specs.laws.Tests.{by-test}
+use Rattle.definitions.specs.laws.Lists.{padded-none}
 use Rattle.definitions.specs.laws.Records.{records-length, record-at}
 use Rattle.definitions.specs.laws.Lines.{line-known, line-unknown, form-letter}
 use Rattle.lines.specs.declared.Letters.{Letters}
@@ -166,9 +167,6 @@ unfolding numbersOf entriesOf fieldEntry padded
 agree [] fields h = by-test (every isBlank fields)
     (λ t. rw t (blanks fields ∙ rw t (ap some (padded-none (length fields))), refl))
     (λ t. rw t (blanks fields ∙ rw t))
-  where
-    padded-none : (k : ℕ) → cleared k ≡ padded k []
-    padded-none k = let all : k - length {A = ℕ} [] ≡ k = omega arith in rw all
 agree (r ∷ ranges) [] h = absurd (omega arith)
 agree (r ∷ ranges) (blank ∷ fields) h = refl
 agree (r ∷ ranges) (malformed ∷ fields) h = refl

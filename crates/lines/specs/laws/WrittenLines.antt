@@ -1,9 +1,11 @@
--- Laws about writing a line: where each field of six bytes stands in its text, and what is left when field
--- after field is written. The proofs of the functions that write a line use them.
+-- Laws about writing a line: where each field of six bytes stands in its text, and what is left when part after
+-- part is written. The proofs of the functions that write lines use them.
 use mathlib.Core.Path.{_≡_, refl, sym, ap, _∙_}
 use mathlib.Core.List.{List, [], _∷_, _++_, append-assoc}
 use mathlib.Core.Bool.{true}
 use Prim.Native.Nat.{ℕ, zero, suc, _+_, _-_, _*_, _≤_, _<_}
+use native.Mathlib.Nat.{mul-suc}
+use native.Mathlib.Numerals.{add-one}
 use native.Mathlib.Omega.{arith}
 use lib.Dec.{T, leb→le}
 use lib.ListN.{length, take, drop, getD, replicate, length-append, length-replicate}
@@ -127,19 +129,19 @@ module _ (row : Row) (fits : writable row ≡ true) (room : length (row .numbers
 
 -- ---- a text that is written part by part
 
--- the next six bytes were lent and came back written
-pub field-put : (field : ℕ) (text d bytes part : List ℕ) → 6 * field + 6 ≤ length text
-    → bytes ≡ take (6 * field) text ++ drop (6 * field) d → part ≡ take 6 (drop (6 * field) text)
-    → putMid (6 * field) (6 * field + 6 - 6 * field) bytes part
-    ≡ take (6 * (field + 1)) text ++ drop (6 * (field + 1)) d
-field-put field text d bytes part h e f =
-    let k : ℕ = 6 * field in
-    let six : k + 6 - k ≡ 6 = omega arith in
-    let next : 6 * (field + 1) ≡ k + 6 = omega arith in
+-- the next part of so many bytes was lent and came back written
+pub part-put : (width i : ℕ) (text d bytes part : List ℕ) → width * i + width ≤ length text
+    → bytes ≡ take (width * i) text ++ drop (width * i) d → part ≡ take width (drop (width * i) text)
+    → putMid (width * i) (width * i + width - width * i) bytes part
+    ≡ take (width * (i + 1)) text ++ drop (width * (i + 1)) d
+part-put width i text d bytes part h e f =
+    let k : ℕ = width * i in
+    let own : k + width - k ≡ width = omega arith in
+    let next : width * (i + 1) ≡ k + width = omega (arith, mul-suc width i, add-one i) in
     let front : length (take k text) ≡ k = length-take-le k text (omega arith) in
     let before : take k (take k text ++ drop k d) ≡ take k text = take-at (take k text) (drop k d) k front in
     let after : drop k (take k text ++ drop k d) ≡ drop k d = drop-at (take k text) (drop k d) k front in
-    rw (six, next, e, f, before, after, drop-drop 6 k d, take-add k 6 text, append-assoc)
+    rw (own, next, e, f, before, after, drop-drop width k d, take-add k width text, append-assoc)
 
 -- ---- a line
 

@@ -1,16 +1,17 @@
 -- Laws about a list of leaves read back from its words: how many leaves there are, where the node and the
 -- matrix of each stand, and how its matrix meets another in seven words.
 use mathlib.Core.Path.{_≡_, sym, ap, _∙_}
-use mathlib.Core.List.{List, [], map, append-nil}
+use mathlib.Core.List.{List, []}
 use Prim.Native.Nat.{ℕ, suc, _+_, _-_, _*_, _/_, _≤_, _<_}
 use native.Mathlib.Omega.{arith}
+use lib.Dec.{lit<}
 use lib.ListN.{length, take, drop, getD, length-map, length-take, length-drop}
 use lib.Seq.{drop-drop, getD-drop, getD-take, length-take-le}
 use Rattle.definitions.specs.Lists.{_!_, concatMap, records}
 use Rattle.definitions.specs.Matrices.{Matrix, matrixSize, matrixWords, valid, meet}
 use Rattle.definitions.specs.Combinations.{Leaf}
-use Rattle.definitions.specs.laws.Lists.{concatMap-map, map-at, same-at, drop-take}
-use Rattle.definitions.specs.laws.Records.{records-length, record-at, flat-records}
+use Rattle.definitions.specs.laws.Lists.{concatMap-map, map-at, drop-take}
+use Rattle.definitions.specs.laws.Records.{records-length, record-at, record-again}
 use Rattle.definitions.specs.laws.Matrices.{meet-length}
 use Rattle.definitions.specs.laws.SevenWords.{words-length, words-meet, words-take}
 use Rattle.matrix.specs.laws.Words.{firstSeven, matrix-words}
@@ -77,23 +78,16 @@ module _ (width : ℕ) (words : List ℕ) where
           let m : Matrix = take width (drop 1 part) in
           ap suc (words-length m (simp length-take (omega arith)))
 
-      all-again : map again parts ≡ parts
+      flat : words ≡ concatMap again parts
       unfolding again leavesIn
-      all-again =
-          let joined : concatMap again parts ≡ words = sym (is ∙ concatMap-map leafWords (leafIn width) parts) in
-          let count : length parts ≡ length words / leafSize = records-length leafSize _ words in
-          sym (flat-records again leafSize again-length parts [])
-          ∙ rw (append-nil, joined, count)
+      flat = is ∙ concatMap-map leafWords (leafIn width) parts
 
       pub leaf-columns : take matrixSize (drop (leafSize * place + 1) words) ≡ matrixWords (leafAt .matrix)
       unfolding again leafWords
       leaf-columns =
           let from : List ℕ = drop (leafSize * place) words in
-          let count : ℕ = length words / leafSize in
-          let here : getD parts place [] ≡ take leafSize from = record-at leafSize count words place listed in
-          let back = same-at again parts [] place (rw records-length listed) all-again in
           ap (take matrixSize) (sym (drop-drop 1 (leafSize * place) words)) ∙ sym (drop-take 1 matrixSize from)
-          ∙ ap (drop 1) (sym here ∙ sym back ∙ ap again here)
+          ∙ ap (drop 1) (sym (record-again again leafSize (lit< tt) again-length words flat place listed))
           ∙ ap (λ (l : Leaf). matrixWords (l .matrix)) (sym leaf-is)
 
       -- met with seven words of a matrix of that width

@@ -1,23 +1,21 @@
 -- Laws about lists of leaves read back: the words of leaves whose matrices have so many columns are a list of
 -- these leaves, and those of a phone's trees have the columns of its book. Choosing reads the lists so.
-use mathlib.Core.Path.{_≡_, refl, sym, ap, ap₂, _∙_}
-use mathlib.Core.Logic.{inl, inr}
-use mathlib.Core.List.{List, [], _∷_, map, append-nil}
-use Prim.Native.Nat.{ℕ, zero, suc, _/_, _≤_}
+use mathlib.Core.Path.{_≡_, refl, sym, ap, _∙_}
+use mathlib.Core.List.{List, [], _∷_, map}
+use Prim.Native.Nat.{ℕ, zero, suc, _≤_}
 use native.Mathlib.Omega.{arith}
-use lib.Dec.{T, leb}
+use lib.Dec.{leb, lit<}
 use lib.ListN.{length, take}
 use borrow.Author.Tests.{le-leb}
-use Rattle.definitions.specs.Lists.{every, concatMap, upFrom, records}
+use Rattle.definitions.specs.Lists.{concatMap, upFrom}
 use Rattle.definitions.specs.Matrices.{matrixWords}
 use Rattle.definitions.specs.Tables.{Book}
 use Rattle.definitions.specs.Combinations.{Leaf, leavesOf}
 use Rattle.definitions.specs.laws.Tests.{by-test}
-use Rattle.definitions.specs.laws.Members.{isIn}
+use Rattle.definitions.specs.laws.Members.{isIn, map-back}
 use Rattle.definitions.specs.laws.Matrices.{root-length}
 use Rattle.definitions.specs.laws.SevenWords.{words-length, words-take}
-use Rattle.definitions.specs.laws.Records.{joined, allOf, concatMap-joined, sized-more, joined-length}
-use Rattle.definitions.specs.laws.Records.{records-joined}
+use Rattle.definitions.specs.laws.Records.{written-all}
 use Rattle.definitions.specs.laws.Leaves.{leaf-inside}
 use Rattle.matrix.specs.Shapes.{widthOf}
 use Rattle.metastates.specs.Leaves.{leafSize, leafWords, leavesFor, leafIn, leavesIn, IsList}
@@ -36,34 +34,19 @@ module _ (width : ℕ) where
       ap (λ (n : ℕ). take n (matrixWords (l .matrix))) (sym e) ∙ words-take (l .matrix) in
       rw own
 
-  leaves-back : (leaves : List Leaf) → Wide width leaves → map (leafIn width) (map leafWords leaves) ≡ leaves
-  leaves-back [] w = refl
-  leaves-back (l ∷ leaves) w =
-      ap₂ (λ (x : Leaf) (r : List Leaf). x ∷ r) (leaf-back l (w l (inl refl)))
-      (leaves-back leaves (λ x i. w x (inr i)))
-
   module _ (narrow : width ≤ 7) where
-    words-sized : (leaves : List Leaf) → Wide width leaves → T (allOf leafSize (map leafWords leaves))
-    unfolding every leafWords
-    words-sized [] w = tt
-    words-sized (l ∷ leaves) w =
-        let short : length (l .matrix) ≤ 7 = omega (arith, w l (inl refl)) in
-        sized-more leafSize (leafWords l) (map leafWords leaves) (ap suc (words-length (l .matrix) short))
-        (words-sized leaves (λ x i. w x (inr i)))
+    leaf-sized : (l : Leaf) → length (l .matrix) ≡ width → length (leafWords l) ≡ leafSize
+    unfolding leafWords
+    leaf-sized l e = ap suc (words-length (l .matrix) (omega (arith, e)))
 
     -- read back they are the leaves
     pub read-back : (leaves : List Leaf) → Wide width leaves
         → leavesIn width (concatMap leafWords leaves) ≡ leaves
     unfolding leavesIn
     read-back leaves w =
-        let all : List (List ℕ) = map leafWords leaves in
-        let sized : T (allOf leafSize all) = words-sized leaves w in
-        let count : length (joined all) / leafSize ≡ length all =
-        omega (arith, joined-length leafSize all sized) in
-        let own : records leafSize (length all) (joined all) ≡ all =
-        ap (records leafSize (length all)) (sym (append-nil (joined all)))
-        ∙ records-joined leafSize all [] sized in
-        rw (concatMap-joined leafWords leaves, count, own) (leaves-back leaves w)
+        ap (map (leafIn width))
+        (written-all leafWords leafSize leaves (λ l i. leaf-sized l (w l i)) (lit< tt))
+        ∙ map-back leafWords (leafIn width) leaves (λ l i. leaf-back l (w l i))
 
     pub is-list : (leaves : List Leaf) → Wide width leaves → IsList width (concatMap leafWords leaves)
     is-list leaves w = ap (concatMap leafWords) (sym (read-back leaves w))

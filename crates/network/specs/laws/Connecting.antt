@@ -14,6 +14,7 @@ use Rattle.definitions.specs.Metastates.{metastateWords}
 use Rattle.definitions.specs.Building.{roomIn, networkIn}
 use Rattle.definitions.specs.Connecting.{Network, Room, startEvents, noNetwork, performAll, turnsFrom}
 use Rattle.definitions.specs.Connecting.{connect}
+use Rattle.definitions.specs.laws.RefusalLines.{performs-line}
 use Rattle.network.specs.declared.Sizes.{Sizes}
 use Rattle.network.specs.declared.Step.{Step}
 use Rattle.network.specs.declared.Step.the-variants as step
@@ -25,7 +26,6 @@ use Rattle.network.specs.Networks.{networkHeld, roomOf, Holds}
 use Rattle.network.specs.Steps.{AfterStep, Connected}
 use Rattle.network.specs.laws.Steps.{step-stop}
 use Rattle.network.specs.laws.HeldBack.{held-empty}
-use Rattle.network.specs.laws.PerformedArcs.{performs-line}
 use Rattle.network.specs.laws.Outcomes.{next-answered, refused-left}
 
 pub cleared-hold : {half count : ℕ} {metastates arcs : List ℕ} → metastates ≡ cleared (length metastates)

@@ -1,23 +1,21 @@
 -- Laws about a network held in lent words: read back, it is the same network; and cleared words hold none.
-use mathlib.Core.Path.{_≡_, refl, sym, ap, ap₂, _∙_}
-use mathlib.Core.Logic.{inl, inr}
-use mathlib.Core.List.{List, [], _∷_, _++_, map}
-use Prim.Native.Nat.{ℕ, suc, _-_, _*_, _≤_}
-use native.Mathlib.Nat.{sub-zero}
+use mathlib.Core.Path.{_≡_, refl, sym, ap, _∙_}
+use mathlib.Core.List.{List, [], _++_, map}
+use Prim.Native.Nat.{ℕ, suc, _-_, _*_, _/_, _≤_}
 use native.Mathlib.Omega.{arith}
-use lib.Dec.{T, eqb}
-use lib.ListN.{length, take, length-replicate, getD-replicate, length-map}
+use lib.Dec.{lit<}
+use lib.ListN.{length, take, length-replicate, getD-replicate}
 use Rattle.definitions.specs.Lists.{_!_, concatMap, records, cleared, padded}
 use Rattle.definitions.specs.Arcs.{arcsIn}
 use Rattle.definitions.specs.Matrices.{matrixWords}
 use Rattle.definitions.specs.Metastates.{Metastate, metastateSize, metastateWords}
 use Rattle.definitions.specs.Building.{roomIn}
 use Rattle.definitions.specs.Connecting.{Network, noNetwork}
-use Rattle.definitions.specs.laws.Tests.{eq→eqb}
-use Rattle.definitions.specs.laws.Members.{isIn, every-in, of-map}
+use Rattle.definitions.specs.laws.Lists.{padded-none}
+use Rattle.definitions.specs.laws.Members.{isIn, map-back}
 use Rattle.definitions.specs.laws.Metastates.{metastates-equal}
 use Rattle.definitions.specs.laws.SevenWords.{words-length, words-take}
-use Rattle.definitions.specs.laws.Records.{allOf, concatMap-joined, joined-length, records-joined, arcs-read}
+use Rattle.definitions.specs.laws.Records.{written-length, written-records, written-all, arcs-read}
 use Rattle.network.specs.Chains.{Latest, Linked}
 use Rattle.matrix.specs.Shapes.{widthOf}
 use Rattle.network.specs.Networks.{metastateIn, metastatesIn, networkHeld, sizesOf, Holds}
@@ -38,41 +36,30 @@ row-back width x e =
     metastates-equal _ x refl
     (ap (λ (n : ℕ). take n (matrixWords (x .matrix))) (sym e) ∙ words-take (x .matrix))
 
-rows-back : (half : ℕ) (xs : List Metastate) → AllWide half xs
-    → map (metastateIn (widthOf half)) (map metastateWords xs) ≡ xs
-rows-back half [] w = refl
-rows-back half (x ∷ xs) w =
-    ap₂ (λ (y : Metastate) (ys : List Metastate). y ∷ ys) (row-back (widthOf half) x (w x (inl refl)))
-    (rows-back half xs (λ y i. w y (inr i)))
-
 module _ (half : ℕ) (few : half ≤ 3) (xs : List Metastate) (w : AllWide half xs) where
-  rows-sized : T (allOf metastateSize (map metastateWords xs))
-  rows-sized = every-in (λ (row : List ℕ). eqb (length row) metastateSize) (map metastateWords xs) sized
-    where
-      sized : (row : List ℕ) → isIn row (map metastateWords xs) → T (eqb (length row) metastateSize)
-      sized row i =
-          let (x, j, e) = of-map metastateWords row xs i in
-          let width = w x j in
-          eq→eqb (length row) metastateSize (ap length e ∙ row-length x (omega arith))
+  rows-sized : (x : Metastate) → isIn x xs → length (metastateWords x) ≡ metastateSize
+  rows-sized x i = row-length x (omega (arith, w x i))
 
   pub rows-words : length (concatMap metastateWords xs) ≡ metastateSize * length xs
-  rows-words =
-      ap length (concatMap-joined metastateWords xs)
-      ∙ joined-length metastateSize (map metastateWords xs) rows-sized ∙ rw length-map
+  rows-words = written-length metastateWords metastateSize xs rows-sized
 
   -- the records at the front of words are the rows
   pub rows-read : (rest : List ℕ)
       → records metastateSize (length xs) (concatMap metastateWords xs ++ rest) ≡ map metastateWords xs
-  rows-read rest =
-      rw (concatMap-joined metastateWords xs, ← length-map xs metastateWords)
-      (records-joined metastateSize (map metastateWords xs) rest rows-sized)
+  rows-read = written-records metastateWords metastateSize xs rows-sized
+
+  pub rows-all : records metastateSize (length (concatMap metastateWords xs) / metastateSize)
+      (concatMap metastateWords xs)
+      ≡ map metastateWords xs
+  rows-all = written-all metastateWords metastateSize xs rows-sized (lit< tt)
 
   pub metastates-read : (size : ℕ)
       → metastatesIn (widthOf half) (length xs) (padded size (concatMap metastateWords xs)) ≡ xs
   unfolding metastatesIn padded
   metastates-read size =
       let rest : List ℕ = cleared (size - length (concatMap metastateWords xs)) in
-      ap (map (metastateIn (widthOf half))) (rows-read rest) ∙ rows-back half xs w
+      ap (map (metastateIn (widthOf half))) (rows-read rest)
+      ∙ map-back metastateWords (metastateIn (widthOf half)) xs (λ x i. row-back (widthOf half) x (w x i))
 
 -- ---- a network
 
@@ -106,15 +93,14 @@ no-chains = record {
   nexts = λ i h. absurd (omega arith);
 }
 
-padded-none : (size : ℕ) → cleared size ≡ padded (length (cleared size)) []
-unfolding padded
-padded-none size = rw (length-replicate {A = ℕ} size 0, sub-zero)
+cleared-padded : (size : ℕ) → cleared size ≡ padded (length (cleared size)) []
+cleared-padded size = rw (length-replicate {A = ℕ} size 0) (padded-none size)
 
 pub held-empty : (half count m n : ℕ) → Holds half count noNetwork (cleared m) (cleared n) (cleared 131072)
 unfolding concatMap roomIn
 held-empty half count m n = record {
-  metastate-words = padded-none m;
-  arc-words = padded-none n;
+  metastate-words = cleared-padded m;
+  arc-words = cleared-padded n;
   metastate-room = omega arith;
   arc-room = omega arith;
   linked = no-chains;

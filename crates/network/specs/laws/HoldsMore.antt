@@ -2,7 +2,7 @@
 -- words, they hold the network with it. And the used words of metastates are the rows of the chains.
 use mathlib.Core.Path.{_≡_, refl, sym, ap, ap₂, _∙_, subst}
 use mathlib.Core.Logic.{⊎-elim}
-use mathlib.Core.List.{List, [], _∷_, _++_, map, append-nil, map-append}
+use mathlib.Core.List.{List, [], _∷_, _++_, map, map-append}
 use Prim.Native.Nat.{ℕ, _+_, _-_, _*_, _/_, _≤_, _<_, min}
 use native.Mathlib.Omega.{arith}
 use lib.ListN.{length, take, drop, length-append, length-replicate, length-map}
@@ -16,12 +16,12 @@ use Rattle.definitions.specs.laws.Lists.{concatMap-snoc, drop-cleared, padded-t
 use Rattle.definitions.specs.laws.Members.{isIn, of-append, of-single, distinct-more}
 use Rattle.definitions.specs.laws.Limits.{withArc, withMetastate}
 use Rattle.definitions.specs.laws.Records.{flat-length, records-length, arc-sized}
+use Rattle.definitions.specs.laws.NetworkKnown.{arcs-length}
 use Rattle.network.specs.declared.Sizes.{Sizes}
 use Rattle.network.specs.Chains.{rowsIn, Linked}
 use Rattle.matrix.specs.Shapes.{widthOf}
 use Rattle.network.specs.Networks.{metastateIn, metastatesIn, networkHeld, sizesOf, Holds}
-use Rattle.network.specs.laws.HeldBack.{row-length, rows-words, rows-read}
-use Rattle.network.specs.laws.KnownArcs.{arcs-length}
+use Rattle.network.specs.laws.HeldBack.{row-length, rows-words, rows-all}
 use Rattle.network.specs.laws.Linking.{linkedTo, linked-more}
 
 -- ---- words after the used ones
@@ -135,12 +135,7 @@ module _ {half count : ℕ} {net : Network} {metastates arcs chains : List ℕ}
         ap (take (metastateSize * n)) (held .metastate-words)
         ∙ padded-take (length metastates) (metastateSize * n) (concatMap metastateWords xs)
         (omega (arith, e, rows-size)) in
-        let whole : length (concatMap metastateWords xs) / metastateSize ≡ length xs =
-        omega (arith, rows-size) in
-        ap rowsIn used
-        ∙ ap (λ (k : ℕ). records metastateSize k (concatMap metastateWords xs)) whole
-        ∙ ap (records metastateSize (length xs)) (sym (append-nil (concatMap metastateWords xs)))
-        ∙ rows-read half few xs (held .widths) []
+        ap rowsIn used ∙ rows-all half few xs (held .widths)
 
     pub holds-metastate : (x : Metastate) {n : ℕ} {metastates′ chains′ : List ℕ} → n ≡ length xs
         → n < min (length metastates / metastateSize) 65535

@@ -8,19 +8,19 @@ use native.Mathlib.Nat.{add-zero}
 use native.Mathlib.Numerals.{add-one}
 use native.Mathlib.Omega.{arith}
 use lib.Dec.{T, leb, ltb}
-use lib.ListN.{length, take, drop, getD, length-map, length-drop, drop-of-length-le, List·getD-map}
+use lib.ListN.{length, take, drop, getD, length-drop, drop-of-length-le, List·getD-map}
 use lib.Seq.{drop-cons, getD-take, getD-drop, length-take-le}
 use borrow.Author.Tests.{lt-ltb, le-ltb, le-leb, lt-leb, ltb-true, ltb-false}
 use Rattle.definitions.specs.declared.Counts.{Counts}
 use Rattle.definitions.specs.Lists.{_!_, every, records}
-use Rattle.definitions.specs.Forms.{formW, formA}
-use Rattle.definitions.specs.Lines.{inRanges}
 use Rattle.definitions.specs.ForeignTables.{holdsOnly}
 use Rattle.definitions.specs.Arcs.{Arc, arcSize, arcOf, arcsIn}
 use Rattle.definitions.specs.NetworkText.{isState, arcKnown, neverDescending, networkKnown}
-use Rattle.definitions.specs.laws.Tests.{T-and, T-three, by-test}
-use Rattle.definitions.specs.laws.Records.{records-length, record-at, records-taken}
-use Rattle.tables.specs.laws.Known.{holds-length}
+use Rattle.definitions.specs.laws.Tests.{by-test}
+use Rattle.definitions.specs.laws.Records.{record-at, records-taken}
+use Rattle.definitions.specs.laws.Known.{holds-padded}
+use Rattle.definitions.specs.laws.NetworkLines.{countsRanged, arcRanged}
+use Rattle.definitions.specs.laws.NetworkKnown.{arcs-length, known-parts, known-holds}
 
 -- ---- states
 
@@ -42,28 +42,21 @@ module _ (counts : Counts) {state : ℕ} where
 
 -- ---- an arc by itself
 
-abbrev pub rangesKnown : Arc → Bool
-rangesKnown a = inRanges (formA .fields) (a .from ∷ a .to ∷ a .model ∷ a .phone ∷ [])
-
 module _ (counts : Counts) (a : Arc) where
-  pub arc-misranged : rangesKnown a ≡ false → false ≡ arcKnown counts a
+  pub arc-misranged : arcRanged a ≡ false → false ≡ arcKnown counts a
   unfolding arcKnown
   arc-misranged h = rw h
 
-  pub arc-adrift : rangesKnown a ≡ true → isState counts (a .from) ≡ false → false ≡ arcKnown counts a
+  pub arc-adrift : arcRanged a ≡ true → isState counts (a .from) ≡ false → false ≡ arcKnown counts a
   unfolding arcKnown
   arc-adrift h k = rw (h, k)
 
-  pub arc-judged : rangesKnown a ≡ true → isState counts (a .from) ≡ true
+  pub arc-judged : arcRanged a ≡ true → isState counts (a .from) ≡ true
       → isState counts (a .to) ≡ arcKnown counts a
   unfolding arcKnown
   arc-judged h k = rw (h, k)
 
 -- ---- arcs in words
-
-pub arcs-length : (count : ℕ) (words : List ℕ) → length (arcsIn count words) ≡ count
-unfolding arcsIn
-arcs-length count words = length-map (records arcSize count words) arcOf ∙ records-length arcSize count words
 
 -- the arcs that fill words
 abbrev pub allArcs : (words : List ℕ) → List Arc
@@ -182,34 +175,36 @@ arcs-taken count words h =
 
 -- ---- the counts, the words beyond the arcs, and the arcs
 
-abbrev pub countsKnown : Counts → Bool
-countsKnown counts = inRanges (formW .fields) (counts .states ∷ counts .metastates ∷ counts .arcs ∷ [])
-
 module _ (counts : Counts) (words : List ℕ) where
-  pub network-miscounted : countsKnown counts ≡ false → false ≡ networkKnown counts words
+  pub network-miscounted : countsRanged counts ≡ false → false ≡ networkKnown counts words
   unfolding networkKnown
   network-miscounted h = rw h
 
   pub network-unheld : {count : ℕ} → count ≡ counts .arcs → holdsOnly (arcSize * count) words ≡ false
-      → countsKnown counts ≡ true → false ≡ networkKnown counts words
+      → countsRanged counts ≡ true → false ≡ networkKnown counts words
   unfolding networkKnown
   network-unheld e h k = rw (k, ← e, h)
 
   pub network-judged : {count : ℕ} → count ≡ counts .arcs → holdsOnly (arcSize * count) words ≡ true
-      → countsKnown counts ≡ true
+      → countsRanged counts ≡ true
       → arcsKnown counts (allArcs (take (arcSize * count) words)) ≡ networkKnown counts words
   unfolding networkKnown
   network-judged {count = count} e h k =
-      rw (arcs-taken count words (holds-length (arcSize * count) words (rw h tt)), k, ← e, h)
+      rw (arcs-taken count words (holds-padded (arcSize * count) words (rw h tt) .0), k, ← e, h)
 
-  -- a known network has all its arcs, in order
-  pub network-held : networkKnown counts words ≡ true
-      → (arcSize * counts .arcs ≤ length words) × T (neverDescending (arcsIn (counts .arcs) words))
-  unfolding networkKnown
-  network-held k =
-      let arcs : List Arc = arcsIn (counts .arcs) words in
-      let held : Bool = holdsOnly (arcSize * counts .arcs) words in
-      let known : Bool = every (arcKnown counts) arcs in
-      let (before, order) = T-and (countsKnown counts && held && known) (neverDescending arcs) .0 (rw k tt) in
-      let (_, words-held, _) = T-three (countsKnown counts) held known .0 before in
-      (holds-length (arcSize * counts .arcs) words words-held, order)
+-- ---- the words up to the last arc of a known network, by the code's count
+
+module _ (counts : Counts) (words : List ℕ) {count : ℕ} (e : count ≡ counts .arcs)
+    (h : networkKnown counts words ≡ true)
+  where
+    pub known-length : arcSize * count ≤ length words
+    known-length = rw e (known-holds counts words (rw h tt) .0)
+
+    pub known-arcs : allArcs (take (arcSize * count) words) ≡ arcsIn (counts .arcs) words
+    known-arcs = arcs-taken count words known-length ∙ rw e
+
+    pub known-taken : arcSize * count ≡ length (take (arcSize * count) words)
+    known-taken = sym (length-take-le (arcSize * count) words known-length)
+
+    pub known-order : T (neverDescending (allArcs (take (arcSize * count) words)))
+    known-order = rw known-arcs (known-parts counts words .0 (rw h tt) .3)

@@ -1,13 +1,12 @@
 -- Laws about the arcs that leave a state. Sources never descend, so the arcs of smaller sources are the first
 -- ones: an arc's source tells on which side of their end it stands, which bisection needs and nothing more.
-use mathlib.Core.Path.{_≡_, refl, ap, sym, _∙_}
+use mathlib.Core.Path.{_≡_, refl, ap, _∙_}
 use mathlib.Core.List.{List, [], _∷_}
 use mathlib.Core.Bool.{Bool, true, false}
 use Prim.Native.Nat.{ℕ, zero, suc, _+_, _-_, _*_, _/_, _≤_, _<_}
 use native.Mathlib.Omega.{arith}
 use lib.Dec.{T, leb, ltb, eqb, leb→le}
 use lib.ListN.{length, take, drop, getD}
-use lib.Seq.{length-take-le}
 use borrow.Author.Tests.{lt-ltb, le-ltb, ltb-true, ltb-false, eqb-true, eqb-false}
 use Rattle.definitions.specs.declared.Counts.{Counts}
 use Rattle.definitions.specs.Faults.{judge}
@@ -17,8 +16,9 @@ use Rattle.definitions.specs.NetworkText.{isState, neverDescending, networkKnow
 use Rattle.definitions.specs.Leaving.{partOf, leaving, partHanded, partWords}
 use Rattle.definitions.specs.laws.Tests.{T-and, by-test}
 use Rattle.definitions.specs.laws.Selected.{select-here, select-past}
+use Rattle.definitions.specs.laws.NetworkKnown.{arcs-length}
 use Rattle.network.specs.Answers.{faultOf}
-use Rattle.network.specs.laws.KnownArcs.{arcs-length, allArcs, arc-at, source-at, arcs-taken, network-held}
+use Rattle.network.specs.laws.KnownArcs.{allArcs, arc-at, source-at, known-length, known-arcs}
 
 -- ---- sources that never descend
 
@@ -190,22 +190,6 @@ module _ (counts : Counts) (words : List ℕ) (state : ℕ) where
   unfolding leaving judge faultOf partHanded partWords
   handed-beyond h k = rw (h, k) (refl, (refl, refl))
 
--- the words up to the last arc, by the code's count
-module _ (counts : Counts) (words : List ℕ) {count : ℕ} (e : count ≡ counts .arcs)
-    (h : networkKnown counts words ≡ true)
-  where
-    known-length : arcSize * count ≤ length words
-    known-length = omega (arith, e, network-held counts words h .0)
-
-    known-arcs : allArcs (take (arcSize * count) words) ≡ arcsIn (counts .arcs) words
-    known-arcs = arcs-taken count words known-length ∙ rw e
-
-    pub known-taken : arcSize * count ≡ length (take (arcSize * count) words)
-    known-taken = sym (length-take-le (arcSize * count) words known-length)
-
-    pub known-order : T (neverDescending (allArcs (take (arcSize * count) words)))
-    known-order = rw known-arcs (network-held counts words h .1)
-
 -- what the searches give where the network and the state are known: how many arcs have a source below the
 -- state, and below the next
 pub record Searched (counts : Counts) (words : List ℕ) (state first end : ℕ) : Type 0 where
@@ -235,7 +219,7 @@ module _ {counts : Counts} {words : List ℕ} {state first end : ℕ} (f : Searc
 
   pub part-end : arcSize * end ≤ length words
   part-end =
-      let room = network-held counts words (f .network-known) .0 in
+      let room = known-length counts words refl (f .network-known) in
       omega (arith, f .end-is, below-within (state + 1) arcs, arcs-length (counts .arcs) words, room)
 
   pub handed-part : Handed counts words state 0 first

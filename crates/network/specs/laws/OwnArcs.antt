@@ -1,11 +1,11 @@
 -- Laws about arcs as words, up to three: one arc more, and a metastate's own arcs one by one.
 use mathlib.Core.Path.{_≡_, refl, sym, ap, ap₂, _∙_, subst}
 use mathlib.Core.List.{List, [], _∷_, _++_, map, map-append}
-use Prim.Native.Nat.{ℕ, zero, suc, _+_, _-_, _*_, _≤_, _<_}
+use Prim.Native.Nat.{ℕ, suc, _+_, _-_, _*_, _≤_, _<_}
 use native.Mathlib.Nat.{add-zero, add-mul, mul-le-mul}
 use native.Mathlib.Numerals.{add-one}
 use native.Mathlib.Omega.{arith}
-use lib.ListN.{length, set, take, drop, length-append, length-map, length-drop}
+use lib.ListN.{length, set, take, drop, length-append, length-drop}
 use lib.Seq.{length-take-le, take-at, sets-eq, getD-drop, ext-getD}
 use Rattle.definitions.specs.declared.Header.{Header}
 use Rattle.definitions.specs.Lists.{_!_, concatMap, upFrom}
@@ -15,7 +15,7 @@ use Rattle.definitions.specs.Combinations.{combinationSize}
 use Rattle.definitions.specs.Connecting.{ownArcs}
 use Rattle.definitions.specs.Metastates.{Metastate, modelsOf}
 use Rattle.definitions.specs.Tables.{nodeOf}
-use Rattle.definitions.specs.laws.Lists.{concatMap-snoc, upFrom-length, map-upFrom-at}
+use Rattle.definitions.specs.laws.Lists.{concatMap-snoc, upFrom-snoc, map-upFrom-length, map-upFrom-at}
 use Rattle.tables.specs.laws.Known.{header-ranges}
 use Rattle.network.specs.declared.Arcs.{Arcs}
 use Rattle.network.specs.Combinations.{combinationsIn, nodesBook, Usable, Modelled}
@@ -88,13 +88,6 @@ unfolding ownArcs
 own-length state [] = refl
 own-length state (m ∷ models) = ap suc (own-length (suc state) models)
 
-upFrom-snoc : (a count : ℕ) → upFrom a (suc count) ≡ upFrom a count ++ ((a + count) ∷ [])
-unfolding upFrom
-upFrom-snoc a zero = rw add-zero
-upFrom-snoc a (suc count) =
-    let next : suc a + count ≡ a + suc count = omega arith in
-    ap (λ (l : List ℕ). a ∷ l) (upFrom-snoc (suc a) count ∙ rw next)
-
 -- the arcs up to the one into a state, where each state has its model
 pub record OwnArcs (model : ℕ → ℕ) (first states state : ℕ) (new : Arcs) : Type 0 where
   pub later : 1 ≤ state
@@ -113,14 +106,14 @@ module _ (model : ℕ → ℕ) (first states : ℕ) where
     models = map model (upFrom 1 (state - 1))
 
     models-count : length models ≡ state - 1
-    models-count = length-map (upFrom 1 (state - 1)) model ∙ upFrom-length 1 (state - 1)
+    models-count = map-upFrom-length model 1 (state - 1)
 
     pub own-count : new .count ≡ state - 1
     own-count = o .are .counted ∙ own-length first models ∙ models-count
 
     models-more : map model (upFrom 1 (state + 1 - 1)) ≡ models ++ (model state ∷ [])
     models-more =
-        let one-more : state + 1 - 1 ≡ suc (state - 1) = omega (arith, o .later) in
+        let one-more : state + 1 - 1 ≡ state - 1 + 1 = omega (arith, o .later) in
         let last : 1 + (state - 1) ≡ state = omega (arith, o .later) in
         ap (λ (n : ℕ). map model (upFrom 1 n)) one-more
         ∙ ap (map model) (upFrom-snoc 1 (state - 1)) ∙ map-append model (upFrom 1 (state - 1)) _

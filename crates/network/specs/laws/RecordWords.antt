@@ -1,12 +1,12 @@
 -- Laws about the words of combinations: how many records there are, where the phone, the leaves and the matrix
 -- of each stand, and where its models stand in the table of nodes.
 use mathlib.Core.Path.{_≡_, sym, ap, _∙_}
-use mathlib.Core.List.{List, [], map, append-nil}
+use mathlib.Core.List.{List, []}
 use mathlib.Core.Bool.{Bool, true, false}
 use Prim.Native.Nat.{ℕ, suc, _+_, _*_, _/_, _≤_, _<_}
 use native.Mathlib.Omega.{arith}
-use lib.Dec.{eqb}
-use lib.ListN.{length, take, drop, getD, length-append, length-map, length-take, length-drop}
+use lib.Dec.{eqb, lit<}
+use lib.ListN.{length, take, drop, length-append, length-map, length-take, length-drop}
 use lib.ListN.{List·getD-append}
 use lib.Seq.{drop-drop, drop-at, getD-drop, getD-take}
 use Rattle.definitions.specs.declared.Header.{Header}
@@ -15,16 +15,16 @@ use Rattle.definitions.specs.Lists.{if_then_else_, _!_, concatMap, records, pad
 use Rattle.definitions.specs.BookLines.{question, leaf}
 use Rattle.definitions.specs.BookReading.{nodeSize}
 use Rattle.definitions.specs.Matrices.{matrixSize, matrixWords}
-use Rattle.definitions.specs.Tables.{nodeOf, treeNode, nodeRecords, tablesBook}
-use Rattle.definitions.specs.Lookup.{nodeAt, modelAt}
+use Rattle.definitions.specs.Tables.{nodeOf, treeNode, tablesBook}
+use Rattle.definitions.specs.Lookup.{modelAt}
 use Rattle.definitions.specs.Combinations.{Combination, combinationSize, combinationWords}
 use Rattle.definitions.specs.Metastates.{Metastate, noCombination, combinationOf, modelsOf}
 use Rattle.definitions.specs.laws.Books.{InRange}
-use Rattle.definitions.specs.laws.Lists.{concatMap-map, padded-length, padded-take, map-at, same-at, drop-take}
-use Rattle.definitions.specs.laws.Records.{records-length, record-at, flat-records}
+use Rattle.definitions.specs.laws.Lists.{concatMap-map, padded-length, padded-take, map-at, drop-take}
+use Rattle.definitions.specs.laws.Records.{records-length, record-at, record-again}
 use Rattle.definitions.specs.laws.SevenWords.{padded-column, words-length}
-use Rattle.definitions.specs.laws.Tables.{node-of-first}
 use Rattle.tables.specs.laws.Known.{header-ranges}
+use Rattle.tables.specs.laws.KnownTables.{node-is}
 use Rattle.matrix.specs.Shapes.{widthOf}
 use Rattle.definitions.specs.laws.Walks.{model-at}
 use Rattle.definitions.specs.laws.Metastates.{numbered}
@@ -40,20 +40,7 @@ seven-words words from count h e q =
     let sized : matrixSize ≡ length part = sym (simp (length-take, length-drop) (omega arith)) in
     q ∙ padded-take matrixSize matrixSize part sized ∙ ap (λ (k : ℕ). take k (drop from words)) e
 
--- the node at a place in the table, and its model if it is a leaf
-node-at : (header : Header) (nodes : List ℕ) (at : ℕ) → at < header .nodes
-    → nodeAt (nodesBook header nodes .nodes) at ≡ treeNode (nodeOf (drop (nodeSize * at) nodes))
-unfolding tablesBook nodeRecords
-node-at header nodes at h =
-    let rows : List (List ℕ) = records nodeSize (header .nodes) nodes in
-    let known : at < length rows = rw records-length h in
-    let read : at < length (map nodeOf rows) = rw length-map known in
-    map-at treeNode (map nodeOf rows) (nodeOf []) (leaf 0) at read
-    ∙ ap treeNode
-    (map-at nodeOf rows [] (nodeOf []) at known
-    ∙ ap nodeOf (record-at nodeSize (header .nodes) nodes at h)
-    ∙ node-of-first (drop (nodeSize * at) nodes))
-
+-- the model of a node that is a leaf
 leaf-value : (node : Node) (model : ℕ) → treeNode node ≡ leaf model → node .value ≡ model
 unfolding treeNode
 leaf-value node model = go (eqb (node .kind) 1)
@@ -100,13 +87,9 @@ module _ (header : Header) (words : List ℕ) where
         words-length matrix (simp length-take (omega (arith, ranges .half-range .high))) in
         ap suc (length-append (padded 3 leaves) (matrixWords matrix) ∙ omega (arith, three, seven))
 
-    all-again : map again parts ≡ parts
+    flat : words ≡ concatMap again parts
     unfolding again combinationsIn
-    all-again =
-        let joined : concatMap again parts ≡ words =
-        sym (usable .flat ∙ concatMap-map combinationWords (combinationIn header) parts) in
-        let count : length parts ≡ length words / combinationSize = records-length combinationSize _ words in
-        sym (flat-records again combinationSize again-length parts []) ∙ rw (append-nil, joined, count)
+    flat = usable .flat ∙ concatMap-map combinationWords (combinationIn header) parts
 
     -- the combination at a place
     module _ (number : ℕ) (h : number < length (combinationsIn header words)) where
@@ -123,12 +106,11 @@ module _ (header : Header) (words : List ℕ) where
       pub record-is : take combinationSize (drop (combinationSize * number) words) ≡ combinationWords here
       unfolding again combinationsIn
       record-is =
-          let part : getD parts number [] ≡ take combinationSize (drop (combinationSize * number) words) =
-          record-at combinationSize (length words / combinationSize) words number listed in
-          let back = same-at again parts [] number (rw records-length listed) all-again in
-          sym part ∙ sym back
-          ∙ ap combinationWords
-          (sym (map-at (combinationIn header) parts [] noCombination number (rw records-length listed)))
+          let count : ℕ = length words / combinationSize in
+          let own = map-at (combinationIn header) parts [] noCombination number (rw records-length listed) in
+          let there = record-at combinationSize count words number listed in
+          sym (record-again again combinationSize (lit< tt) again-length words flat number listed)
+          ∙ ap combinationWords (sym (own ∙ ap (combinationIn header) there))
 
       record-word : (i : ℕ) → i < combinationSize
           → words ! (combinationSize * number + i) ≡ combinationWords here ! i
@@ -197,12 +179,12 @@ module _ (header : Header) (words : List ℕ) where
           pub model-word : (state : ℕ) → state < header .states
               → nodeOf (drop (nodeSize * (here .leaves ! state)) nodes) .value
               ≡ modelsOf (nodesBook header nodes) (combinationsIn header words) x ! state
-          unfolding modelsOf combinationOf
+          unfolding modelsOf combinationOf tablesBook
           model-word state k =
               let at : ℕ = here .leaves ! state in
               let (inside, (model, is)) = modelled number state h k in
               let own : treeNode (nodeOf (drop (nodeSize * at) nodes)) ≡ leaf model =
-              sym (node-at header nodes at inside) ∙ is in
+              sym (node-is header nodes at inside) ∙ is in
               let leaves : List ℕ = combinationOf (combinationsIn header words) x .leaves in
               let same : leaves ≡ here .leaves = rw e in
               let counted : length leaves ≡ header .states = rw e (usable .each number h .states) in

@@ -18,6 +18,7 @@ use Rattle.definitions.specs.Arcs.{arcWords}
 use Rattle.definitions.specs.Metastates.{metastateWords}
 use Rattle.definitions.specs.Building.{roomIn, networkIn, countsIn}
 use Rattle.definitions.specs.Connecting.{Network, Room, Built, finished, stopped, expand, turnsFrom}
+use Rattle.definitions.specs.laws.RefusalLines.{performs-line}
 use Rattle.network.specs.declared.Sizes.{Sizes}
 use Rattle.network.specs.declared.Step.{Step}
 use Rattle.network.specs.declared.Step.the-variants as step
@@ -30,7 +31,6 @@ use Rattle.network.specs.Networks.{networkHeld, roomOf, Holds}
 use Rattle.network.specs.Steps.{AfterStep, Connected}
 use Rattle.network.specs.laws.Steps.{step-stop}
 use Rattle.network.specs.laws.HoldsMore.{held-sizes}
-use Rattle.network.specs.laws.PerformedArcs.{performs-line}
 use Rattle.network.specs.laws.Outcomes.{next-answered, refused-left}
 
 -- ---- the turns of the definition

@@ -1,25 +1,25 @@
 -- The combinations of a book with known tables, as words, can be connected: they are read back from their
 -- words, each is a combination of the book with leaves of it, and those of each phone end where the table of
 -- ends says. So what combining leaves is what connecting asks for.
-use mathlib.Core.Path.{_≡_, refl, sym, ap, ap₂, _∙_, subst}
-use mathlib.Core.List.{List, [], _∷_, _++_, map, append-assoc, append-nil}
-use Prim.Native.Nat.{ℕ, suc, _-_, _*_, _/_, _≤_, _<_}
+use mathlib.Core.Path.{_≡_, sym, ap, _∙_, subst}
+use mathlib.Core.List.{List, _++_, map, append-assoc}
+use Prim.Native.Nat.{ℕ, _-_, _*_, _≤_, _<_}
 use native.Mathlib.Omega.{arith}
-use lib.Dec.{T}
-use lib.ListN.{length, take, drop, length-append, length-map}
+use lib.Dec.{T, lit<}
+use lib.ListN.{length, take, drop, length-append}
 use lib.Seq.{take-at, drop-at}
 use Rattle.definitions.specs.declared.Header.{Header}
-use Rattle.definitions.specs.Lists.{_!_, every, concatMap, records, cleared, padded}
+use Rattle.definitions.specs.Lists.{_!_, concatMap, cleared, padded}
 use Rattle.definitions.specs.Matrices.{matrixWords}
 use Rattle.definitions.specs.Tables.{Book, tablesBook}
 use Rattle.definitions.specs.ForeignTables.{tablesKnown}
 use Rattle.definitions.specs.BookLines.{leaf}
 use Rattle.definitions.specs.Lookup.{nodeAt}
 use Rattle.definitions.specs.Combinations.{Combination, combinations, combinationSize, combinationWords}
+use Rattle.definitions.specs.Metastates.{noCombination}
 use Rattle.definitions.specs.laws.Lists.{padded-length}
-use Rattle.definitions.specs.laws.Members.{in-at}
-use Rattle.definitions.specs.laws.Records.{joined, allOf, concatMap-joined, sized-more, joined-length}
-use Rattle.definitions.specs.laws.Records.{records-joined}
+use Rattle.definitions.specs.laws.Members.{isIn, in-at, place-of, map-back}
+use Rattle.definitions.specs.laws.Records.{written-length, written-all}
 use Rattle.definitions.specs.laws.SevenWords.{words-length, words-take}
 use Rattle.definitions.specs.laws.Ranges.{phone-range}
 use Rattle.definitions.specs.laws.Books.{InRange}
@@ -76,40 +76,23 @@ module _ (header : Header) (ranged : InRange header) where
   abbrev Choices : List Combination → Type 0
   Choices cs = (number : ℕ) → number < length cs → IsCombination header (numbered cs number)
 
-  choices-sized : (cs : List Combination) → Choices cs → T (allOf combinationSize (map combinationWords cs))
-  unfolding every
-  choices-sized [] each = tt
-  choices-sized (c ∷ cs) each =
-      sized-more combinationSize (combinationWords c) (map combinationWords cs)
-      (choice-sized c (each 0 (omega arith)))
-      (choices-sized cs (λ number h. each (suc number) (omega arith)))
+  module _ (cs : List Combination) (each : Choices cs) where
+    each-in : (c : Combination) → isIn c cs → IsCombination header c
+    each-in c i =
+        let (number, h, e) = place-of c cs noCombination i in subst (IsCombination header) e (each number h)
 
-  choices-back : (cs : List Combination) → Choices cs
-      → map (combinationIn header) (map combinationWords cs) ≡ cs
-  choices-back [] each = refl
-  choices-back (c ∷ cs) each =
-      ap₂ (λ (x : Combination) (r : List Combination). x ∷ r) (choice-back c (each 0 (omega arith)))
-      (choices-back cs (λ number h. each (suc number) (omega arith)))
+    choices-sized : (c : Combination) → isIn c cs → length (combinationWords c) ≡ combinationSize
+    choices-sized c i = choice-sized c (each-in c i)
 
-  choices-length : (cs : List Combination) → Choices cs
-      → length (concatMap combinationWords cs) ≡ combinationSize * length cs
-  choices-length cs each =
-      ap length (concatMap-joined combinationWords cs)
-      ∙ joined-length combinationSize (map combinationWords cs) (choices-sized cs each)
-      ∙ ap (λ (n : ℕ). combinationSize * n) (length-map cs combinationWords)
+    choices-length : length (concatMap combinationWords cs) ≡ combinationSize * length cs
+    choices-length = written-length combinationWords combinationSize cs choices-sized
 
-  read-back : (cs : List Combination) → Choices cs
-      → combinationsIn header (concatMap combinationWords cs) ≡ cs
-  unfolding combinationsIn
-  read-back cs each =
-      let all : List (List ℕ) = map combinationWords cs in
-      let sized : T (allOf combinationSize all) = choices-sized cs each in
-      let count : length (joined all) / combinationSize ≡ length all =
-      omega (arith, joined-length combinationSize all sized) in
-      let own : records combinationSize (length all) (joined all) ≡ all =
-      ap (records combinationSize (length all)) (sym (append-nil (joined all)))
-      ∙ records-joined combinationSize all [] sized in
-      rw (concatMap-joined combinationWords cs, count, own) (choices-back cs each)
+    read-back : combinationsIn header (concatMap combinationWords cs) ≡ cs
+    unfolding combinationsIn
+    read-back =
+        ap (map (combinationIn header))
+        (written-all combinationWords combinationSize cs choices-sized (lit< tt))
+        ∙ map-back combinationWords (combinationIn header) cs (λ c i. choice-back c (each-in c i))
 
 -- ---- the combinations of a book
 

@@ -5,16 +5,16 @@ use mathlib.Core.Bool.{Bool, true, false}
 use Prim.Native.Nat.{ℕ, suc, _-_, _*_, _/_, _^_, _≤_, _<_}
 use native.Mathlib.Nat.{div-lt-iff-lt-mul, pow-suc}
 use native.Mathlib.Omega.{arith}
-use lib.Dec.{T, leb, ltb, eqb, leb→le, lit<}
-use lib.ListN.{length, getD, drop}
+use lib.Dec.{T, leb, ltb, eqb, lit<}
+use lib.ListN.{length, getD}
 use lib.Pow.{pow-pos}
 use borrow.Author.Tests.{lt-ltb, le-leb, lt-leb, eq-eqb, ltb-true, leb-true, eqb-true}
 use Rattle.definitions.specs.declared.Header.{Header}
 use Rattle.definitions.specs.declared.Node.{Node}
-use Rattle.definitions.specs.Lists.{_!_, every}
+use Rattle.definitions.specs.Lists.{_!_}
 use Rattle.definitions.specs.Forms.{_‥_, formH}
 use Rattle.definitions.specs.ForeignTables.{headerKnown, questionKnown, leafKnown, holdsOnly}
-use Rattle.definitions.specs.laws.Tests.{T-and, by-test}
+use Rattle.definitions.specs.laws.Tests.{by-test}
 use Rattle.definitions.specs.laws.Ranges.{Within, ranges-at}
 use Rattle.definitions.specs.laws.Books.{InRange}
 use Rattle.lines.specs.laws.Passing.{Passed}
@@ -49,11 +49,6 @@ pub holds-from : (count : ℕ) (words : List ℕ) → count ≤ length words
     → Passed isZero words (holdsOnly count words) count
 unfolding holdsOnly
 holds-from count words h = record { within = h; rest = rw (le-leb count (length words) h) }
-
-pub holds-length : (count : ℕ) (words : List ℕ) → T (holdsOnly count words) → count ≤ length words
-unfolding holdsOnly
-holds-length count words h =
-    leb→le count (length words) (T-and (leb count (length words)) (every isZero (drop count words)) .0 h .0)
 
 -- ---- records
 

@@ -25,10 +25,11 @@ use Rattle.definitions.specs.laws.Records.{record-at}
 use Rattle.definitions.specs.laws.Tables.{node-of-first, tree-nodes-length}
 use Rattle.definitions.specs.laws.Accepted.{allFrom, NodeFits, QuestionFits, question-fitting, fitting-forward}
 use Rattle.definitions.specs.laws.Walks.{Forward}
+use Rattle.definitions.specs.laws.Known.{holds-padded}
 use Rattle.definitions.specs.laws.Books.{InRange}
 use Rattle.definitions.specs.laws.NamedOnce.{ChildOnce, child-once}
 use Rattle.tables.specs.laws.Records.{treeNodes}
-use Rattle.tables.specs.laws.Known.{header-ranges, holds-length}
+use Rattle.tables.specs.laws.Known.{header-ranges}
 
 -- ---- the record of a node
 
@@ -131,7 +132,7 @@ module _ (header : Header) where
   unfolding classTableKnown
   classes-wide words h =
       let within : Bool = every (λ set. ltb set (2 ^ header .phones)) (take (header .classes) words) in
-      holds-length (header .classes) words (T-and (holdsOnly (header .classes) words) within .0 h .0)
+      holds-padded (header .classes) words (T-and (holdsOnly (header .classes) words) within .0 h .0) .0
 
   children-once : (tables : Tables) → T (nodesKnown header 0 (nodeRecords header (tables .nodes)))
       → T (namedOnce (tablesBook header tables)) → ChildOnce (treeNodes header (tables .nodes))

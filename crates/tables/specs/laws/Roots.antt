@@ -14,7 +14,7 @@ use Rattle.definitions.specs.Lists.{_!_, every}
 use Rattle.definitions.specs.BookLines.{rootCount}
 use Rattle.definitions.specs.ForeignTables.{holdsOnly, rootTableKnown}
 use Rattle.definitions.specs.laws.Tests.{T-and, every-at}
-use Rattle.tables.specs.laws.Known.{holds-length}
+use Rattle.definitions.specs.laws.Known.{holds-padded}
 
 tree-place : (header : Header) (phone state : ℕ) → 1 ≤ phone → phone ≤ header .phones → 1 ≤ state
     → state ≤ header .states → (phone - 1) * header .states + (state - 1) < rootCount header
@@ -40,7 +40,7 @@ root-fits header roots h {phone} {state} {root} a b c d e =
     let place : ℕ = (phone - 1) * header .states + (state - 1) in
     let inside = tree-place header phone state a b c d in
     let parts = T-and (holdsOnly count roots) (every test (take count roots)) .0 h in
-    let wide = holds-length count roots (parts .0) in
+    let wide = holds-padded count roots (parts .0) .0 in
     let own : root ≡ take count roots ! place = e ∙ sym (getD-take count roots place 0 inside) in
     let below = every-at test (take count roots) 0 (parts .1) place
     (rw (length-take-le count roots wide) inside) in

@@ -18,13 +18,13 @@ use Rattle.definitions.specs.Tables.{nodeOf}
 use Rattle.definitions.specs.ForeignTables.{questionKnown, leafKnown, nodesKnown, holdsOnly}
 use Rattle.definitions.specs.ForeignTables.{nodeTableKnown, classTableKnown, rootTableKnown}
 use Rattle.definitions.specs.laws.Tests.{T-and}
+use Rattle.definitions.specs.laws.Known.{holds-padded}
 use Rattle.tables.specs.laws.Records.{recordsFrom, records-start, records-next, records-end}
-use Rattle.tables.specs.laws.Known.{holds-length}
 
 -- the words that count are all there
 pub holds-taken : (count : ℕ) (words : List ℕ) → holdsOnly count words ≡ true
     → count ≡ length (take count words)
-holds-taken count words h = sym (length-take-le count words (holds-length count words (rw h tt)))
+holds-taken count words h = sym (length-take-le count words (holds-padded count words (rw h tt) .0))
 
 -- ---- classes
 
@@ -61,7 +61,7 @@ module _ (header : Header) (words : List ℕ) {count : ℕ} (e : count ≡ rootC
       let test : (ℕ → Bool) = λ root. ltb root (header .nodes) in
       let words-held : T (holdsOnly (rootCount header) words) =
       T-and (holdsOnly (rootCount header) words) (every test (take (rootCount header) words)) .0 h .0 in
-      sym (length-take-le count words (omega (arith, holds-length (rootCount header) words words-held)))
+      sym (length-take-le count words (omega (arith, holds-padded (rootCount header) words words-held .0)))
 
 -- ---- nodes
 

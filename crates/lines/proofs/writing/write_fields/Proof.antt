@@ -9,7 +9,7 @@ use borrow.Author.Needs.{needs}
 use Rattle.lines.specs.Rows.{lineIn}
 use Rattle.lines.specs.Writing.{fieldsText}
 use Rattle.lines.specs.laws.Filling.{Filled, filled-start, filled-end}
-use Rattle.lines.specs.laws.WrittenLines.{row-length, field-put}
+use Rattle.lines.specs.laws.WrittenLines.{row-length, part-put}
 use Rattle.lines.proofs.writing.write_fields.Statement.{statement}
 use Rattle.lines.proofs.writing.write_fields.Tie as tie
 
@@ -55,7 +55,7 @@ loop-again c =
     let five : length (start .args .row .numbers) ≡ 5 = search needs in
     let size : length text ≡ 30 = row-length (start .args .row) (start .pre .0) five in
     let part = c .before .before .write-field in
-    let put = field-put (at .field) text (start .args .bytes .now) (at .bytes) (part .last .1 .1 .0) in
+    let put = part-put 6 (at .field) text (start .args .bytes .now) (at .bytes) (part .last .1 .1 .0) in
     record {
       within = omega arith;
       sized = search needs;

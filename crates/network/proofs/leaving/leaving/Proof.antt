@@ -4,8 +4,9 @@ use borrow.Author.Needs.{needs}
 use mathlib.Core.Path.{refl}
 use denote.Ref.{now, ptr}
 use Rattle.definitions.specs.laws.Tests.{held, failed}
-use Rattle.network.specs.laws.Leaving.{at-address, handed-foreign, handed-beyond, known-taken, known-order, Searched}
-use Rattle.network.specs.laws.Leaving.{searched, part-order, part-end, handed-part}
+use Rattle.network.specs.laws.KnownArcs.{known-taken, known-order}
+use Rattle.network.specs.laws.Leaving.{at-address, handed-foreign, handed-beyond, Searched, searched}
+use Rattle.network.specs.laws.Leaving.{part-order, part-end, handed-part}
 use Rattle.network.proofs.leaving.leaving.Statement.{statement}
 use Rattle.network.proofs.leaving.leaving.Tie as tie
 
