@@ -16,8 +16,6 @@ use Rattle.definitions.specs.BookReading.{Lent, withinHeader, comesBefore, book
 use Rattle.book.specs.declared.State.{State}
 use Rattle.book.specs.declared.Last.{Last}
 use Rattle.book.specs.declared.Last.the-variants as last
-use Rattle.book.specs.declared.Verdict.{Verdict}
-use Rattle.book.specs.declared.Verdict.the-variants.{Passed, Failed}
 
 -- the last Q line among the members
 unfoldable pub lastOf : List Member → Last
@@ -82,11 +80,6 @@ testsIn lent s line =
     ∷ Range unless withinHeader (s .header) (bookLine line)
     ∷ Order unless inOrderIn s (bookLine line)
     ∷ bookTests lent (bookLine line)
-
--- the first test that fails gives the fault
-unfoldable pub verdictOf : List Test → Verdict
-verdictOf [] = Passed
-verdictOf (t ∷ ts) = if t .passes then verdictOf ts else Failed (t .fault)
 
 -- not 17: whether these lines are all that the header promised
 unfoldable pub completeIn : State → Bool

@@ -1,46 +1,39 @@
 -- What becomes of one line, and what is judged after the last, by the state of the code.
-use mathlib.Core.List.{List, map}
-use mathlib.Core.Option.{none, some}
+use mathlib.Core.List.{List}
 use Prim.Native.Nat.{ℕ, _+_}
 use lib.Dec.{ltb}
 use lib.ListN.{take}
-use Rattle.definitions.specs.declared.Fault.the-variants.{Misprint, Orphan, Count}
+use Rattle.definitions.specs.declared.Fault.the-variants.{Orphan, Count}
 use Rattle.definitions.specs.Lists.{if_then_else_}
 use Rattle.definitions.specs.Forms.{bookForms}
-use Rattle.definitions.specs.Lines.{Line, lineOf}
 use Rattle.definitions.specs.BookLines.{BookLine, bookLine}
 use Rattle.definitions.specs.BookReading.{Lent}
-use Rattle.lines.specs.Rows.{lineIn, parsedOf}
+use Rattle.lines.specs.declared.Verdict.{Verdict}
+use Rattle.lines.specs.declared.Verdict.the-variants.{Passed, Failed}
+use Rattle.lines.specs.Judging.{verdictBy, takenBy}
 use Rattle.tables.specs.Naming.{firstMisnamed}
 use Rattle.book.specs.declared.Reading.{Reading}
 use Rattle.book.specs.declared.Reading.the-variants.{Accepted, Refused}
 use Rattle.book.specs.declared.State.{State}
 use Rattle.book.specs.declared.Step.{Step}
 use Rattle.book.specs.declared.Step.the-variants.{Next, Stop}
-use Rattle.book.specs.declared.Verdict.{Verdict}
-use Rattle.book.specs.declared.Verdict.the-variants.{Passed, Failed}
-use Rattle.book.specs.States.{testsIn, verdictOf, completeIn, nextState}
+use Rattle.book.specs.States.{testsIn, completeIn, nextState}
 
--- the line that the code takes these bytes for
-unfoldable pub lineTaken : (bytes : List ℕ) → BookLine
-lineTaken bytes = bookLine (lineIn (parsedOf (lineOf bookForms bytes) .row))
+-- the line that these bytes are taken for: `lineTaken` of a book, the same for all lent tables
+abbrev pub bookTaken : (bytes : List ℕ) → BookLine
+bookTaken bytes = takenBy bookForms bookLine bytes
 
--- the lines taken from these texts of lines
-unfoldable pub linesTaken : List (List ℕ) → List BookLine
-linesTaken texts = map lineTaken texts
+-- 17 (going on), 12, then the line's tests, by the state
+abbrev pub verdictIn : Lent → State → (bytes : List ℕ) → Verdict
+verdictIn lent s bytes = verdictBy (completeIn s) bookForms (testsIn lent s) bytes
 
-unfoldable pub stepAfter : Verdict → State → Line → Step
-stepAfter Passed s line = Next (nextState s (bookLine line))
+unfoldable pub stepAfter : Verdict → State → BookLine → Step
+stepAfter Passed s line = Next (nextState s line)
 stepAfter (Failed fault) s line = Stop fault
 
--- what taking a line gives: 17 (going on), 12, then the line's tests
+-- what taking a line gives
 unfoldable pub stepOf : Lent → State → (bytes : List ℕ) → Step
-stepOf lent s bytes =
-    if completeIn s then Stop Count else
-    elim (lineOf bookForms bytes) [
-      | none ↦ Stop Misprint
-      | some line ↦ stepAfter (verdictOf (testsIn lent s line)) s line
-    ]
+stepOf lent s bytes = stepAfter (verdictIn lent s bytes) s (bookTaken bytes)
 
 -- a table that a line changes only if it is taken
 unfoldable pub whereTaken : Step → (before after : List ℕ) → List ℕ

@@ -1,8 +1,8 @@
 -- What one more line leaves in the tables and in the counts of names.
-use mathlib.Core.List.{List, [], _∷_, _++_}
+use mathlib.Core.List.{List, [], _∷_}
 use Prim.Native.Nat.{ℕ, _+_, _-_, _*_, _≤_, _<_}
 use lib.Bits.{bitOr}
-use lib.ListN.{length, take, drop, set}
+use lib.ListN.{set}
 use Rattle.definitions.specs.declared.Node.{Node}
 use Rattle.definitions.specs.Lists.{_!_, concatMap, padded}
 use Rattle.definitions.specs.PhoneSets.{alone}
@@ -10,11 +10,8 @@ use Rattle.definitions.specs.BookLines.{BookLine, H, Q, N, L, R, question, leaf
 use Rattle.definitions.specs.BookLines.{nodesOf, rootsOf}
 use Rattle.definitions.specs.BookReading.{Lent, nodeSize}
 use Rattle.definitions.specs.Tables.{nodeWords, classSets}
+use Rattle.lines.specs.Putting.{putAt}
 use Rattle.tables.specs.Naming.{allNames, countsOf, namedAll}
-
--- words put into a table from a place on
-unfoldable pub putAt : (at : ℕ) → (words table : List ℕ) → List ℕ
-putAt at words table = take at table ++ words ++ drop (at + length words) table
 
 -- the five words of a record
 abbrev pub recordWords : Node → List ℕ

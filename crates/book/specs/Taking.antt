@@ -14,7 +14,7 @@ use Rattle.book.specs.declared.Step.{Step}
 use Rattle.book.specs.declared.Step.the-variants.{Next}
 use Rattle.book.specs.States.{HasStates, Countable}
 use Rattle.book.specs.Storing.{HasRoom, nodesAfter, classesAfter, rootsAfter, countsAfter}
-use Rattle.book.specs.Steps.{lineTaken, stepOf, whereTaken}
+use Rattle.book.specs.Steps.{bookTaken, stepOf, whereTaken}
 
 -- tables after they were cleared
 pub record ClearedFrom (nodes classes roots nodes′ classes′ roots′ : List ℕ) : Type 0 where
@@ -37,7 +37,7 @@ pub record Ready (lent : Lent) (s : State) (bytes : List ℕ) : Type 0 where
   pub states : HasStates s
   pub counts : Countable s
   pub room : (next : State) → stepOf lent s bytes ≡ Next next
-      → HasRoom (s .roots) (lent .nodes) (lent .classes) (lent .roots) (lineTaken bytes)
+      → HasRoom (s .roots) (lent .nodes) (lent .classes) (lent .roots) (bookTaken bytes)
 
 -- a state after which can be judged: each node has a count, and the lines' numbers do not overflow
 pub record Endable (s : State) (counts : List ℕ) : Type 0 where
@@ -47,13 +47,13 @@ pub record Endable (s : State) (counts : List ℕ) : Type 0 where
 
 -- each table after a line of these bytes, where this became of it
 abbrev pub nodesTaken : Step → (bytes table : List ℕ) → List ℕ
-nodesTaken step bytes table = whereTaken step table (nodesAfter (lineTaken bytes) table)
+nodesTaken step bytes table = whereTaken step table (nodesAfter (bookTaken bytes) table)
 
 abbrev pub classesTaken : Step → (bytes table : List ℕ) → List ℕ
-classesTaken step bytes table = whereTaken step table (classesAfter (lineTaken bytes) table)
+classesTaken step bytes table = whereTaken step table (classesAfter (bookTaken bytes) table)
 
 abbrev pub rootsTaken : (roots : ℕ) → Step → (bytes table : List ℕ) → List ℕ
-rootsTaken roots step bytes table = whereTaken step table (rootsAfter roots (lineTaken bytes) table)
+rootsTaken roots step bytes table = whereTaken step table (rootsAfter roots (bookTaken bytes) table)
 
 abbrev pub countsTaken : Step → (bytes counts : List ℕ) → List ℕ
-countsTaken step bytes counts = whereTaken step counts (countsAfter (lineTaken bytes) counts)
+countsTaken step bytes counts = whereTaken step counts (countsAfter (bookTaken bytes) counts)

@@ -3,12 +3,12 @@ use crate::Entry;
 use crate::Last;
 use crate::Lengths;
 use crate::State;
-use crate::Verdict;
 use definitions::Fault;
 use definitions::Header;
 use definitions::wide;
 use lines::Letters;
 use lines::Row;
+use lines::Verdict;
 use lines::ranges::in_fixed_ranges;
 ghost use mathlib.Core.Path.{_≡_};
 ghost use mathlib.Core.Bool.{_&&_};
@@ -16,9 +16,10 @@ ghost use Prim.Native.Nat.{_+_, _/_, _%_, _≤_, _<_};
 ghost use lib.Dec.{T, eqb};
 ghost use Rattle.definitions.specs.BookLines.{N, R, bookLine, headerIn};
 ghost use Rattle.definitions.specs.BookReading.{withinHeader, childrenGreater, wideEnough};
+ghost use Rattle.lines.specs.Judging.{verdictOf};
 ghost use Rattle.lines.specs.Rows.{lineIn};
 ghost use Rattle.book.specs.Entries.{entryLine, lentOf};
-ghost use Rattle.book.specs.States.{followsIn, inOrderIn, afterLastMember, testsIn, verdictOf};
+ghost use Rattle.book.specs.States.{followsIn, inOrderIn, afterLastMember, testsIn};
 ghost use Rattle.book.specs.States.{HasStates, Countable};
 
 // 14 for the letter: whether a line of this letter may stand next.

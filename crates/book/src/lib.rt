@@ -53,12 +53,6 @@ struct Lengths {
     roots: usize,
 }
 
-// What becomes of a line: it passes its tests, or it has a fault.
-enum Verdict {
-    Passed,
-    Failed(Fault),
-}
-
 // What taking a line gives: the state after it, or its fault.
 enum Step {
     Next(State),

@@ -13,7 +13,8 @@ ghost use Rattle.definitions.specs.BookLines.{question, leaf};
 ghost use Rattle.definitions.specs.PhoneSets.{alone};
 ghost use Rattle.definitions.specs.Tables.{nodeWords};
 ghost use Rattle.book.specs.Entries.{entryLine};
-ghost use Rattle.book.specs.Storing.{HasRoom, putAt, recordWords};
+ghost use Rattle.lines.specs.Putting.{putAt};
+ghost use Rattle.book.specs.Storing.{HasRoom, recordWords};
 ghost use Rattle.book.specs.Storing.{nodesAfter, classesAfter, rootsAfter, countsAfter};
 
 // The record of a question.

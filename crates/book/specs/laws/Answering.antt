@@ -2,13 +2,12 @@
 use mathlib.Core.Path.{_≡_, refl, sym, ap, _∙_, subst}
 use mathlib.Core.List.{List}
 use Prim.Native.Nat.{ℕ}
-use native.Mathlib.Omega.{arith}
 use Rattle.definitions.specs.declared.Header.{Header}
 use Rattle.definitions.specs.declared.Refusal.{Refusal}
 use Rattle.definitions.specs.Faults.{Outcome, answered, refused}
-use Rattle.definitions.specs.BookLines.{BookLine, headerOf}
+use Rattle.definitions.specs.BookLines.{BookLine}
 use Rattle.definitions.specs.BookReading.{Lent, readBook}
-use Rattle.definitions.specs.Tables.{noTables, tablesLeft}
+use Rattle.definitions.specs.Tables.{Tables, noTables, bookOf, tablesOf, tablesLeft}
 use Rattle.definitions.specs.laws.Lists.{clear-length, clear-itself}
 use Rattle.tables.specs.Lending.{lengthsOf, lentTables}
 use Rattle.book.specs.declared.Reading.{Reading}
@@ -35,32 +34,21 @@ module _ {nodes classes roots nodes′ classes′ roots′ : List ℕ}
         )
         refl
 
-refused-or-accepted : (answer : Reading) (refusal : Refusal) (header : Header)
-    → answer ≡ Refused refusal → answer ≡ Accepted header → ⊥
-refused-or-accepted answer refusal header p q = let z : _≡_ {A = ℕ} 0 1 = cc in omega arith
-
 -- an accepted book: the tables hold it
-accepted-left : (lent : Lent) (text nodes classes roots : List ℕ) (header : Header)
-    → readingOf (readBook lent text) ≡ Accepted header → Read lent text nodes classes roots
-    → lentTables nodes classes roots ≡ tablesLeft lent (readBook lent text)
+accepted-left : (lent : Lent) (o : Outcome (List BookLine)) (tables : Tables) (header : Header)
+    → readingOf o ≡ Accepted header
+    → ((lines : List BookLine) → o ≡ answered lines → tables ≡ tablesOf lent (bookOf lines))
+    → tables ≡ tablesLeft lent o
 unfolding readingOf tablesLeft
-accepted-left lent text nodes classes roots header a r = by (readBook lent text) refl
-  where
-    by : (o : Outcome (List BookLine)) → readBook lent text ≡ o
-        → lentTables nodes classes roots ≡ tablesLeft lent (readBook lent text)
-    by (answered lines) e = rw e (r .book lines e)
-    by (refused refusal) e = absurd (refused-or-accepted _ refusal header refl (rw e at a))
+accepted-left lent (answered lines) tables header a holds = holds lines refl
+accepted-left lent (refused refusal) tables header a holds = cc
 
 -- a refusal: what was cleared is what is left
-refused-left : (lent : Lent) (text : List ℕ) (refusal : Refusal)
-    → readingOf (readBook lent text) ≡ Refused refusal → noTables lent ≡ tablesLeft lent (readBook lent text)
+refused-left : (lent : Lent) (o : Outcome (List BookLine)) (refusal : Refusal)
+    → readingOf o ≡ Refused refusal → noTables lent ≡ tablesLeft lent o
 unfolding readingOf tablesLeft
-refused-left lent text refusal a = by (readBook lent text) refl
-  where
-    by : (o : Outcome (List BookLine)) → readBook lent text ≡ o
-        → noTables lent ≡ tablesLeft lent (readBook lent text)
-    by (answered lines) e = absurd (refused-or-accepted _ refusal (headerOf lines) (rw e at a) refl)
-    by (refused other) e = rw e refl
+refused-left lent (answered lines) refusal a = cc
+refused-left lent (refused other) refusal a = refl
 
 -- reading into tables that were cleared from the lent ones
 module _ {nodes classes roots nodes₁ classes₁ roots₁ : List ℕ}
@@ -78,8 +66,8 @@ module _ {nodes classes roots nodes₁ classes₁ roots₁ : List ℕ}
         ≡ tablesLeft (lengthsOf nodes classes roots) (readBook (lengthsOf nodes classes roots) text))
     accepted-returns header k = (
       sym k ∙ read-answer,
-      accepted-left (lengthsOf nodes classes roots) text nodes₂ classes₂ roots₂ header (sym read-answer ∙ k)
-          (subst (λ (lent : Lent). Read lent text nodes₂ classes₂ roots₂) (clear-lengths c) r),
+      accepted-left (lengthsOf nodes classes roots) _ _ header (sym read-answer ∙ k)
+          (subst (λ (lent : Lent). Read lent text nodes₂ classes₂ roots₂) (clear-lengths c) r .book),
     )
 
     pub refused-returns : (refusal : Refusal) {nodes₃ classes₃ roots₃ : List ℕ} → answer ≡ Refused refusal
@@ -93,5 +81,5 @@ module _ {nodes classes roots nodes₁ classes₁ roots₁ : List ℕ}
         let same : lengthsOf nodes₂ classes₂ roots₂ ≡ lent = r .lengths ∙ clear-lengths c in (
           sym k ∙ read-answer,
           rw (d .nodes-clear, d .classes-clear, d .roots-clear) (ap noTables same)
-              ∙ refused-left lent text refusal (sym read-answer ∙ k),
+              ∙ refused-left lent _ refusal (sym read-answer ∙ k),
         )

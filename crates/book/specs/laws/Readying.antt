@@ -8,7 +8,7 @@ use lib.ListN.{length}
 use Rattle.definitions.specs.BookLines.{BookLine}
 use Rattle.definitions.specs.BookReading.{Lent}
 use Rattle.book.specs.States.{stateOf}
-use Rattle.book.specs.Steps.{lineTaken}
+use Rattle.book.specs.Steps.{bookTaken}
 use Rattle.book.specs.Taking.{Ready, Endable}
 use Rattle.book.specs.laws.Keeping.{Kept, kept-few, kept-room, kept-states}
 use Rattle.book.specs.laws.Steps.{step-next}
@@ -23,7 +23,7 @@ kept-ready lent before bytes k l =
       counts = record { lines = l; nodes = omega arith; roots = omega arith };
       room = λ next e.
           let t = step-next lent before bytes next e in
-          kept-room lent before (lineTaken bytes) k (t .unfinished) (t .fits);
+          kept-room lent before (bookTaken bytes) k (t .unfinished) (t .fits);
     }
 
 pub kept-endable : (lent : Lent) (before : List BookLine) (counts : List ℕ) → Kept lent before

@@ -1,15 +1,9 @@
 -- What a row says is what its line says, since the numbers beyond the line's are 0.
-use mathlib.Core.Path.{_≡_, ap, _∙_}
-use Prim.Native.Nat.{ℕ}
-use Rattle.definitions.specs.Lists.{_!_}
+use mathlib.Core.Path.{_≡_}
 use Rattle.definitions.specs.BookLines.{bookLine}
-use Rattle.definitions.specs.laws.SevenWords.{padded-column}
 use Rattle.lines.specs.declared.Row.{Row}
 use Rattle.lines.specs.Rows.{lineIn, rowOf}
-
-number-read : (row : Row) → row ≡ rowOf (lineIn row) → (i : ℕ) → row .numbers ! i ≡ lineIn row .numbers ! i
-unfolding rowOf
-number-read row e i = ap (λ (r : Row). r .numbers ! i) e ∙ padded-column 5 (lineIn row .numbers) i
+use Rattle.lines.specs.laws.Rows.{number-read}
 
 pub row-says : (row : Row) → row ≡ rowOf (lineIn row)
     → bookLine (lineIn row) ≡ bookLine (record { letter = row .letter; numbers = row .numbers })

@@ -7,13 +7,11 @@ use mathlib.Core.List.{List, [], _∷_, _++_, map, append-assoc, append-nil, map
 use mathlib.Core.Bool.{Bool, not, or-assoc}
 use Prim.Native.Nat.{ℕ, zero, suc, _+_, _-_, _*_, _≤_, _<_}
 use native.Mathlib.Decide.{ℕ-discrete}
-use native.Mathlib.Numerals.{add-one}
 use native.Mathlib.Omega.{arith}
 use lib.Bits.{bitOr, or-zero-r}
 use lib.Dec.{T, leb, eqb, leb→le, ltb→lt, eqb→eq}
-use lib.ListN.{length, take, drop, set, replicate, length-append, length-set, length-replicate}
-use lib.ListN.{replicate-append-replicate}
-use lib.Seq.{take-append-seam, drop-append-add, append-snoc, set-split, set-append-left, ext-getD}
+use lib.ListN.{length, set, replicate, length-append, length-set}
+use lib.Seq.{ext-getD}
 use lib.Seq.{getD-set-same, getD-set-other}
 use borrow.Author.Tests.{eq-eqb, ne-eqb}
 use Rattle.definitions.specs.declared.Header.{Header}
@@ -26,7 +24,7 @@ use Rattle.definitions.specs.BookReading.{Lent, nodeSize, bookFollows, bookInOr
 use Rattle.definitions.specs.BookReading.{bookComplete}
 use Rattle.definitions.specs.Tables.{nodeWords, phonesOfClass, classSets}
 use Rattle.definitions.specs.laws.Tests.{T-and}
-use Rattle.definitions.specs.laws.Lists.{concatMap-snoc, map-upFrom-length, map-upFrom-at, drop-cleared}
+use Rattle.definitions.specs.laws.Lists.{concatMap-snoc, map-upFrom-length, map-upFrom-at}
 use Rattle.definitions.specs.laws.Lists.{padded-length}
 use Rattle.definitions.specs.laws.Selected.{select-here, select-past, select-append}
 use Rattle.definitions.specs.laws.PhoneSets.{has-or, same-members}
@@ -36,43 +34,12 @@ use Rattle.definitions.specs.laws.Tables.{node-sized}
 use Rattle.definitions.specs.laws.Books.{Fits, roomy}
 use Rattle.tables.specs.Naming.{countsOf}
 use Rattle.tables.specs.laws.Naming.{counts-none, counts-length, counts-named, children-length}
-use Rattle.book.specs.Storing.{putAt, nodesAfter, classesAfter, rootsAfter, namesIn, countsAfter}
+use Rattle.lines.specs.Putting.{putAt}
+use Rattle.lines.specs.laws.Putting.{put-after, set-after, padded-set, padded-zeros}
+use Rattle.book.specs.Storing.{nodesAfter, classesAfter, rootsAfter, namesIn, countsAfter}
 use Rattle.book.specs.Storing.{nodesStored, classesStored, rootsStored, namesOf, countsStored}
 use Rattle.book.specs.laws.States.{header-more, node-started, test-started}
 use Rattle.book.specs.laws.Keeping.{Kept, kept-few, roots-missing}
-
--- ---- a lent table: its used words, then zeros
-
--- words that stand right after the used ones are used too
-put-after : (size : ℕ) (used words : List ℕ)
-    → putAt (length used) words (padded size used) ≡ padded size (used ++ words)
-unfolding putAt padded
-put-after size used words =
-    let rest : List ℕ = cleared (size - length used) in
-    let fewer : (size - length used) - length words ≡ size - (length used + length words) = omega arith in
-    rw (take-append-seam used rest, drop-append-add used rest, drop-cleared, length-append, fewer)
-
-set-after : (size : ℕ) (used : List ℕ) (x : ℕ) → length used < size
-    → set (padded size used) (length used) x ≡ padded size (used ++ (x ∷ []))
-unfolding putAt
-set-after size used x h =
-    let table : List ℕ = padded size used in
-    let room : length used < length table = omega (arith, padded-length size used (omega arith)) in
-    let rest : List ℕ = drop (suc (length used)) table in
-    rw (set-split table (length used) x room, ← append-snoc (take (length used) table) x rest, ← add-one)
-    (put-after size used (x ∷ []))
-
--- a used word changed
-padded-set : (size : ℕ) (used : List ℕ) (i x : ℕ) → i < length used
-    → set (padded size used) i x ≡ padded size (set used i x)
-unfolding padded
-padded-set size used i x h = rw length-set (set-append-left used (cleared (size - length used)) i x h)
-
-padded-zeros : (size count : ℕ) → count ≤ size → padded size (cleared count) ≡ cleared size
-unfolding padded
-padded-zeros size count h =
-    rw (length-replicate, replicate-append-replicate)
-    (ap (λ (k : ℕ). cleared k) {x = count + (size - count)} {y = size} (omega arith))
 
 -- ---- what each of the numbers counted up gives
 

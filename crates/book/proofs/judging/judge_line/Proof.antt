@@ -4,7 +4,8 @@ use lib.Dec.{T}
 use borrow.Author.Needs.{needs}
 use Rattle.definitions.specs.BookReading.{bookTests}
 use Rattle.definitions.specs.laws.Tests.{held, failed}
-use Rattle.book.specs.States.{testsIn, verdictOf}
+use Rattle.lines.specs.Judging.{verdictOf}
+use Rattle.book.specs.States.{testsIn}
 use Rattle.book.proofs.judging.judge_line.Statement.{statement}
 use Rattle.book.proofs.judging.judge_line.Tie as tie
 

@@ -2,7 +2,7 @@
 use native.Mathlib.Omega.{arith}
 use lib.ListN.{length-set}
 use borrow.Author.Needs.{needs}
-use Rattle.book.specs.laws.Putting.{put-five}
+use Rattle.lines.specs.laws.Putting.{put-each}
 use Rattle.book.proofs.storing.put_node.Statement.{statement}
 use Rattle.book.proofs.storing.put_node.Tie as tie
 
@@ -58,8 +58,7 @@ same-length : tie.Need-same-length
 same-length c = search needs
 
 returns : tie.Need-returns
-returns c =
-    rw (c .wide .ensures) (put-five _ _ _ _ _ _ _ (c .before .before .pre))
+returns c = rw (c .wide .ensures) (put-each _ _ _ _ (c .before .before .pre))
 
 pub put-node-spec : {M : Type 1} → statement M
 put-node-spec =

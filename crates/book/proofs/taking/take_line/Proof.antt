@@ -1,14 +1,15 @@
 -- `taking::take_line` meets its contract, by what becomes of the line.
 use mathlib.Core.Path.{_≡_, refl, sym, ap, _∙_}
-use mathlib.Core.Bool.{true, false}
+use mathlib.Core.Bool.{false}
 use borrow.Author.Tests.{not-true, not-false}
 use borrow.Author.Needs.{needs}
-use Rattle.definitions.specs.BookLines.{BookLine}
+use Rattle.lines.specs.laws.Rows.{none-parsed, some-parsed, whole-row}
+use Rattle.lines.specs.laws.Judging.{verdict-complete, verdict-misprint, verdict-line}
+use Rattle.tables.specs.Lending.{lengthsOf}
 use Rattle.book.specs.declared.Step.the-variants.{Next}
-use Rattle.book.specs.States.{completeIn, nextState}
-use Rattle.book.specs.Steps.{whereTaken}
-use Rattle.book.specs.laws.Taking.{step-complete, row-misprint, row-failed, row-passed, parsed-row}
-use Rattle.book.specs.laws.Taking.{parsed-line}
+use Rattle.book.specs.States.{completeIn}
+use Rattle.book.specs.Steps.{verdictIn, whereTaken}
+use Rattle.book.specs.laws.Taking.{step-failed, step-passed}
 use Rattle.book.proofs.taking.take_line.Statement.{statement}
 use Rattle.book.proofs.taking.take_line.Tie as tie
 
@@ -19,12 +20,18 @@ read c = c .before .before .before .before .before
 abbrev entry : tie.After-parse → tie.Start
 entry c = c .before .before .before .before .before .before .before .before
 
--- lines are missing, and this is one
+-- lines are missing
 unfinished : (c : tie.After-parse) → completeIn (entry c .args .s) ≡ false
 unfinished c = sym (c .before .before .complete .ensures) ∙ c .before .if1 .left
 
-formed : (c : tie.After-judge-line) → read c .parse .result .formed ≡ true
-formed c = not-false _ (c .before .before .before .if2 .left)
+-- the verdict on the line is what its tests gave
+verdict : (c : tie.After-judge-line) → let a = entry (read c) .args in
+    verdictIn (lengthsOf (a .nodes .now) (a .classes .now) (a .roots .now)) (a .s) (a .bytes .now)
+    ≡ c .judge-line .result
+verdict c =
+    let formed = not-false _ (c .before .before .before .if2 .left) in
+    verdict-line _ _ _ (unfinished (read c)) (some-parsed _ (read c .parse .ensures) formed)
+    ∙ sym (c .judge-line .ensures)
 
 complete-requires : tie.Need-complete-requires
 complete-requires c κs = search needs
@@ -32,8 +39,9 @@ complete-requires c κs = search needs
 returns : tie.Need-returns
 unfolding whereTaken
 returns c =
-    let step = step-complete _ _ _ (sym (c .before .complete .ensures) ∙ c .if1 .taken) in
-    (sym step, (refl, (refl, (refl, refl))))
+    let complete = sym (c .before .complete .ensures) ∙ c .if1 .taken in
+    let step = step-failed _ _ _ (verdict-complete _ _ _ complete) in
+    (step, (refl, (refl, (refl, refl))))
 
 parse-requires : tie.Need-parse-requires
 parse-requires c κs = search needs
@@ -42,12 +50,12 @@ returns-2 : tie.Need-returns-2
 unfolding whereTaken
 returns-2 c =
     let parsed = c .before .before in
-    let misprint = not-true _ (c .if2 .taken) in
-    let step = row-misprint _ _ (parsed .parse .ensures) _ _ (unfinished parsed) misprint in
+    let unformed = none-parsed _ (parsed .parse .ensures) (not-true _ (c .if2 .taken)) in
+    let step = step-failed _ _ _ (verdict-misprint _ _ _ (unfinished parsed) unformed) in
     (step, (refl, (refl, (refl, refl))))
 
 entry-of-requires : tie.Need-entry-of-requires
-entry-of-requires c κs = parsed-row _ _ (c .before .before .before .parse .ensures)
+entry-of-requires c κs = whole-row _ (c .before .before .before .parse .ensures)
 
 judge-line-requires : tie.Need-judge-line-requires
 judge-line-requires c κs = search needs
@@ -59,9 +67,7 @@ returns-3 : tie.Need-returns-3
 unfolding whereTaken
 returns-3 c =
     let judged = c .before .before .before in
-    let parsed = read judged in
-    let verdict = sym (judged .judge-line .ensures) ∙ c .before .fault .given .1 in
-    let step = row-failed _ _ (parsed .parse .ensures) _ _ (unfinished parsed) (formed judged) _ verdict in
+    let step = step-failed _ _ _ (verdict judged ∙ c .before .fault .given .1) in
     (step, (refl, (refl, (refl, refl))))
 
 enum-told : tie.Need-enum-told
@@ -72,10 +78,8 @@ store-requires c κs =
     let passed = c .before .before .before .before in
     let judged = passed .before .before in
     let parsed = read judged in
-    let verdict = sym (judged .judge-line .ensures) ∙ passed .enum-told .given .1 in
-    let step = row-passed _ _ (parsed .parse .ensures) _ _ (unfinished parsed) (formed judged) verdict in
-    let said = judged .before .entry-of .ensures ∙ parsed-line _ _ (parsed .parse .ensures) in
-    rw said (entry parsed .pre .room _ (sym step))
+    let step = step-passed _ _ _ (verdict judged ∙ passed .enum-told .given .1) in
+    rw (judged .before .entry-of .ensures, parsed .parse .ensures) (entry parsed .pre .room _ (sym step))
 
 next-state-requires : tie.Need-next-state-requires
 next-state-requires c κs = search needs
@@ -99,11 +103,9 @@ returns-4 c =
     let passed = stored .before .before .before .before .before in
     let judged = passed .before .before in
     let parsed = read judged in
-    let verdict = sym (judged .judge-line .ensures) ∙ passed .enum-told .given .1 in
-    let step = row-passed _ _ (parsed .parse .ensures) _ _ (unfinished parsed) (formed judged) verdict in
-    let line = judged .before .entry-of .ensures in
-    let next = c .next-state .ensures ∙ ap (λ (l : BookLine). nextState (entry parsed .args .s) l) line in
-    rw (← line ∙ parsed-line _ _ (parsed .parse .ensures)) (ap Next next ∙ step, stored .store .ensures)
+    let step = step-passed _ _ _ (verdict judged ∙ passed .enum-told .given .1) in
+    let said = rw (parsed .parse .ensures) at (judged .before .entry-of .ensures) in
+    rw (← said) (ap Next (c .next-state .ensures) ∙ rw said step, stored .store .ensures)
 
 pub take-line-spec : {M : Type 1} → statement M
 take-line-spec =
