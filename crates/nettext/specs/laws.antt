@@ -1,0 +1,13 @@
+-- The laws of this crate: from a line and its tests to the whole reading; writing; demand 2 of the two entries,
+-- and of every build.
+pub mod Rows
+pub mod States
+pub mod Taking
+pub mod Keeping
+pub mod Stored
+pub mod Finishing
+pub mod Reading
+pub mod Answering
+pub mod Writing
+pub mod BuiltNetworks
+pub mod RoundTrips

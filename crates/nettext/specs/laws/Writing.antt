@@ -1,0 +1,254 @@
+-- Laws about writing network text: each line of known counts and arcs fits its 32 bytes, the A lines stand one
+-- after the other, and the whole is the W line, the A lines and zeros. The proofs of the functions that write
+-- network text use them.
+use mathlib.Core.Path.{_≡_, refl, sym, ap, _∙_}
+use mathlib.Core.List.{List, [], _∷_, _++_, map, append-assoc, append-nil}
+use mathlib.Core.Bool.{Bool, true, false, _&&_}
+use Prim.Native.Nat.{ℕ, _+_, _-_, _*_, _/_, _≤_, _<_}
+use Prim.Native.Char.{code}
+use native.Mathlib.Omega.{arith}
+use lib.Dec.{T, leb, ltb, ltb→lt, lit<, lit≤}
+use lib.ListN.{length, take, drop, getD, length-drop, length-replicate, drop-of-length-le}
+use lib.Seq.{take-at, drop-at, take-all, length-take-le, getD-take, getD-drop}
+use borrow.Author.Tests.{le-leb, lt-leb, leb-true, leb-false}
+use borrow.Rule.Slice.PartMut.{putMid}
+use Rattle.definitions.specs.declared.Counts.{Counts}
+use Rattle.definitions.specs.declared.Fault.{Fault}
+use Rattle.definitions.specs.declared.Fault.the-variants.{Foreign, Short}
+use Rattle.definitions.specs.Lists.{if_then_else_, _!_, every, concatMap, records, cleared, padded}
+use Rattle.definitions.specs.Faults.{refuse, judge, answerLeft}
+use Rattle.definitions.specs.Lines.{Line, lineText}
+use Rattle.definitions.specs.Arcs.{Arc, arcSize, arcWords, arcOf, arcsIn}
+use Rattle.definitions.specs.NetworkText.{arcKnown, networkKnown, lineOfCounts, lineOfArc}
+use Rattle.definitions.specs.NetworkText.{networkText, writeNetwork}
+use Rattle.definitions.specs.laws.Tests.{T-and, by-test, every-at}
+use Rattle.definitions.specs.laws.Lists.{map-at, drop-cleared}
+use Rattle.definitions.specs.laws.Members.{isIn, in-every, every-weaker}
+use Rattle.definitions.specs.laws.Records.{record-at, written-length, written-records}
+use Rattle.definitions.specs.laws.LineFields.{allFit}
+use Rattle.definitions.specs.laws.Lines.{line-length}
+use Rattle.definitions.specs.laws.NetworkLines.{countsRanged, counts-fit, arc-fit, known-ranged}
+use Rattle.definitions.specs.laws.NetworkTexts.{arcText}
+use Rattle.definitions.specs.laws.NetworkKnown.{arcs-length, known-parts}
+use Rattle.definitions.specs.laws.RoundTrips.{text-length, known-written}
+use Rattle.lines.specs.Rows.{lineIn, writable, written}
+use Rattle.lines.specs.laws.Rows.{isSmall}
+use Rattle.lines.specs.declared.Row.{Row}
+use Rattle.network.specs.laws.KnownArcs.{allArcs, arcAt, arc-at, source-at, known-arcs, known-taken}
+use Rattle.nettext.specs.Answers.{writtenOf}
+use Rattle.nettext.specs.Writing.{arcInRange}
+use Rattle.nettext.specs.declared.Written.{Written}
+use Rattle.nettext.specs.declared.Written.the-variants.{Bytes, Refused}
+
+-- ---- lines that fit
+
+-- a line with a field left over, whose numbers have room in theirs
+record Fits (line : Line) : Type 0 where
+  few : length (line .numbers) ≤ 4
+  room : T (allFit (line .numbers))
+
+counts-fits : (counts : Counts) → T (countsRanged counts) → Fits (lineOfCounts counts)
+unfolding lineOfCounts
+counts-fits counts h = record { few = lit≤ tt; room = counts-fit counts h }
+
+arc-fits : (a : Arc) → T (arcInRange a) → Fits (lineOfArc a)
+unfolding lineOfArc arcWords
+arc-fits a h = record { few = lit≤ tt; room = arc-fit a h }
+
+fits-length : {line : Line} → Fits line → length (lineText line) ≡ 32
+fits-length {line} f = line-length line (omega (arith, f .few)) (f .room)
+
+-- ---- one line written
+
+fit-small : (numbers : List ℕ) → T (allFit numbers) → every isSmall numbers ≡ true
+unfolding every
+fit-small [] h = refl
+fit-small (n ∷ numbers) h =
+    let (first, others) = T-and (ltb n 1000000) (allFit numbers) .0 h in
+    rw (le-leb n 999999 (omega (arith, ltb→lt n 1000000 first))) (fit-small numbers others)
+
+-- a row that holds at most four numbers uses none but its own
+row-used : (row : Row) → length (row .numbers) ≡ 5 → length (lineIn row .numbers) ≤ 4 → row .used ≤ 5
+unfolding lineIn
+row-used row five few =
+    by-test (leb (row .used) 5) (leb-true (row .used) 5)
+    (λ e. let more : 5 < row .used = leb-false (row .used) 5 e in
+    let all = take-all (row .used) (row .numbers) (omega arith) in absurd (omega (arith, ap length all)))
+
+row-writable : (row : Row) (line : Line) → length (row .numbers) ≡ 5 → lineIn row ≡ line → Fits line
+    → writable row ≡ true
+unfolding writable
+row-writable row line five e f =
+    let used : row .used ≤ 5 = row-used row five (rw e (f .few)) in
+    rw (le-leb (row .used) 5 used, e) (fit-small (line .numbers) (f .room))
+
+-- what writing a row into bytes answers and leaves
+abbrev pub LineLeft : Row → (bytes : List ℕ) → (done : Bool) → (after : List ℕ) → Type 0
+LineLeft row bytes done after =
+    (done ≡ (leb 32 (length bytes) && writable row)) × (after ≡ (if done then written row bytes else bytes))
+
+-- a row that holds a line that fits is written
+line-written : (row : Row) (line : Line) (bytes after : List ℕ) {done : Bool}
+    → length (row .numbers) ≡ 5 → lineIn row ≡ line → Fits line → 32 ≤ length bytes
+    → LineLeft row bytes done after → after ≡ lineText line ++ drop 32 bytes
+unfolding written
+line-written row line bytes after five e f room (answer, leaves) =
+    leaves ∙ rw (answer, le-leb 32 (length bytes) room, row-writable row line five e f, e)
+
+-- ---- the A line of an arc
+
+word-at : (words : List ℕ) (i k : ℕ) → k < arcSize
+    → take arcSize (drop (arcSize * i) words) ! k ≡ words ! (arcSize * i + k)
+word-at words i k h = getD-take arcSize (drop (arcSize * i) words) k 0 h ∙ getD-drop (arcSize * i) words k 0
+
+pub arc-line : (words : List ℕ) (i : ℕ)
+    → record {
+      letter = code "A";
+      numbers =
+          words ! (arcSize * i) ∷ words ! (arcSize * i + 1) ∷ words ! (arcSize * i + 2)
+          ∷ words ! (arcSize * i + 3) ∷ [];
+    }
+    ≡ lineOfArc (arcAt words i)
+unfolding lineOfArc arcWords arcOf
+arc-line words i =
+    rw (
+      source-at words i,
+      word-at words i 1 (lit< tt),
+      word-at words i 2 (lit< tt),
+      word-at words i 3 (lit< tt),
+    )
+
+-- ---- the A lines of arcs
+
+abbrev pub arcsText : List Arc → List ℕ
+arcsText arcs = concatMap (λ a. lineText (lineOfArc a)) arcs
+
+text-sized : (arcs : List Arc) → T (every arcInRange arcs) → (a : Arc) → isIn a arcs → length (arcText a) ≡ 32
+text-sized arcs h a i = fits-length (arc-fits a (in-every arcInRange arcs h a i))
+
+pub texts-length : (arcs : List Arc) → T (every arcInRange arcs) → length (arcsText arcs) ≡ 32 * length arcs
+texts-length arcs h = written-length arcText 32 arcs (text-sized arcs h)
+
+texts-apart : (arcs : List Arc) → T (every arcInRange arcs)
+    → records 32 (length arcs) (arcsText arcs) ≡ map arcText arcs
+texts-apart arcs h = rw append-nil at (written-records arcText 32 arcs (text-sized arcs h) [])
+
+-- the line of the arc at a place
+text-at : (count : ℕ) (words : List ℕ) (i : ℕ) → T (every arcInRange (arcsIn count words)) → i < count
+    → arcText (arcAt words i) ≡ take 32 (drop (32 * i) (arcsText (arcsIn count words)))
+text-at count words i h l =
+    let arcs : List Arc = arcsIn count words in
+    let many : length arcs ≡ count = arcs-length count words in
+    let within : i < length arcs = rw many l in
+    rw (← arc-at count words i l)
+    (sym (map-at arcText arcs (arcOf []) [] i within)
+    ∙ ap (λ (texts : List (List ℕ)). getD texts i []) (sym (texts-apart arcs h))
+    ∙ record-at 32 (length arcs) (arcsText arcs) i within)
+
+-- where 32 bytes were lent for it, they are its line
+pub arc-written : (words : List ℕ) (i : ℕ) (row : Row) (lent part : List ℕ) {done : Bool}
+    → T (every arcInRange (allArcs words)) → i < length words / arcSize
+    → length (row .numbers) ≡ 5 → lineIn row ≡ lineOfArc (arcAt words i) → length lent ≡ 32
+    → LineLeft row lent done part → part ≡ take 32 (drop (32 * i) (arcsText (allArcs words)))
+arc-written words i row lent part h l five e size left =
+    let count : ℕ = length words / arcSize in
+    let passes = every-at arcInRange (allArcs words) (arcOf []) h i (rw (arcs-length count words) l) in
+    let own : T (arcInRange (arcAt words i)) = rw (arc-at count words i l) at passes in
+    line-written row (lineOfArc (arcAt words i)) lent part five e (arc-fits _ own) (omega arith) left
+    ∙ rw (drop-of-length-le lent {i = 32} (omega arith), append-nil) (text-at count words i h l)
+
+-- ---- known counts and arcs
+
+module _ (counts : Counts) (words : List ℕ) (known : networkKnown counts words ≡ true) where
+  held : T (networkKnown counts words)
+  held = rw known tt
+
+  counts-line : Fits (lineOfCounts counts)
+  counts-line = counts-fits counts (known-parts counts words .0 held .0)
+
+  -- the W line in a cleared buffer
+  pub counts-written : (size : ℕ) (zeros first : List ℕ) (row : Row) {done : Bool} → 32 ≤ size
+      → zeros ≡ cleared size → length (row .numbers) ≡ 5 → lineIn row ≡ lineOfCounts counts
+      → LineLeft row zeros done first → first ≡ lineText (lineOfCounts counts) ++ cleared (size - 32)
+  counts-written size zeros first row h z five e left =
+      let room : 32 ≤ length zeros = rw (z, length-replicate) h in
+      line-written row (lineOfCounts counts) zeros first five e counts-line room left ∙ rw (z, drop-cleared)
+
+  module _ {count : ℕ} (e : count ≡ counts .arcs) where
+    -- what is lent for the A lines: the words of the arcs, and the bytes after the W line
+    pub lent-ready : (text : List ℕ) → 32 + 32 * count ≤ length text
+        → T (every arcInRange (allArcs (take (arcSize * count) words)))
+        × (length (take (32 + 32 * count - 32) (drop 32 text))
+        ≡ 32 * (length (take (arcSize * count) words) / arcSize))
+    unfolding arcWords
+    lent-ready text h =
+        let arcs-known = known-parts counts words .0 held .2 in
+        let size = length-take-le (32 + 32 * count - 32) (drop 32 text) (rw length-drop (omega arith)) in (
+          rw (known-arcs counts words e known)
+              (every-weaker (arcKnown counts) arcInRange (known-ranged counts) _ arcs-known),
+          size ∙ omega (arith, known-taken counts words e known),
+        )
+
+    -- they came back written
+    arcs-put : {size : ℕ} (first part : List ℕ) → 32 + 32 * count ≤ size
+        → first ≡ lineText (lineOfCounts counts) ++ cleared (size - 32)
+        → part ≡ arcsText (allArcs (take (arcSize * count) words))
+        → putMid 32 (32 + 32 * count - 32) first part
+        ≡ padded size (networkText counts (arcsIn (counts .arcs) words))
+    unfolding networkText padded
+    arcs-put {size} first part h f p =
+        let line : List ℕ = lineText (lineOfCounts counts) in
+        let long : length line ≡ 32 = fits-length counts-line in
+        let rest : size - 32 - (32 + 32 * count - 32) ≡ size - (32 + 32 * counts .arcs) = omega arith in
+        rw (
+          f,
+          p,
+          known-arcs counts words e known,
+          take-at line (cleared (size - 32)) 32 long,
+          drop-at line (cleared (size - 32)) 32 long,
+          drop-cleared,
+          rest,
+          ← text-length counts words held,
+        ) (sym (append-assoc line _ _))
+
+-- ---- what writing answers and leaves
+
+abbrev pub TextLeft : Counts → (words : List ℕ) → (size : ℕ) → Written → (after : List ℕ) → Type 0
+TextLeft counts words size answer after =
+    (answer ≡ writtenOf (writeNetwork counts words size))
+    × (after ≡ answerLeft size (writeNetwork counts words size))
+
+abbrev pub refusal : Fault → Written
+refusal fault = Refused (record { fault = fault; line = 0 })
+
+module _ (counts : Counts) (words : List ℕ) (size : ℕ) where
+  module _ {answer : Written} {after : List ℕ} where
+    refused-by : (fault : Fault) → writeNetwork counts words size ≡ refuse fault 0
+        → answer ≡ refusal fault → after ≡ cleared size → TextLeft counts words size answer after
+    unfolding writtenOf answerLeft
+    refused-by fault e a z = (a ∙ rw (e, writtenOf), z ∙ rw (e, answerLeft))
+
+    pub write-foreign : networkKnown counts words ≡ false
+        → answer ≡ refusal Foreign → after ≡ cleared size → TextLeft counts words size answer after
+    unfolding writeNetwork judge
+    write-foreign k = refused-by Foreign (rw k)
+
+    pub write-short : networkKnown counts words ≡ true
+        → {count : ℕ} → count ≡ counts .arcs → size < 32 + 32 * count
+        → answer ≡ refusal Short → after ≡ cleared size → TextLeft counts words size answer after
+    unfolding writeNetwork judge
+    write-short k e l =
+        let long : size < 32 + 32 * counts .arcs = omega arith in
+        refused-by Short (rw (k, text-length counts words (rw k tt), lt-leb (32 + 32 * counts .arcs) size long))
+
+  pub write-done : networkKnown counts words ≡ true
+      → {count : ℕ} → count ≡ counts .arcs → 32 + 32 * count ≤ size
+      → (first part : List ℕ) → first ≡ lineText (lineOfCounts counts) ++ cleared (size - 32)
+      → part ≡ arcsText (allArcs (take (arcSize * count) words))
+      → TextLeft counts words size (Bytes (32 + 32 * count)) (putMid 32 (32 + 32 * count - 32) first part)
+  unfolding writtenOf answerLeft
+  write-done k {count} e l first part f p =
+      let said = known-written counts words size (rw k tt) (omega arith) in
+      let long : 32 + 32 * count ≡ length (networkText counts (arcsIn (counts .arcs) words)) =
+      rw e (sym (text-length counts words (rw k tt))) in
+      (ap Bytes long ∙ rw (said, writtenOf), arcs-put counts words k e first part l f p ∙ rw (said, answerLeft))
