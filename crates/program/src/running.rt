@@ -1,0 +1,117 @@
+// The program's work: a book's network text, or the line of its refusal.
+use crate::Output;
+use builder::building::build_book;
+use definitions::Counts;
+use definitions::Fault;
+use definitions::Refusal;
+use definitions::number;
+use lines::Row;
+use lines::writing::write as write_line;
+use nettext::Written;
+use nettext::writer::write as write_network;
+use network::Build;
+ghost use mathlib.Core.Path.{_≡_};
+ghost use Prim.Native.Nat.{_*_, _≤_};
+ghost use lib.Dec.{T};
+ghost use lib.ListN.{length, take};
+ghost use Rattle.definitions.specs.Arcs.{arcSize};
+ghost use Rattle.definitions.specs.NetworkText.{networkKnown};
+ghost use Rattle.definitions.specs.Program.{refusalText, program};
+ghost use Rattle.program.specs.Demand.{MeetsDemand3};
+ghost use Rattle.program.specs.Printing.{outputSize, Empty, Prints, textIn, bookText};
+
+// One line X with number and line.
+fn print_refusal(refusal: Refusal, output: &mut [u8]) -> usize
+    requires { ⌜ (refusal .line ≤ 999999) × Empty (now output) ⌝ }
+    ensures { λ r. ⌜ Prints (refusalText refusal) (now (output .exit)) r ⌝ }
+{
+    let fault = refusal.fault;
+    let row = Row {
+        letter: b'X',
+        used: 2,
+        numbers: [number(fault), refusal.line as u32, 0, 0, 0],
+    };
+    write_line(row, output);
+    32
+}
+
+// The text of a network that was built.
+fn print_network(counts: Counts, arcs: &[u32], output: &mut [u8]) -> usize
+    requires { ⌜
+        T (networkKnown counts (now arcs)) × (length (now arcs) ≡ arcSize * 2000) × Empty (now output)
+        ⌝ }
+    ensures { λ r. ⌜ Prints (textIn counts (now (arcs .entry))) (now (output .exit)) r ⌝ }
+{
+    match write_network(counts, arcs, output) {
+        Written::Bytes(length) => {
+            return length;
+        }
+        Written::Refused(_) => {
+            return 0;
+        }
+    }
+}
+
+// The network of a book, built in the program's space and turns.
+fn print_built(text: &[u8], output: &mut [u8]) -> usize
+    requires { ⌜ (length (now text) ≤ 65536) × Empty (now output) ⌝ }
+    ensures { λ r. ⌜ Prints (bookText (now (text .entry))) (now (output .exit)) r ⌝ }
+{
+    let mut nodes = [0u32; 5120];
+    let mut classes = [0u64; 255];
+    let mut roots = [0u32; 192];
+    let mut combinations = [0u64; 5632];
+    let mut metastates = [0u64; 4096];
+    let mut arcs = [0u32; 8000];
+    let answer = build_book(
+        text,
+        &mut nodes,
+        &mut classes,
+        &mut roots,
+        &mut combinations,
+        &mut metastates,
+        &mut arcs,
+        512,
+    );
+    match answer {
+        Build::Finished(totals) => {
+            let counts = totals.counts;
+            return print_network(counts, &arcs, output);
+        }
+        Build::Stopped(totals) => {
+            let counts = totals.counts;
+            return print_network(counts, &arcs, output);
+        }
+        Build::Refused(refusal) => {
+            return print_refusal(refusal, output);
+        }
+    }
+}
+
+// 22 before all others, for an input of more than 65536 bytes.
+fn print_all(input: &[u8], output: &mut [u8]) -> usize
+    requires { ⌜ Empty (now output) ⌝ }
+    ensures { λ r. ⌜ Prints (program (now (input .entry))) (now (output .exit)) r ⌝ }
+{
+    if input.len() > 65536 {
+        return print_refusal(
+            Refusal {
+                fault: Fault::Long,
+                line: 0,
+            },
+            output,
+        );
+    }
+    print_built(input, output)
+}
+
+// What the program prints for an input.
+pub fn run(input: &[u8]) -> Output
+    ensures prints { λ r. ⌜ Prints (program (now (input .entry))) (r .bytes) (r .length) ⌝ }
+    ensures demand { λ r. ⌜ MeetsDemand3 (now (input .entry)) (take (r .length) (r .bytes)) ⌝ }
+    ensures fits { λ r. ⌜ (outputSize ≡ length (r .bytes)) × (r .length ≤ outputSize) ⌝ }
+{
+    let mut bytes = [0u8; 64032];
+    let length = print_all(input, &mut bytes);
+    Output { bytes, length }
+}
