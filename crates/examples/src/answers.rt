@@ -1,22 +1,12 @@
 // What an entry answered, in words.
-use crate::printing::print;
-use crate::printing::print_number;
-use crate::printing::print_word;
-use crate::printing::print_words;
-use crate::printing::used_sets;
-use crate::printing::used_words;
-use definitions::Refusal;
-use definitions::number;
+use showing::comparing::used_sets;
+use showing::comparing::used_words;
+use showing::printing::print;
+use showing::printing::print_number;
+use showing::printing::print_refusal;
+use showing::printing::print_words;
 use trees::Lookup;
 use trees::Transcript;
-
-// A refusal's number and line.
-pub fn print_refusal(refusal: Refusal) {
-    let fault = refusal.fault;
-    print_word(number(fault));
-    print(b" at line");
-    print_number(refusal.line as u64);
-}
 
 // Whether a refusal left the tables cleared.
 pub fn print_cleared(nodes: &[u32], classes: &[u64], roots: &[u32]) {

@@ -1,16 +1,16 @@
 // One book: what reading answers and leaves, and then its trees and its network.
 use crate::answers::print_cleared;
-use crate::answers::print_refusal;
 use crate::networks::show_whole;
-use crate::printing::print;
-use crate::printing::print_number;
-use crate::printing::print_sets;
-use crate::printing::print_words;
 use crate::sequences::show_trees;
 use crate::strangers::show_foreign;
 use book::Reading;
 use book::reader::read;
 use definitions::Header;
+use showing::printing::print;
+use showing::printing::print_number;
+use showing::printing::print_refusal;
+use showing::printing::print_sets;
+use showing::printing::print_words;
 
 fn print_header(header: Header) {
     print(b"  header");

@@ -1,17 +1,17 @@
 // A book read and its network built into space of several sizes; what is left in it, and the arcs that leave the first states.
 use crate::answers::print_cleared;
-use crate::answers::print_refusal;
-use crate::printing::print;
-use crate::printing::print_number;
-use crate::printing::print_used_sets;
-use crate::printing::print_used_words;
-use crate::printing::print_word;
-use crate::printing::print_words;
 use builder::building::build_book;
 use definitions::Counts;
 use network::Build;
 use network::Totals;
 use network::leaving::leaving;
+use showing::printing::print;
+use showing::printing::print_number;
+use showing::printing::print_refusal;
+use showing::printing::print_used_sets;
+use showing::printing::print_used_words;
+use showing::printing::print_word;
+use showing::printing::print_words;
 
 // The turns done, and the counts.
 fn print_totals(word: &[u8], totals: Totals) {

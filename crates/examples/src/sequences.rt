@@ -2,10 +2,10 @@
 use crate::answers::print_lookup;
 use crate::answers::print_phones;
 use crate::answers::print_transcript;
-use crate::printing::print;
-use crate::printing::print_number;
-use crate::printing::print_words;
 use definitions::Header;
+use showing::printing::print;
+use showing::printing::print_number;
+use showing::printing::print_words;
 use trees::leaves::leaf_of;
 use trees::transcription::transcribe;
 

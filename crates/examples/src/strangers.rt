@@ -1,8 +1,8 @@
 // Tables that reading never leaves: a book's tables with one number of the header or one word changed, or cut short.
 use crate::answers::print_lookup;
 use crate::answers::print_transcript;
-use crate::printing::print;
 use definitions::Header;
+use showing::printing::print;
 use trees::leaves::leaf_of;
 use trees::transcription::transcribe;
 

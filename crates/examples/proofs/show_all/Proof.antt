@@ -14,53 +14,38 @@ abbrev μ-loop : tie.MeasureT-loop
 loop-holds : tie.Need-loop-holds Inv-loop μ-loop
 loop-holds c = search needs
 
-find-requires : tie.Need-find-requires Inv-loop μ-loop
-find-requires c κs = search needs
+sub-rest : tie.Need-sub-rest Inv-loop μ-loop
+sub-rest c = search needs
 
-find-requires-2 : tie.Need-find-requires-2 Inv-loop μ-loop
-find-requires-2 c κs = search needs
+part-rest-start : tie.Need-part-rest-start Inv-loop μ-loop
+part-rest-start c = search needs
 
-sub-show-case : tie.Need-sub-show-case Inv-loop μ-loop
-sub-show-case c = search needs
+part-rest-end : tie.Need-part-rest-end Inv-loop μ-loop
+part-rest-end c = search needs
 
-part-show-case-start : tie.Need-part-show-case-start Inv-loop μ-loop
-part-show-case-start c = search needs
+title-of-requires : tie.Need-title-of-requires Inv-loop μ-loop
+title-of-requires c κs = search needs
 
-part-show-case-end : tie.Need-part-show-case-end Inv-loop μ-loop
-part-show-case-end c = search needs
-
-add-show-case : tie.Need-add-show-case Inv-loop μ-loop
-add-show-case c = search needs
-
-sub-show-case-2 : tie.Need-sub-show-case-2 Inv-loop μ-loop
-sub-show-case-2 c = search needs
-
-part-show-case-start-2 : tie.Need-part-show-case-start-2 Inv-loop μ-loop
-part-show-case-start-2 c = search needs
-
-part-show-case-end-2 : tie.Need-part-show-case-end-2 Inv-loop μ-loop
-part-show-case-end-2 c = search needs
+text-of-requires : tie.Need-text-of-requires Inv-loop μ-loop
+text-of-requires c κs = search needs
 
 show-case-requires : tie.Need-show-case-requires Inv-loop μ-loop
 show-case-requires c κs = search needs
 
-add-show-sizes : tie.Need-add-show-sizes Inv-loop μ-loop
-add-show-sizes c = search needs
-
-sub-show-sizes : tie.Need-sub-show-sizes Inv-loop μ-loop
-sub-show-sizes c = search needs
-
-part-show-sizes-start : tie.Need-part-show-sizes-start Inv-loop μ-loop
-part-show-sizes-start c = search needs
-
-part-show-sizes-end : tie.Need-part-show-sizes-end Inv-loop μ-loop
-part-show-sizes-end c = search needs
+text-of-requires-2 : tie.Need-text-of-requires-2 Inv-loop μ-loop
+text-of-requires-2 c κs = search needs
 
 show-sizes-requires : tie.Need-show-sizes-requires Inv-loop μ-loop
 show-sizes-requires c κs = search needs
 
+end-of-requires : tie.Need-end-of-requires Inv-loop μ-loop
+end-of-requires c κs = search needs
+
 add-at : tie.Need-add-at Inv-loop μ-loop
 add-at c = search needs
+
+add-at-2 : tie.Need-add-at-2 Inv-loop μ-loop
+add-at-2 c = search needs
 
 loop-less : tie.Need-loop-less Inv-loop μ-loop
 loop-less c = search needs
@@ -78,22 +63,17 @@ show-all-spec =
     Inv-loop
     μ-loop
     loop-holds
-    find-requires
-    find-requires-2
-    sub-show-case
-    part-show-case-start
-    part-show-case-end
-    add-show-case
-    sub-show-case-2
-    part-show-case-start-2
-    part-show-case-end-2
+    sub-rest
+    part-rest-start
+    part-rest-end
+    title-of-requires
+    text-of-requires
     show-case-requires
-    add-show-sizes
-    sub-show-sizes
-    part-show-sizes-start
-    part-show-sizes-end
+    text-of-requires-2
     show-sizes-requires
+    end-of-requires
     add-at
+    add-at-2
     loop-less
     loop-again
     returns)

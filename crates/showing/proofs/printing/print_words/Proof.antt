@@ -2,8 +2,8 @@
 use Prim.Native.Nat.{_-_, _≤_}
 use lib.ListN.{length}
 use borrow.Author.Needs.{needs}
-use Rattle.examples.proofs.printing.print_words.Statement.{statement}
-use Rattle.examples.proofs.printing.print_words.Tie as tie
+use Rattle.showing.proofs.printing.print_words.Statement.{statement}
+use Rattle.showing.proofs.printing.print_words.Tie as tie
 
 abbrev Inv-loop : tie.InvT-loop
 Inv-loop words i₀ i = i ≤ length words

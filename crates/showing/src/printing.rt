@@ -1,6 +1,8 @@
-// Words and numbers on standard output.
-ghost use Prim.Native.Nat.{_≤_};
-ghost use lib.ListN.{length};
+// Words, numbers and refusals on standard output.
+use crate::comparing::used_sets;
+use crate::comparing::used_words;
+use definitions::Refusal;
+use definitions::number;
 
 pub fn print(text: &[u8]) {
     io::write_all(1, text);
@@ -31,33 +33,6 @@ pub fn print_sets(sets: &[u64]) {
     }
 }
 
-// How many words come before the zeros at the end: none where all are cleared.
-pub fn used_words(words: &[u32]) -> usize
-    ensures { λ r. ⌜ r ≤ length (now (words .entry)) ⌝ }
-{
-    let mut used = words.len();
-    while 0 < used {
-        if words[used - 1] != 0 {
-            return used;
-        }
-        used -= 1;
-    }
-    used
-}
-
-pub fn used_sets(sets: &[u64]) -> usize
-    ensures { λ r. ⌜ r ≤ length (now (sets .entry)) ⌝ }
-{
-    let mut used = sets.len();
-    while 0 < used {
-        if sets[used - 1] != 0 {
-            return used;
-        }
-        used -= 1;
-    }
-    used
-}
-
 // The words up to the last that is not 0, and how many are after it.
 pub fn print_used_words(words: &[u32]) {
     let used = used_words(words);
@@ -73,4 +48,12 @@ pub fn print_used_sets(sets: &[u64]) {
     print(b", then 0 to the end:");
     print_number((sets.len() - used) as u64);
     print(b"\n");
+}
+
+// A refusal's number and line.
+pub fn print_refusal(refusal: Refusal) {
+    let fault = refusal.fault;
+    print_word(number(fault));
+    print(b" at line");
+    print_number(refusal.line as u64);
 }
