@@ -3,7 +3,6 @@ use mathlib.Core.List.{List, [], _∷_}
 use Prim.Native.Nat.{ℕ, _+_, _-_, _*_, _≤_, _<_}
 use lib.Bits.{bitOr}
 use lib.ListN.{set}
-use Rattle.definitions.specs.declared.Node.{Node}
 use Rattle.definitions.specs.Lists.{_!_, concatMap, padded}
 use Rattle.definitions.specs.PhoneSets.{alone}
 use Rattle.definitions.specs.BookLines.{BookLine, H, Q, N, L, R, question, leaf, headerOf, membersOf}
@@ -12,10 +11,6 @@ use Rattle.definitions.specs.BookReading.{Lent, nodeSize}
 use Rattle.definitions.specs.Tables.{nodeWords, classSets}
 use Rattle.lines.specs.Putting.{putAt}
 use Rattle.tables.specs.Naming.{allNames, countsOf, namedAll}
-
--- the five words of a record
-abbrev pub recordWords : Node → List ℕ
-recordWords node = node .kind ∷ node .value ∷ node .position ∷ node .yes ∷ node .no ∷ []
 
 -- the table of nodes after a line
 unfoldable pub nodesAfter : BookLine → List ℕ → List ℕ

@@ -5,6 +5,7 @@ use crate::Lengths;
 use crate::State;
 use definitions::Fault;
 use definitions::Header;
+use definitions::NODE_SIZE;
 use definitions::wide;
 use lines::Letters;
 use lines::Row;
@@ -169,7 +170,7 @@ fn children_greater(entry: Entry) -> bool
 fn wide_enough(lengths: Lengths, header: Header) -> bool
     ensures { λ r. ⌜ r ≡ wideEnough (lentOf lengths) header ⌝ }
 {
-    if lengths.nodes < 5 * wide(header.nodes) {
+    if lengths.nodes < NODE_SIZE * wide(header.nodes) {
         return false;
     }
     if lengths.classes < wide(header.classes) {

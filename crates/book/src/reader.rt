@@ -7,7 +7,7 @@ use crate::taking::finish;
 use crate::taking::take_line;
 use definitions::Fault;
 use definitions::Refusal;
-use lines::clearing::clear_sets;
+use lines::clearing::clear_wide_words;
 use lines::clearing::clear_words;
 use lines::texts::whole_lines;
 ghost use mathlib.Core.Path.{_≡_};
@@ -63,7 +63,7 @@ fn clear_tables(nodes: &mut [u32], classes: &mut [u64], roots: &mut [u32])
         ⌝ }
 {
     clear_words(nodes);
-    clear_sets(classes);
+    clear_wide_words(classes);
     clear_words(roots);
 }
 

@@ -1,6 +1,7 @@
 // A line's words put into the lent tables, and its names counted.
 use crate::Entry;
 use crate::State;
+use definitions::NODE_SIZE;
 use definitions::Node;
 use definitions::wide;
 use tables::naming::name_node;
@@ -11,10 +12,10 @@ ghost use lib.ListN.{length, set};
 ghost use Rattle.definitions.specs.Lists.{_!_};
 ghost use Rattle.definitions.specs.BookLines.{question, leaf};
 ghost use Rattle.definitions.specs.PhoneSets.{alone};
-ghost use Rattle.definitions.specs.Tables.{nodeWords};
+ghost use Rattle.definitions.specs.Tables.{nodeWords, recordWords};
 ghost use Rattle.book.specs.Entries.{entryLine};
 ghost use Rattle.lines.specs.Putting.{putAt};
-ghost use Rattle.book.specs.Storing.{HasRoom, recordWords};
+ghost use Rattle.book.specs.Storing.{HasRoom};
 ghost use Rattle.book.specs.Storing.{nodesAfter, classesAfter, rootsAfter, countsAfter};
 
 // The record of a question.
@@ -48,7 +49,7 @@ fn put_node(words: &mut [u32], number: u32, node: Node)
     requires { ⌜ 5 * number + 5 ≤ length (now words) ⌝ }
     ensures { λ r. ⌜ now (words .exit) ≡ putAt (5 * number) (recordWords node) (now (words .entry)) ⌝ }
 {
-    let at = 5 * wide(number);
+    let at = NODE_SIZE * wide(number);
     words[at] = node.kind;
     words[at + 1] = node.value;
     words[at + 2] = node.position;

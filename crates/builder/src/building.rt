@@ -3,16 +3,15 @@
 use book::Reading;
 use book::reader::read;
 use definitions::Header;
-use lines::clearing::clear_sets;
+use lines::clearing::clear_wide_words;
 use lines::clearing::clear_words;
 use network::Build;
 use network::building::build;
 ghost use mathlib.Core.Path.{_≡_};
 ghost use Rattle.definitions.specs.BookBuilding.{buildBook, tablesAfter, buffersAfter};
-ghost use Rattle.definitions.specs.Building.{build, buffersLeft};
-ghost use Rattle.definitions.specs.Tables.{tablesBook};
+ghost use Rattle.definitions.specs.Building.{build};
 ghost use Rattle.tables.specs.Lending.{lengthsOf, lentTables};
-ghost use Rattle.network.specs.Answers.{buildOf, lentSpace, lentBuffers};
+ghost use Rattle.network.specs.Answers.{lentSpace, lentBuffers, buildAnswer, buildLeft};
 ghost use Rattle.builder.specs.Answers.{bookAnswer, MeetsDemand3};
 ghost use Rattle.builder.specs.Tables.{tablesKept};
 
@@ -28,9 +27,8 @@ fn build_read(
     limit: u32,
 ) -> Build
     ensures answer { λ r. ⌜
-        r ≡ buildOf (header .states) (build header
-        (lentTables (now (nodes .entry)) (now (classes .entry)) (now (roots .entry)))
-        (lentSpace (now (combinations .entry)) (now (metastates .entry)) (now (arcs .entry))) limit)
+        r ≡ buildAnswer header (lentTables (now (nodes .entry)) (now (classes .entry)) (now (roots .entry)))
+        (lentSpace (now (combinations .entry)) (now (metastates .entry)) (now (arcs .entry))) limit
         ⌝ }
     ensures tables { λ r. ⌜
         lentTables (now (nodes .exit)) (now (classes .exit)) (now (roots .exit))
@@ -41,12 +39,8 @@ fn build_read(
         ⌝ }
     ensures leaves { λ r. ⌜
         lentBuffers (now (combinations .exit)) (now (metastates .exit)) (now (arcs .exit))
-        ≡ buffersLeft (tablesBook header
-        (lentTables (now (nodes .entry)) (now (classes .entry)) (now (roots .entry))))
-        (lentSpace (now (combinations .entry)) (now (metastates .entry)) (now (arcs .entry)))
-        (build header
-        (lentTables (now (nodes .entry)) (now (classes .entry)) (now (roots .entry)))
-        (lentSpace (now (combinations .entry)) (now (metastates .entry)) (now (arcs .entry))) limit)
+        ≡ buildLeft header (lentTables (now (nodes .entry)) (now (classes .entry)) (now (roots .entry)))
+        (lentSpace (now (combinations .entry)) (now (metastates .entry)) (now (arcs .entry))) limit
         ⌝ }
 {
     let answer = build(
@@ -68,7 +62,7 @@ fn build_read(
         }
         Build::Refused(refusal) => {
             clear_words(nodes);
-            clear_sets(classes);
+            clear_wide_words(classes);
             clear_words(roots);
             return Build::Refused(refusal);
         }
@@ -127,8 +121,8 @@ pub fn build_book(
             );
         }
         Reading::Refused(refusal) => {
-            clear_sets(combinations);
-            clear_sets(metastates);
+            clear_wide_words(combinations);
+            clear_wide_words(metastates);
             clear_words(arcs);
             return Build::Refused(refusal);
         }

@@ -11,7 +11,7 @@ use Rattle.definitions.specs.Faults.{Outcome, answered, refused, _unless
 use Rattle.definitions.specs.Lists.{if_then_else_, _!_, concatMap, upFrom, cleared, padded}
 use Rattle.definitions.specs.Matrices.{Matrix, matrixWords, rootMatrix, yesSide, noSide, valid, meet}
 use Rattle.definitions.specs.BookLines.{question, leaf}
-use Rattle.definitions.specs.Tables.{Book, Tables, tablesBook}
+use Rattle.definitions.specs.Tables.{Book, rootOf, Tables, tablesBook}
 use Rattle.definitions.specs.ForeignTables.{tablesKnown}
 use Rattle.definitions.specs.Lookup.{nodeAt}
 
@@ -44,10 +44,6 @@ insertLeaf l (first ∷ leaves) =
 unfoldable pub ascending : List Leaf → List Leaf
 ascending [] = []
 ascending (l ∷ leaves) = insertLeaf l (ascending leaves)
-
--- the root of a phone's tree for a state, "in R order"; phones and states count from 1
-unfoldable pub rootOf : Book → (phone state : ℕ) → ℕ
-rootOf book phone state = book .roots ! ((phone - 1) * book .states + (state - 1))
 
 -- the leaves of a phone's tree for a state, from the root's matrix down
 unfoldable pub leavesOf : Book → (phone state : ℕ) → List Leaf

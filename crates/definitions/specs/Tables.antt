@@ -1,8 +1,8 @@
 -- Document 01, "Tree book": the tables that reading leaves, and the book read back out of them.
 use mathlib.Core.List.{List, [], _∷_, map}
-use Prim.Native.Nat.{ℕ}
+use Prim.Native.Nat.{ℕ, _+_, _-_, _*_}
 use lib.Dec.{eqb}
-use lib.ListN.{take}
+use lib.ListN.{length, take}
 use Rattle.definitions.specs.declared.Header.{Header}
 use Rattle.definitions.specs.declared.Node.{Node}
 use Rattle.definitions.specs.Faults.{Outcome, answered, refused}
@@ -21,6 +21,10 @@ pub record Book : Type 0 where
   pub nodes : List TreeNode
   pub classes : List ℕ
   pub roots : List ℕ
+
+-- the root of a phone's tree for a state, "in R order"; phones and states count from 1
+unfoldable pub rootOf : Book → (phone state : ℕ) → ℕ
+rootOf book phone state = book .roots ! ((phone - 1) * book .states + (state - 1))
 
 -- The book of the lines.
 -- "for each class one 64-bit word, phone p being the bit worth 2^(p−1)"; "A class without Q lines is empty."
@@ -48,11 +52,24 @@ unfoldable pub nodeWords : TreeNode → List ℕ
 nodeWords (question class position yesNode noNode) = 1 ∷ class ∷ position ∷ yesNode ∷ noNode ∷ []
 nodeWords (leaf model) = 2 ∷ model ∷ 0 ∷ 0 ∷ 0 ∷ []
 
+-- the five words of a record
+abbrev pub recordWords : Node → List ℕ
+recordWords node = node .kind ∷ node .value ∷ node .position ∷ node .yes ∷ node .no ∷ []
+
 -- the three lent tables, as the words in them
 pub record Tables : Type 0 where
   pub nodes : List ℕ
   pub classes : List ℕ
   pub roots : List ℕ
+
+-- their lengths
+abbrev pub lentOf : Tables → Lent
+lentOf tables =
+    record {
+      nodes = length (tables .nodes);
+      classes = length (tables .classes);
+      roots = length (tables .roots);
+    }
 
 -- "Words beyond these are 0."
 unfoldable pub tablesOf : Lent → Book → Tables

@@ -12,7 +12,7 @@ use Rattle.definitions.specs.BookLines.{isPhone}
 use Rattle.definitions.specs.Tables.{Book, Tables, tablesBook}
 use Rattle.definitions.specs.ForeignTables.{tablesKnown}
 use Rattle.definitions.specs.Lookup.{leafReached, modelAt}
-use Rattle.definitions.specs.Combinations.{rootOf}
+use Rattle.definitions.specs.Tables.{rootOf}
 use Rattle.definitions.specs.TreesGive.{contexts, silentEnds}
 
 -- the model of the leaf that a context reaches in the tree of its own phone, for a state

@@ -1,6 +1,8 @@
 -- The laws about the definitions.
 pub mod Tests
 pub mod Lists
+pub mod Same
+pub mod Searching
 pub mod Members
 pub mod Selected
 pub mod Occurrences
@@ -12,7 +14,9 @@ pub mod Numerals
 pub mod Fields
 pub mod LineFields
 pub mod Lines
+pub mod LineBytes
 pub mod Reading
+pub mod WrittenTexts
 pub mod RefusalLines
 pub mod Ranges
 pub mod Tables
@@ -20,7 +24,9 @@ pub mod Books
 pub mod Walks
 pub mod Sound
 pub mod Accepted
+pub mod KnownRecords
 pub mod Known
+pub mod KnownBooks
 pub mod ByLines
 pub mod WalkByLines
 pub mod ModelsAlong
@@ -36,6 +42,10 @@ pub mod Contexts
 pub mod NetworkLines
 pub mod NetworkTexts
 pub mod NetworkKnown
-pub mod NetworkBytes
 pub mod RoundTrips
+pub mod WrittenBooks
+pub mod WrittenClasses
+pub mod LinesSay
+pub mod BookTexts
+pub mod ForeignExactly
 pub mod Program

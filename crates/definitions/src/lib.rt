@@ -1,6 +1,16 @@
-// The types that every layer shares: a book's header, a tree's node, a network's counts, and refusals by fault.
+// What every layer shares: the sizes of records, a book's header, a tree's node, a network's counts, and refusals by
+// fault.
 ghost use mathlib.Core.Path.{_≡_};
 ghost use Rattle.definitions.specs.Faults.{numberOf};
+
+// How many words a node, a combination, a metastate and an arc take.
+pub const NODE_SIZE: usize = 5;
+
+pub const COMBINATION_SIZE: usize = 11;
+
+pub const METASTATE_SIZE: usize = 8;
+
+pub const ARC_SIZE: usize = 4;
 
 // The numbers of an H line.
 pub struct Header {

@@ -1,5 +1,5 @@
 // What an entry answered, in words.
-use showing::comparing::used_sets;
+use showing::comparing::used_wide_words;
 use showing::comparing::used_words;
 use showing::printing::print;
 use showing::printing::print_number;
@@ -13,7 +13,7 @@ pub fn print_cleared(nodes: &[u32], classes: &[u64], roots: &[u32]) {
     if used_words(nodes) == 0 {
         print(b", nodes");
     }
-    if used_sets(classes) == 0 {
+    if used_wide_words(classes) == 0 {
         print(b", classes");
     }
     if used_words(roots) == 0 {

@@ -1,15 +1,15 @@
 // One book: what reading answers and leaves, and then its trees and its network.
 use crate::answers::print_cleared;
+use crate::foreign::show_foreign;
 use crate::networks::show_whole;
 use crate::sequences::show_trees;
-use crate::strangers::show_foreign;
 use book::Reading;
 use book::reader::read;
 use definitions::Header;
 use showing::printing::print;
 use showing::printing::print_number;
 use showing::printing::print_refusal;
-use showing::printing::print_sets;
+use showing::printing::print_wide_words;
 use showing::printing::print_words;
 
 fn print_header(header: Header) {
@@ -26,7 +26,7 @@ fn print_tables(nodes: &[u32], classes: &[u64], roots: &[u32]) {
     print(b"  nodes");
     print_words(nodes);
     print(b"\n  classes");
-    print_sets(classes);
+    print_wide_words(classes);
     print(b"\n  roots");
     print_words(roots);
     print(b"\n");

@@ -5,9 +5,9 @@
 
 mod answers;
 mod cases;
+mod foreign;
 mod networks;
 mod sequences;
-mod strangers;
 
 use cases::show_case;
 use networks::show_sizes;

@@ -8,7 +8,7 @@ use network::leaving::leaving;
 use showing::printing::print;
 use showing::printing::print_number;
 use showing::printing::print_refusal;
-use showing::printing::print_used_sets;
+use showing::printing::print_used_wide_words;
 use showing::printing::print_used_words;
 use showing::printing::print_word;
 use showing::printing::print_words;
@@ -40,9 +40,9 @@ fn print_build(answer: Build, nodes: &[u32], classes: &[u64], roots: &[u32]) {
 // What a build left: the words up to the last that is not 0, and how many follow.
 fn print_space(combinations: &[u64], metastates: &[u64], arcs: &[u32]) {
     print(b"    combinations");
-    print_used_sets(combinations);
+    print_used_wide_words(combinations);
     print(b"    metastates");
-    print_used_sets(metastates);
+    print_used_wide_words(metastates);
     print(b"    arcs");
     print_used_words(arcs);
 }

@@ -23,12 +23,13 @@ pub fn clear_words(words: &mut [u32])
     }
 }
 
-pub fn clear_sets(sets: &mut [u64])
-    ensures { λ r. ⌜ now (sets .exit) ≡ cleared (length (now (sets .entry))) ⌝ }
+// 64-bit words.
+pub fn clear_wide_words(wide: &mut [u64])
+    ensures { λ r. ⌜ now (wide .exit) ≡ cleared (length (now (wide .entry))) ⌝ }
 {
     let mut i = 0;
-    while i < sets.len() {
-        sets[i] = 0;
+    while i < wide.len() {
+        wide[i] = 0;
         i += 1;
     }
 }

@@ -13,6 +13,9 @@ ghost use Rattle.lines.specs.laws.Tables.{Placed};
 // The fixed range of a field: lowest and highest.
 struct Range(u32, u32);
 
+// The place of a letter that the table does not have.
+pub const NO_LETTER: usize = 7;
+
 const UNUSED: Range = Range(0, 0);
 
 // A letter, how many fields it uses, and their ranges, which come first.
@@ -122,7 +125,7 @@ pub fn place_of(letters: Letters, letter: u8) -> usize
         }
         place += 1;
     }
-    7
+    NO_LETTER
 }
 
 // How many fields the letter at a place uses.

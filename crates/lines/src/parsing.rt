@@ -4,6 +4,7 @@ use crate::Letters;
 use crate::Parsed;
 use crate::Row;
 use crate::fields::read_field;
+use crate::forms::NO_LETTER;
 use crate::forms::place_of;
 use crate::forms::used_at;
 ghost use mathlib.Core.Bool.{true, false};
@@ -93,7 +94,7 @@ pub fn parse(letters: Letters, bytes: &[u8]) -> Parsed
     }
     let letter = bytes[0];
     let place = place_of(letters, letter);
-    if place == 7 {
+    if place == NO_LETTER {
         return malformed();
     }
     let used = used_at(place);

@@ -1,6 +1,7 @@
 // Whether a line's numbers lie in the fixed ranges of its letter, else it is fault 13.
 use crate::Letters;
 use crate::Row;
+use crate::forms::NO_LETTER;
 use crate::forms::in_range;
 use crate::forms::place_of;
 use crate::forms::used_at;
@@ -13,7 +14,7 @@ pub fn in_fixed_ranges(letters: Letters, row: Row) -> bool
 {
     let letter = row.letter;
     let place = place_of(letters, letter);
-    if place == 7 {
+    if place == NO_LETTER {
         return false;
     }
     let used = used_at(place);

@@ -3,22 +3,26 @@ use crate::Matrix;
 ghost use mathlib.Core.List.{_∷_};
 ghost use mathlib.Core.Path.{_≡_};
 ghost use Prim.Native.Nat.{_≤_};
-ghost use lib.ListN.{take};
+ghost use lib.ListN.{take, drop};
 ghost use Rattle.definitions.specs.Lists.{_!_, padded, same};
 ghost use Rattle.definitions.specs.Matrices.{matrixSize};
 ghost use Rattle.matrix.specs.Words.{overwritten};
 
-// The matrix in seven words; words that are not there count as 0.
-pub fn matrix_from(words: &[u64]) -> Matrix
-    ensures { λ r. ⌜ r .columns ≡ take matrixSize (padded matrixSize (now (words .entry))) ⌝ }
+// The matrix in the seven words from a place on; words that are not there count as 0.
+pub fn matrix_at(words: &[u64], from: usize) -> Matrix
+    ensures { λ r. ⌜ r .columns ≡ take matrixSize (padded matrixSize (drop from (now (words .entry)))) ⌝ }
 {
     let mut columns = [0u64; 7];
+    if words.len() <= from {
+        return Matrix { columns };
+    }
+    let there = words.len() - from;
     let mut c = 0;
     while c < 7 {
-        if words.len() <= c {
+        if there <= c {
             return Matrix { columns };
         }
-        columns[c] = words[c];
+        columns[c] = words[from + c];
         c += 1;
     }
     Matrix { columns }
@@ -35,16 +39,20 @@ fn word_at(number: u64, m: Matrix, place: usize) -> u64
     m.columns[place - 1]
 }
 
-// Writes a number and a matrix into eight words, or as many as are lent.
-pub fn put_numbered(words: &mut [u64], number: u64, m: Matrix)
-    ensures { λ r. ⌜ now (words .exit) ≡ overwritten (now (words .entry)) (number ∷ m .columns) ⌝ }
+// Writes a number and a matrix into the eight words from a place on, or as many as are there.
+pub fn put_numbered(words: &mut [u64], at: usize, number: u64, m: Matrix)
+    ensures { λ r. ⌜ now (words .exit) ≡ overwritten (now (words .entry)) at (number ∷ m .columns) ⌝ }
 {
+    if words.len() <= at {
+        return;
+    }
+    let there = words.len() - at;
     let mut i = 0;
-    while i < words.len() {
+    while i < there {
         if 8 <= i {
             return;
         }
-        words[i] = word_at(number, m, i);
+        words[at + i] = word_at(number, m, i);
         i += 1;
     }
 }

@@ -1,14 +1,16 @@
 -- Combinations in lent space: those added so far, and what adding more leaves.
 use mathlib.Core.Path.{_≡_}
 use mathlib.Core.List.{List, [], _∷_, _++_}
-use mathlib.Core.Bool.{true, false}
-use Prim.Native.Nat.{ℕ, suc, _+_, _*_, _≤_, _<_}
+use mathlib.Core.Bool.{Bool}
+use Prim.Native.Nat.{ℕ, suc, _+_, _*_, _≤_}
 use lib.Dec.{T, leb}
-use lib.ListN.{length, take, getD}
+use lib.ListN.{length, set, take, getD}
 use Rattle.definitions.specs.Lists.{if_then_else_, concatMap, padded}
 use Rattle.definitions.specs.Matrices.{Matrix, matrixWords, valid, meet}
 use Rattle.definitions.specs.Combinations.{Leaf, Combination, choose, combinationSize, combinationWords}
 use Rattle.definitions.specs.Combinations.{combinationRoom}
+use Rattle.definitions.specs.laws.Searching.{FirstFrom}
+use Rattle.matrix.specs.Shapes.{HasWidth}
 use Rattle.metastates.specs.declared.Choice.{Choice}
 use Rattle.metastates.specs.Leaves.{leavesIn}
 
@@ -39,7 +41,7 @@ matrixMet width choice = take width (choice .matrix .columns)
 pub record Chosen (width : ℕ) (choice : Choice) : Type 0 where
   pub narrow : width ≤ 7
   pub leaves : choice .leaves ≡ padded 3 (leavesTaken choice)
-  pub matrix : choice .matrix .columns ≡ matrixWords (matrixMet width choice)
+  pub matrix : HasWidth width (choice .matrix .columns)
   pub holds : T (valid (matrixMet width choice))
 
 -- the trees that are left
@@ -56,11 +58,18 @@ chosenFrom width trees first second third choice =
 abbrev pub noLeaf : Leaf
 noLeaf = record { node = 0; matrix = [] }
 
+-- the choice with the leaf at a place of a list taken too
+abbrev pub WithLeaf : (width : ℕ) → Choice → (words : List ℕ) → (place : ℕ) → Choice → Type 0
+WithLeaf width choice words place next =
+    (next .phone ≡ choice .phone) × (next .taken ≡ choice .taken + 1)
+    × (next .leaves ≡ set (choice .leaves) (choice .taken) (getD (leavesIn width words) place noLeaf .node))
+    × (next .matrix .columns
+    ≡ meet (choice .matrix .columns) (matrixWords (getD (leavesIn width words) place noLeaf .matrix)))
+
+-- whether the leaf at a place meets a matrix validly
+abbrev pub fitsAt : (m : Matrix) → List Leaf → (place : ℕ) → Bool
+fitsAt m leaves place = valid (meet m (getD leaves place noLeaf .matrix))
+
 -- the first place, from one on, of a leaf that meets a matrix validly, or the number of leaves
-pub record FirstFit (m : Matrix) (leaves : List Leaf) (from place : ℕ) : Type 0 where
-  pub after : from ≤ place
-  pub within : place ≤ length leaves
-  pub passed : (i : ℕ) → from ≤ i → i < place
-      → valid (meet m (getD leaves i noLeaf .matrix)) ≡ false
-  pub found : place < length leaves
-      → valid (meet m (getD leaves place noLeaf .matrix)) ≡ true
+abbrev pub FirstFit : (m : Matrix) → List Leaf → (from place : ℕ) → Type 0
+FirstFit m leaves from place = FirstFrom (fitsAt m leaves) (length leaves) from place

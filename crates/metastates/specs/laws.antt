@@ -7,7 +7,6 @@ pub mod TreeLeaves
 pub mod Grown
 pub mod LeafLists
 pub mod Adding
-pub mod Fitting
 pub mod Choosing
 pub mod ReadBack
 pub mod Starting

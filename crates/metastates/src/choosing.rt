@@ -1,25 +1,27 @@
 // The combinations of leaves, one from each tree, whose matrices meet in a valid matrix.
 use crate::Choice;
+use crate::LEAF_SIZE;
+use definitions::COMBINATION_SIZE;
 use matrix::Matrix;
 use matrix::meeting::meet;
 use matrix::testing::valid;
-use matrix::words::matrix_from;
+use matrix::words::matrix_at;
 ghost use mathlib.Core.List.{[], _∷_, _++_};
 ghost use mathlib.Core.Path.{_≡_};
 ghost use Prim.Native.Nat.{_+_, _*_, _≤_, _<_};
-ghost use lib.ListN.{length, set, take, drop, getD};
+ghost use lib.ListN.{length, take, drop};
 ghost use Rattle.definitions.specs.Combinations.{combinationSize, combinationRoom};
 ghost use Rattle.definitions.specs.Lists.{_!_};
-ghost use Rattle.definitions.specs.Matrices.{matrixWords, meet};
-ghost use Rattle.metastates.specs.Choices.{Holding, Grown, Chosen, FirstFit, chosenFrom};
-ghost use Rattle.metastates.specs.Choices.{leavesTaken, matrixMet, noLeaf};
+ghost use Rattle.matrix.specs.Shapes.{HasWidth};
+ghost use Rattle.metastates.specs.Choices.{Holding, Grown, Chosen, WithLeaf, FirstFit};
+ghost use Rattle.metastates.specs.Choices.{leavesTaken, matrixMet, chosenFrom};
 ghost use Rattle.metastates.specs.Leaves.{leafSize, leavesIn, IsList};
 
 // How many combinations the lent words have room for.
 pub fn room_in(words: usize) -> usize
     ensures { λ r. ⌜ r ≡ combinationRoom words ⌝ }
 {
-    let room = words / 11;
+    let room = words / COMBINATION_SIZE;
     if 65535 < room {
         return 65535;
     }
@@ -65,8 +67,8 @@ fn add_choice(width: usize, choice: Choice, space: &mut [u64], count: usize) -> 
     if room_in(space.len()) <= count {
         return count + 1;
     }
-    let at = 11 * count;
-    let end = at + 11;
+    let at = COMBINATION_SIZE * count;
+    let end = at + COMBINATION_SIZE;
     put_choice(&mut space[at..end], choice);
     count + 1
 }
@@ -76,20 +78,19 @@ fn leaf_matrix(leaves: &[u64], place: usize) -> Matrix
     requires { ⌜ leafSize * place + leafSize ≤ length (now leaves) ⌝ }
     ensures { λ r. ⌜ r .columns ≡ take 7 (drop (leafSize * place + 1) (now (leaves .entry))) ⌝ }
 {
-    let from = 8 * place;
-    matrix_from(&leaves[from + 1..from + 8])
+    matrix_at(leaves, LEAF_SIZE * place + 1)
 }
 
 // The first place from one on whose leaf meets a matrix validly, or the number of leaves.
 fn next_fit(leaves: &[u64], from: usize, m: Matrix, width: usize) -> usize
     requires { ⌜
         (width ≤ 7) × IsList width (now leaves) × (from ≤ length (leavesIn width (now leaves)))
-        × (m .columns ≡ matrixWords (take width (m .columns)))
+        × HasWidth width (m .columns)
         ⌝ }
     ensures { λ r. ⌜ FirstFit (take width (m .columns)) (leavesIn width (now (leaves .entry))) from r ⌝ }
 {
     let mut place = from;
-    while place < leaves.len() / 8 {
+    while place < leaves.len() / LEAF_SIZE {
         if valid(meet(m, leaf_matrix(leaves, place)), width) {
             return place;
         }
@@ -104,18 +105,11 @@ fn with_leaf(width: usize, choice: Choice, leaves: &[u64], place: usize) -> Choi
         Chosen width choice × IsList width (now leaves) × (choice .taken < 3)
         × (place < length (leavesIn width (now leaves)))
         ⌝ }
-    ensures { λ r. ⌜
-        (r .phone ≡ choice .phone) × (r .taken ≡ choice .taken + 1)
-        × (r .leaves
-        ≡ set (choice .leaves) (choice .taken) (getD (leavesIn width (now (leaves .entry))) place noLeaf .node))
-        × (r .matrix .columns
-        ≡ meet (choice .matrix .columns)
-        (matrixWords (getD (leavesIn width (now (leaves .entry))) place noLeaf .matrix)))
-        ⌝ }
+    ensures { λ r. ⌜ WithLeaf width choice (now (leaves .entry)) place r ⌝ }
 {
     let mut nodes = choice.leaves;
     let at = choice.taken;
-    nodes[at] = leaves[8 * place];
+    nodes[at] = leaves[LEAF_SIZE * place];
     let met = meet(choice.matrix, leaf_matrix(leaves, place));
     Choice {
         phone: choice.phone,
@@ -125,9 +119,10 @@ fn with_leaf(width: usize, choice: Choice, leaves: &[u64], place: usize) -> Choi
     }
 }
 
-// Adds the combinations that begin with a choice and take one leaf of each further tree: `trees` trees are left, whose leaves are
-// `first`, then `second`, then `third`. Answers how many combinations there are then, or one more than have room. A leaf whose matrix
-// does not meet the choice's validly is passed over before any further tree is tried.
+// Adds the combinations that begin with a choice and take one leaf of each further tree: `trees` trees are left,
+// whose leaves are `first`, then `second`, then `third`. Answers how many combinations there are then, or one more
+// than have room. A leaf whose matrix does not meet the choice's validly is passed over before any further tree is
+// tried. The call for the further trees moves the lists up by one; what then stands last is not looked at.
 pub fn choose(
     first: &[u64],
     second: &[u64],
@@ -154,7 +149,7 @@ pub fn choose(
     let m = choice.matrix;
     let mut total = count;
     let mut place = next_fit(first, 0, m, width);
-    while place < first.len() / 8 {
+    while place < first.len() / LEAF_SIZE {
         total = choose(
             second,
             third,

@@ -1,11 +1,12 @@
 // The leaves of a tree with their matrices, ascending by node number.
+use crate::LEAF_SIZE;
 use crate::walking::walk;
 use definitions::Header;
-use lines::clearing::clear_sets;
+use lines::clearing::clear_wide_words;
 use matrix::sets::all_phones;
 use matrix::sets::alone;
 use matrix::shaping::around;
-use matrix::words::matrix_from;
+use matrix::words::matrix_at;
 use matrix::words::put_numbered;
 use tables::roots::root_of;
 ghost use mathlib.Core.List.{_++_};
@@ -30,10 +31,8 @@ fn copy_leaf(table: &[u64], node: usize, list: &mut [u64], place: usize)
         ++ drop (leafSize * place + leafSize) (now (list .entry))
         ⌝ }
 {
-    let from = 8 * node;
-    let m = matrix_from(&table[from + 1..from + 8]);
-    let at = 8 * place;
-    put_numbered(&mut list[at..at + 8], node as u64, m);
+    let m = matrix_at(table, LEAF_SIZE * node + 1);
+    put_numbered(list, LEAF_SIZE * place, node as u64, m);
 }
 
 // Lists the nodes whose records are used, ascending, each with its matrix; answers how many.
@@ -46,8 +45,8 @@ fn collect(table: &[u64], list: &mut [u64]) -> usize
 {
     let mut count = 0;
     let mut node = 0;
-    while node < table.len() / 8 {
-        if table[8 * node] != 0 {
+    while node < table.len() / LEAF_SIZE {
+        if table[LEAF_SIZE * node] != 0 {
             copy_leaf(table, node, list, count);
             count += 1;
         }
@@ -85,7 +84,7 @@ pub fn list_leaves(
     }
     let all = all_phones(header.phones);
     let top = around(header.half, all, alone(phone), all);
-    clear_sets(table);
+    clear_wide_words(table);
     walk(
         header,
         nodes,

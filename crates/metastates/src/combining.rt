@@ -2,6 +2,7 @@
 use crate::ByPhone;
 use crate::Choice;
 use crate::Combined;
+use crate::LEAF_SIZE;
 use crate::choosing::choose;
 use crate::choosing::room_in;
 use crate::collecting::list_leaves;
@@ -9,7 +10,7 @@ use definitions::Fault;
 use definitions::Header;
 use definitions::Refusal;
 use definitions::wide;
-use lines::clearing::clear_sets;
+use lines::clearing::clear_wide_words;
 use matrix::sets::all_phones;
 use matrix::sets::alone;
 use matrix::shaping::around;
@@ -50,7 +51,8 @@ fn choose_phone(
         ⌝ }
     ensures space { λ r. ⌜
         Grown (now (space .entry)) count
-        (combinationsOf (tablesBook header (lentTables (now (nodes .entry)) (now (classes .entry)) (now (roots .entry)))) phone)
+        (combinationsOf
+        (tablesBook header (lentTables (now (nodes .entry)) (now (classes .entry)) (now (roots .entry)))) phone)
         (now (space .exit)) r
         ⌝ }
     ensures lists { λ r. ⌜
@@ -73,9 +75,9 @@ fn choose_phone(
     };
     let width = 2 * wide(header.half) + 1;
     choose(
-        &first[..8 * a],
-        &second[..8 * b],
-        &third[..8 * c],
+        &first[..LEAF_SIZE * a],
+        &second[..LEAF_SIZE * b],
+        &third[..LEAF_SIZE * c],
         header.states,
         width,
         start,
@@ -114,7 +116,7 @@ fn choose_all(
     let mut first = [0u64; 32768];
     let mut second = [0u64; 32768];
     let mut third = [0u64; 32768];
-    let size = 8 * wide(header.nodes);
+    let size = LEAF_SIZE * wide(header.nodes);
     let mut count = 0;
     let mut phone = 1;
     while phone <= header.phones {
@@ -178,14 +180,14 @@ pub fn combine(
         (length (now (space .entry))))
         ⌝ }
 {
-    clear_sets(space);
+    clear_wide_words(space);
     if !tables_known(header, nodes, classes, roots) {
         return refuse(Fault::Foreign);
     }
     let mut ends = [0u32; 65];
     let count = choose_all(header, nodes, classes, roots, space, &mut ends);
     if room_in(space.len()) < count {
-        clear_sets(space);
+        clear_wide_words(space);
         return refuse(Fault::Choices);
     }
     let answer = Combined::Combinations(count);

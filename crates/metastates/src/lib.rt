@@ -7,6 +7,9 @@ mod walking;
 use definitions::Refusal;
 use matrix::Matrix;
 
+// How many words a leaf takes in a list of leaves: its node and its matrix.
+const LEAF_SIZE: usize = 8;
+
 // What combining answers: how many combinations there are, or the refusal.
 pub enum Combined {
     Combinations(usize),

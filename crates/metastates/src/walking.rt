@@ -1,4 +1,5 @@
 // The depth-first walk of a tree that computes the matrices of its leaves.
+use crate::LEAF_SIZE;
 use definitions::Header;
 use definitions::wide;
 use matrix::Matrix;
@@ -13,10 +14,9 @@ ghost use lib.Dec.{T};
 ghost use lib.ListN.{length, take, drop};
 ghost use Rattle.definitions.specs.Combinations.{leavesBelow};
 ghost use Rattle.definitions.specs.ForeignTables.{headerKnown, nodesKnown};
-ghost use Rattle.definitions.specs.Matrices.{matrixWords};
 ghost use Rattle.definitions.specs.Tables.{nodeRecords, tablesBook};
 ghost use Rattle.tables.specs.Lending.{lentTables};
-ghost use Rattle.matrix.specs.Shapes.{widthOf};
+ghost use Rattle.matrix.specs.Shapes.{widthOf, matrixIn, HasWidth};
 ghost use Rattle.metastates.specs.Leaves.{leafSize, putLeaves};
 
 // Writes 1, which marks the record as used, and a matrix into the record of a node.
@@ -28,9 +28,7 @@ fn put_leaf(table: &mut [u64], node: u32, m: Matrix)
         ++ drop (leafSize * node + leafSize) (now (table .entry))
         ⌝ }
 {
-    let from = 8 * wide(node);
-    let end = from + 8;
-    put_numbered(&mut table[from..end], 1, m);
+    put_numbered(table, LEAF_SIZE * wide(node), 1, m);
 }
 
 // Puts the matrix of each leaf below a node into the leaf's record, 1 before it. Children are greater than
@@ -39,14 +37,14 @@ pub fn walk(header: Header, nodes: &[u32], classes: &[u64], node: u32, m: Matrix
     requires { ⌜
         T (headerKnown header) × T (nodesKnown header 0 (nodeRecords header (now nodes)))
         × (header .classes ≤ length (now classes)) × (node < header .nodes)
-        × (m .columns ≡ matrixWords (take (widthOf (header .half)) (m .columns)))
+        × HasWidth (widthOf (header .half)) (m .columns)
         × (length (now table) ≡ leafSize * header .nodes)
         ⌝ }
     ensures { λ r. ⌜
         now (table .exit)
         ≡ putLeaves (now (table .entry)) (leavesBelow (header .nodes)
         (tablesBook header (lentTables (now (nodes .entry)) (now (classes .entry)) []))
-        (take (widthOf (header .half)) (m .columns)) node)
+        (matrixIn (header .half) (m .columns)) node)
         ⌝ }
 {
     let record = node_at(nodes, node);

@@ -1,6 +1,7 @@
 // What a line of network text says, the tests that document 01 puts to it, and the first that fails.
 use crate::Entry;
 use crate::State;
+use definitions::ARC_SIZE;
 use definitions::Counts;
 use definitions::Fault;
 use definitions::wide;
@@ -77,7 +78,7 @@ fn table_fits(lent: usize, entry: Entry) -> bool
     ensures { λ r. ⌜ r ≡ leb (arcSize * countsInLine (entryLine entry) .arcs) lent ⌝ }
 {
     match entry {
-        Entry::W(counts) => 4 * wide(counts.arcs) <= lent,
+        Entry::W(counts) => ARC_SIZE * wide(counts.arcs) <= lent,
         Entry::A(_, _, _, _) => true,
     }
 }

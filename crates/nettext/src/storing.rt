@@ -1,6 +1,7 @@
 // A line's arc put into the lent arcs.
 use crate::Entry;
 use crate::State;
+use definitions::ARC_SIZE;
 ghost use mathlib.Core.Path.{_≡_};
 ghost use Prim.Native.Nat.{_+_, _*_, _≤_};
 ghost use lib.ListN.{length};
@@ -17,7 +18,7 @@ fn put_arc(words: &mut [u32], number: usize, from: u32, to: u32, model: u32, pho
         ≡ putAt (arcSize * number) (arcWords (arc from to model phone)) (now (words .entry))
         ⌝ }
 {
-    let at = 4 * number;
+    let at = ARC_SIZE * number;
     words[at] = from;
     words[at + 1] = to;
     words[at + 2] = model;

@@ -1,5 +1,6 @@
 // Writing network text from lent arcs: 18, then 33.
 use crate::Written;
+use definitions::ARC_SIZE;
 use definitions::Counts;
 use definitions::Fault;
 use definitions::Refusal;
@@ -37,7 +38,7 @@ fn arc_row(arcs: &[u32], place: usize) -> Row
     requires { ⌜ arcSize * place + arcSize ≤ length (now arcs) ⌝ }
     ensures { λ r. ⌜ lineIn r ≡ lineOfArc (arcOf (take arcSize (drop (arcSize * place) (now (arcs .entry))))) ⌝ }
 {
-    let at = 4 * place;
+    let at = ARC_SIZE * place;
     Row {
         letter: b'A',
         used: 4,
@@ -57,7 +58,7 @@ fn write_arcs(arcs: &[u32], text: &mut [u8])
         ⌝ }
 {
     let mut i = 0;
-    while i < arcs.len() / 4 {
+    while i < arcs.len() / ARC_SIZE {
         let from = 32 * i;
         let end = from + 32;
         write_line(arc_row(arcs, i), &mut text[from..end]);
@@ -86,7 +87,7 @@ pub fn write(counts: Counts, arcs: &[u32], text: &mut [u8]) -> Written
         return refuse(Fault::Foreign);
     }
     let count = wide(counts.arcs);
-    let used = 4 * count;
+    let used = ARC_SIZE * count;
     let end = 32 + 32 * count;
     if text.len() < end {
         return refuse(Fault::Short);

@@ -2,9 +2,11 @@
 use mathlib.Core.List.{List}
 use Prim.Native.Nat.{ℕ}
 use lib.ListN.{length}
+use Rattle.definitions.specs.declared.Header.{Header}
 use Rattle.definitions.specs.Faults.{Outcome, answered, refused, numberOf}
 use Rattle.definitions.specs.Connecting.{Network, Built, finished, stopped}
-use Rattle.definitions.specs.Building.{Space, Buffers, countsIn}
+use Rattle.definitions.specs.Tables.{Tables, tablesBook}
+use Rattle.definitions.specs.Building.{Space, Buffers, build, buffersLeft, countsIn}
 use Rattle.definitions.specs.Leaving.{Part}
 use Rattle.network.specs.declared.Totals.{Totals}
 use Rattle.network.specs.declared.Build.{Build}
@@ -27,6 +29,14 @@ lentSpace combinations metastates arcs =
 abbrev pub lentBuffers : (combinations metastates arcs : List ℕ) → Buffers
 lentBuffers combinations metastates arcs =
     record { combinations = combinations; metastates = metastates; arcs = arcs }
+
+-- what a build from lent tables and space answers, and what it leaves in the space
+abbrev pub buildAnswer : Header → Tables → Space → (limit : ℕ) → Build
+buildAnswer header tables space limit = buildOf (header .states) (build header tables space limit)
+
+abbrev pub buildLeft : Header → Tables → Space → (limit : ℕ) → Buffers
+buildLeft header tables space limit =
+    buffersLeft (tablesBook header tables) space (build header tables space limit)
 
 -- the number of the fault, 0 where a part is handed out
 unfoldable pub faultOf : Outcome Part → ℕ

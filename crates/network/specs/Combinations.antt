@@ -14,7 +14,7 @@ use Rattle.definitions.specs.Lookup.{nodeAt}
 use Rattle.definitions.specs.Combinations.{Combination, combinationSize, combinationWords}
 use Rattle.definitions.specs.laws.Metastates.{numbered}
 use Rattle.tables.specs.Lending.{lentTables}
-use Rattle.matrix.specs.Shapes.{widthOf}
+use Rattle.matrix.specs.Shapes.{widthOf, matrixIn}
 
 -- a combination read back from its record
 unfoldable pub combinationIn : Header → List ℕ → Combination
@@ -22,7 +22,7 @@ combinationIn header words =
     record {
       phone = words ! 0;
       leaves = take (header .states) (drop 1 words);
-      matrix = take (widthOf (header .half)) (drop 4 words);
+      matrix = matrixIn (header .half) (drop 4 words);
     }
 
 -- the combinations in whole records

@@ -1,16 +1,23 @@
 -- The search for the next combination that follows.
-use mathlib.Core.Path.{_≡_}
 use mathlib.Core.List.{List}
-use mathlib.Core.Bool.{true, false}
-use Prim.Native.Nat.{ℕ, _≤_, _<_}
+use mathlib.Core.Bool.{Bool}
+use Prim.Native.Nat.{ℕ, _<_}
 use lib.ListN.{length}
 use Rattle.definitions.specs.Matrices.{Matrix, valid, meet}
 use Rattle.definitions.specs.Combinations.{Combination}
 use Rattle.definitions.specs.laws.Metastates.{numbered}
+use Rattle.definitions.specs.laws.Searching.{NoneFrom, FirstFrom}
 
--- the first number, from one on, of a combination that meets a matrix validly, or the count of combinations
-pub record NextFollower (shifted : Matrix) (combinations : List Combination) (from number : ℕ) : Type 0 where
-  pub after : from ≤ number
-  pub within : number ≤ length combinations
-  pub passed : (i : ℕ) → from ≤ i → i < number → valid (meet shifted (numbered combinations i .matrix)) ≡ false
-  pub found : number < length combinations → valid (meet shifted (numbered combinations number .matrix)) ≡ true
+-- whether a combination follows: its matrix meets the shifted matrix validly
+abbrev pub followsAt : (shifted : Matrix) → List Combination → (number : ℕ) → Bool
+followsAt shifted combinations number = valid (meet shifted (numbered combinations number .matrix))
+
+-- where to look after a combination: none from it up to the next follows
+abbrev pub Beyond : (shifted : Matrix) → List Combination → (number next : ℕ) → Type 0
+Beyond shifted combinations number next =
+    (number < next) × NoneFrom (followsAt shifted combinations) (length combinations) number next
+
+-- the first combination, from one on, that follows, or the number of combinations
+abbrev pub NextFollower : (shifted : Matrix) → List Combination → (from number : ℕ) → Type 0
+NextFollower shifted combinations from number =
+    FirstFrom (followsAt shifted combinations) (length combinations) from number

@@ -1,10 +1,10 @@
 -- A network in lent words: its metastates and arcs, read back and held.
 use mathlib.Core.Path.{_≡_}
 use mathlib.Core.List.{List, map}
-use Prim.Native.Nat.{ℕ, _≤_, _<_}
+use Prim.Native.Nat.{ℕ, _/_, _≤_, _<_, min}
 use lib.ListN.{length, take, drop}
 use Rattle.definitions.specs.Lists.{_!_, concatMap, records, padded}
-use Rattle.definitions.specs.Arcs.{arcsIn, arcWords}
+use Rattle.definitions.specs.Arcs.{arcSize, arcsIn, arcWords}
 use Rattle.definitions.specs.Metastates.{Metastate, metastateSize, metastateWords}
 use Rattle.definitions.specs.Connecting.{Network, Room}
 use Rattle.definitions.specs.Building.{roomIn}
@@ -29,6 +29,13 @@ networkHeld half sizes metastates arcs =
 
 abbrev pub sizesOf : Network → Sizes
 sizesOf net = record { metastates = length (net .metastates); arcs = length (net .arcs) }
+
+-- how many arcs, and how many metastates, lent words have room for
+abbrev pub arcRoom : (arcs : List ℕ) → ℕ
+arcRoom arcs = min (length arcs / arcSize) 999999
+
+abbrev pub metastateRoom : (metastates : List ℕ) → ℕ
+metastateRoom metastates = min (length metastates / metastateSize) 65535
 
 -- the room in lent words
 abbrev pub roomOf : (metastates arcs : List ℕ) → Room

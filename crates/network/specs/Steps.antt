@@ -1,21 +1,29 @@
 -- What a step of a build leaves and answers, by what the definition performs.
 use mathlib.Core.Path.{_≡_}
-use mathlib.Core.List.{List}
-use Prim.Native.Nat.{ℕ, _*_}
-use lib.ListN.{length, take}
+use mathlib.Core.List.{List, [], _++_, map}
+use mathlib.Core.Bool.{Bool}
+use Prim.Native.Nat.{ℕ, _+_, _*_}
+use lib.Dec.{ltb}
+use lib.ListN.{length, take, drop}
+use Rattle.definitions.specs.declared.Fault.the-variants.{Tangle}
+use Rattle.definitions.specs.declared.Header.{Header}
 use Rattle.definitions.specs.Faults.{Outcome, answered, refused}
-use Rattle.definitions.specs.Lists.{concatMap, padded, cleared}
-use Rattle.definitions.specs.Arcs.{Arc, arcSize, arcWords}
-use Rattle.definitions.specs.Metastates.{metastateWords}
-use Rattle.definitions.specs.Connecting.{Network, Built}
+use Rattle.definitions.specs.Lists.{if_then_else_, concatMap, padded, cleared}
+use Rattle.definitions.specs.Arcs.{Arc, arcSize, arcWords, firstState}
+use Rattle.definitions.specs.Metastates.{Metastate, metastateWords, modelsOf}
+use Rattle.definitions.specs.Connecting.{Network, Built, arcInto, ownArcs, finalArcs}
+use Rattle.definitions.specs.Connecting.{enter, perform, performAll}
 use Rattle.definitions.specs.Building.{networkIn}
 use Rattle.definitions.specs.declared.Refusal.{Refusal}
+use Rattle.matrix.specs.Shapes.{matrixIn}
+use Rattle.network.specs.declared.Sizes.{Sizes}
 use Rattle.network.specs.declared.Step.{Step}
 use Rattle.network.specs.declared.Step.the-variants as step
 use Rattle.network.specs.declared.Arcs.{Arcs}
 use Rattle.network.specs.declared.Build.{Build}
 use Rattle.network.specs.Answers.{buildOf}
-use Rattle.network.specs.Networks.{sizesOf, Holds}
+use Rattle.network.specs.Combinations.{combinationsIn, nodesBook}
+use Rattle.network.specs.Networks.{sizesOf, networkHeld, arcRoom, roomOf, Holds}
 
 unfoldable pub stepOf : Outcome Network → Step
 stepOf (answered net) = step.Next (sizesOf net)
@@ -29,10 +37,69 @@ pub record AfterStep (half count : ℕ) (metastates arcs : List ℕ) (outcome : 
   pub metastates-sized : length metastates′ ≡ length metastates
   pub arcs-sized : length arcs′ ≡ length arcs
 
+-- ---- arcs
+
 -- up to three arcs as words
 pub record AreArcs (new : Arcs) (arcs : List Arc) : Type 0 where
   pub counted : new .count ≡ length arcs
   pub worded : take (arcSize * new .count) (new .words) ≡ concatMap arcWords arcs
+
+-- the words of arcs after new ones were appended to so many, if there was room
+abbrev pub ArcsAppended : (count : ℕ) → (new : Arcs) → (roomy : Bool) → (arcs arcs′ : List ℕ) → Type 0
+ArcsAppended count new roomy arcs arcs′ =
+    arcs′ ≡ (if roomy
+    then take (arcSize * count) arcs ++ take (arcSize * new .count) (new .words)
+    ++ drop (arcSize * count + arcSize * new .count) arcs
+    else arcs)
+
+-- the same for one arc, and the answer: Tangle where there is no room
+abbrev pub ArcAppended : Sizes → Arc → (arcs arcs′ : List ℕ) → Type 0
+ArcAppended sizes a arcs arcs′ =
+    arcs′ ≡ (if ltb (sizes .arcs) (arcRoom arcs)
+    then take (arcSize * sizes .arcs) arcs ++ arcWords a ++ drop (arcSize * sizes .arcs + arcSize) arcs
+    else arcs)
+
+abbrev pub ArcAnswered : Sizes → (arcs : List ℕ) → (answer : Step) → Type 0
+ArcAnswered sizes arcs answer =
+    answer ≡ (if ltb (sizes .arcs) (arcRoom arcs)
+    then step.Next (record { metastates = sizes .metastates; arcs = sizes .arcs + 1 })
+    else step.Stop Tangle)
+
+-- the arc from a state into a metastate of a combination, at a place; the matrix does not matter
+abbrev pub intoArc : Header → (nodes words : List ℕ) → (from number place : ℕ) → Arc
+intoArc header nodes words from number place =
+    arcInto (nodesBook header nodes) (combinationsIn header words) from place
+    (record { number = number; matrix = [] })
+
+-- the arcs between a metastate's own states
+abbrev pub ownOf : Header → (nodes words : List ℕ) → (place : ℕ) → Metastate → List Arc
+ownOf header nodes words place x =
+    ownArcs (firstState (header .states) place)
+    (drop 1 (modelsOf (nodesBook header nodes) (combinationsIn header words) x))
+
+-- these, and the arc to FINAL where the metastate may end: what a turn adds before the arcs to followers
+abbrev pub plainOf : Header → (nodes words : List ℕ) → (place : ℕ) → Metastate → List Arc
+plainOf header nodes words place x =
+    ownOf header nodes words place x ++ finalArcs (nodesBook header nodes) (combinationsIn header words) place x
+
+-- ---- metastates entered from a state, in the room of the lent words
+
+-- what entering one leads to, by the combination's number and the words of its matrix
+abbrev pub entered : Header → (nodes words metastates arcs : List ℕ) → Sizes → (from number : ℕ)
+    → (columns : List ℕ) → Outcome Network
+entered header nodes words metastates arcs sizes from number columns =
+    perform (nodesBook header nodes) (combinationsIn header words) (roomOf metastates arcs)
+    (networkHeld (header .half) sizes metastates arcs)
+    (enter from (record { number = number; matrix = matrixIn (header .half) columns }))
+
+-- what entering several leads to
+abbrev pub enteringAll : Header → (nodes words : List ℕ) (from : ℕ) (metastates arcs : List ℕ)
+    → Network → List Metastate → Outcome Network
+enteringAll header nodes words from metastates arcs net xs =
+    performAll (nodesBook header nodes) (combinationsIn header words) (roomOf metastates arcs) net
+    (map (enter from) xs)
+
+-- ---- connecting
 
 -- what connecting leaves and answers
 pub record Connected (states : ℕ) (metastates arcs : List ℕ) (outcome : Outcome Built) (answer : Build)

@@ -6,32 +6,33 @@ use crate::chains::find;
 use crate::chains::link;
 use crate::records::model_of;
 use crate::records::phone_of;
+use definitions::ARC_SIZE;
 use definitions::Fault;
 use definitions::Header;
+use definitions::METASTATE_SIZE;
 use definitions::wide;
 use matrix::Matrix;
 use matrix::words::put_numbered;
 ghost use mathlib.Core.List.{[], _∷_, _++_};
 ghost use mathlib.Core.Path.{_≡_};
 ghost use Prim.Native.Nat.{_+_, _*_, _/_, _≤_, _<_, min};
-ghost use lib.Dec.{leb, ltb};
+ghost use lib.Dec.{leb};
 ghost use lib.ListN.{length, set, take, drop};
-ghost use Rattle.definitions.specs.Arcs.{arcSize, arcWords};
-ghost use Rattle.definitions.specs.Connecting.{arcInto, enter, perform};
-ghost use Rattle.definitions.specs.Lists.{_!_, if_then_else_};
-ghost use Rattle.definitions.specs.Matrices.{matrixWords};
+ghost use Rattle.definitions.specs.Arcs.{arcSize};
+ghost use Rattle.definitions.specs.Lists.{_!_};
 ghost use Rattle.definitions.specs.Metastates.{metastateSize};
 ghost use Rattle.network.specs.Chains.{keyOf, links};
-ghost use Rattle.matrix.specs.Shapes.{widthOf};
-ghost use Rattle.network.specs.Combinations.{combinationsIn, nodesBook, Usable, Modelled};
-ghost use Rattle.network.specs.Networks.{networkHeld, roomOf, Holds};
-ghost use Rattle.network.specs.Steps.{AfterStep, AreArcs};
+ghost use Rattle.matrix.specs.Shapes.{widthOf, HasWidth};
+ghost use Rattle.network.specs.Combinations.{combinationsIn, Usable, Modelled};
+ghost use Rattle.network.specs.Networks.{networkHeld, arcRoom, Holds};
+ghost use Rattle.network.specs.Steps.{AfterStep, AreArcs, ArcsAppended};
+ghost use Rattle.network.specs.Steps.{ArcAnswered, ArcAppended, intoArc, entered};
 
 // How many arcs the lent words have room for.
 fn arc_room(words: usize) -> usize
     ensures { λ r. ⌜ r ≡ min (words / arcSize) 999999 ⌝ }
 {
-    let room = words / 4;
+    let room = words / ARC_SIZE;
     if 999999 < room {
         return 999999;
     }
@@ -42,7 +43,7 @@ fn arc_room(words: usize) -> usize
 fn metastate_room(words: usize) -> usize
     ensures { λ r. ⌜ r ≡ min (words / metastateSize) 65535 ⌝ }
 {
-    let room = words / 8;
+    let room = words / METASTATE_SIZE;
     if 65535 < room {
         return 65535;
     }
@@ -63,20 +64,15 @@ fn copy_arcs(words: &mut [u32], new: Arcs)
 
 // Appends new arcs after the first `count`, if all have room; answers whether.
 pub fn add_arcs(arcs: &mut [u32], count: usize, new: Arcs) -> bool
-    requires { ⌜ (count ≤ min (length (now arcs) / arcSize) 999999) × (new .count ≤ 3) ⌝ }
-    ensures room { λ r. ⌜ r ≡ leb (count + new .count) (min (length (now (arcs .entry)) / arcSize) 999999) ⌝ }
-    ensures words { λ r. ⌜
-        now (arcs .exit) ≡ (if r
-        then take (arcSize * count) (now (arcs .entry)) ++ take (arcSize * new .count) (new .words)
-        ++ drop (arcSize * count + arcSize * new .count) (now (arcs .entry))
-        else now (arcs .entry))
-        ⌝ }
+    requires { ⌜ (count ≤ arcRoom (now arcs)) × (new .count ≤ 3) ⌝ }
+    ensures room { λ r. ⌜ r ≡ leb (count + new .count) (arcRoom (now (arcs .entry))) ⌝ }
+    ensures words { λ r. ⌜ ArcsAppended count new r (now (arcs .entry)) (now (arcs .exit)) ⌝ }
 {
     if arc_room(arcs.len()) < count + new.count {
         return false;
     }
-    let from = 4 * count;
-    let end = from + 4 * new.count;
+    let from = ARC_SIZE * count;
+    let end = from + ARC_SIZE * new.count;
     copy_arcs(&mut arcs[from..end], new);
     true
 }
@@ -95,8 +91,7 @@ fn arc_into(
         × (number < length (combinationsIn header (now combinations))) × (place < 65535)
         ⌝ }
     ensures { λ r. ⌜
-        AreArcs r (arcInto (nodesBook header (now (nodes .entry))) (combinationsIn header (now (combinations .entry)))
-        from place (record { number = number; matrix = [] }) ∷ [])
+        AreArcs r (intoArc header (now (nodes .entry)) (now (combinations .entry)) from number place ∷ [])
         ⌝ }
 {
     let to = 2 + place * wide(header.states);
@@ -122,20 +117,12 @@ fn enter_at(
     requires { ⌜
         Usable header (now combinations) × Modelled header (now nodes) (now combinations)
         × (number < length (combinationsIn header (now combinations))) × (place < 65535)
-        × (sizes .arcs ≤ min (length (now arcs) / arcSize) 999999)
+        × (sizes .arcs ≤ arcRoom (now arcs))
         ⌝ }
-    ensures answer { λ r. ⌜
-        r ≡ (if ltb (sizes .arcs) (min (length (now (arcs .entry)) / arcSize) 999999)
-        then Step.Next (record { metastates = sizes .metastates; arcs = sizes .arcs + 1 })
-        else Step.Stop Fault.Tangle)
-        ⌝ }
+    ensures answer { λ r. ⌜ ArcAnswered sizes (now (arcs .entry)) r ⌝ }
     ensures words { λ r. ⌜
-        now (arcs .exit) ≡ (if ltb (sizes .arcs) (min (length (now (arcs .entry)) / arcSize) 999999)
-        then take (arcSize * sizes .arcs) (now (arcs .entry))
-        ++ arcWords (arcInto (nodesBook header (now (nodes .entry)))
-        (combinationsIn header (now (combinations .entry))) from place (record { number = number; matrix = [] }))
-        ++ drop (arcSize * sizes .arcs + arcSize) (now (arcs .entry))
-        else now (arcs .entry))
+        ArcAppended sizes (intoArc header (now (nodes .entry)) (now (combinations .entry)) from number place)
+        (now (arcs .entry)) (now (arcs .exit))
         ⌝ }
 {
     let new = arc_into(header, nodes, combinations, from, place, number);
@@ -165,9 +152,7 @@ fn add_metastate(metastates: &mut [u64], chains: &mut [u32], place: usize, numbe
         (keyOf (number ∷ m .columns)) (place + 1)
         ⌝ }
 {
-    let at = 8 * place;
-    let end = at + 8;
-    put_numbered(&mut metastates[at..end], number as u64, m);
+    put_numbered(metastates, METASTATE_SIZE * place, number as u64, m);
     link(chains, place, number as u64, m);
 }
 
@@ -187,7 +172,7 @@ pub fn enter(
     requires { ⌜
         Usable header (now combinations) × Modelled header (now nodes) (now combinations)
         × (number < length (combinationsIn header (now combinations)))
-        × (m .columns ≡ matrixWords (take (widthOf (header .half)) (m .columns)))
+        × HasWidth (widthOf (header .half)) (m .columns)
         × Holds (header .half) (length (combinationsIn header (now combinations)))
         (networkHeld (header .half) sizes (now metastates) (now arcs))
         (now metastates) (now arcs) (now chains)
@@ -195,14 +180,12 @@ pub fn enter(
     ensures { λ r. ⌜
         AfterStep (header .half) (length (combinationsIn header (now (combinations .entry))))
         (now (metastates .entry)) (now (arcs .entry))
-        (perform (nodesBook header (now (nodes .entry))) (combinationsIn header (now (combinations .entry)))
-        (roomOf (now (metastates .entry)) (now (arcs .entry)))
-        (networkHeld (header .half) sizes (now (metastates .entry)) (now (arcs .entry)))
-        (enter from (record { number = number; matrix = take (widthOf (header .half)) (m .columns) })))
+        (entered header (now (nodes .entry)) (now (combinations .entry)) (now (metastates .entry))
+        (now (arcs .entry)) sizes from number (m .columns))
         r (now (metastates .exit)) (now (arcs .exit)) (now (chains .exit))
         ⌝ }
 {
-    let used = 8 * sizes.metastates;
+    let used = METASTATE_SIZE * sizes.metastates;
     let found = find(&metastates[..used], chains, number as u64, m);
     if found != 0 {
         return enter_at(

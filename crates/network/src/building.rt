@@ -1,21 +1,20 @@
 // The build from lent tables into lent space: 18, then 30, then 31 or 32 as construction meets them.
 use crate::Build;
 use crate::connecting::connect;
+use definitions::COMBINATION_SIZE;
 use definitions::Header;
-use lines::clearing::clear_sets;
+use lines::clearing::clear_wide_words;
 use lines::clearing::clear_words;
 use metastates::Combined;
 use metastates::combining::combine;
 ghost use mathlib.Core.Path.{_≡_};
 ghost use Prim.Native.Nat.{_*_, _≤_};
 ghost use lib.ListN.{length, take};
-ghost use Rattle.definitions.specs.Building.{build, buffersLeft};
 ghost use Rattle.definitions.specs.Combinations.{combinationSize};
 ghost use Rattle.definitions.specs.Connecting.{connect};
 ghost use Rattle.definitions.specs.Lists.{cleared};
-ghost use Rattle.definitions.specs.Tables.{tablesBook};
 ghost use Rattle.tables.specs.Lending.{lentTables};
-ghost use Rattle.network.specs.Answers.{buildOf, lentSpace, lentBuffers};
+ghost use Rattle.network.specs.Answers.{lentSpace, lentBuffers, buildAnswer, buildLeft};
 ghost use Rattle.network.specs.Combinations.{combinationsIn, nodesBook};
 ghost use Rattle.network.specs.Combinations.{Usable, Modelled, Ending};
 ghost use Rattle.network.specs.Networks.{roomOf};
@@ -47,7 +46,7 @@ fn connect_in(
         r (now (combinations .exit)) (now (metastates .exit)) (now (arcs .exit))
         ⌝ }
 {
-    let used = 11 * count;
+    let used = COMBINATION_SIZE * count;
     let answer = connect(
         header,
         nodes,
@@ -65,8 +64,8 @@ fn connect_in(
             return Build::Stopped(totals);
         }
         Build::Refused(refusal) => {
-            clear_sets(combinations);
-            clear_sets(metastates);
+            clear_wide_words(combinations);
+            clear_wide_words(metastates);
             clear_words(arcs);
             return Build::Refused(refusal);
         }
@@ -85,21 +84,16 @@ pub fn build(
     limit: u32,
 ) -> Build
     ensures answer { λ r. ⌜
-        r ≡ buildOf (header .states) (build header
-        (lentTables (now (nodes .entry)) (now (classes .entry)) (now (roots .entry)))
-        (lentSpace (now (combinations .entry)) (now (metastates .entry)) (now (arcs .entry))) limit)
+        r ≡ buildAnswer header (lentTables (now (nodes .entry)) (now (classes .entry)) (now (roots .entry)))
+        (lentSpace (now (combinations .entry)) (now (metastates .entry)) (now (arcs .entry))) limit
         ⌝ }
     ensures leaves { λ r. ⌜
         lentBuffers (now (combinations .exit)) (now (metastates .exit)) (now (arcs .exit))
-        ≡ buffersLeft (tablesBook header
-        (lentTables (now (nodes .entry)) (now (classes .entry)) (now (roots .entry))))
-        (lentSpace (now (combinations .entry)) (now (metastates .entry)) (now (arcs .entry)))
-        (build header
-        (lentTables (now (nodes .entry)) (now (classes .entry)) (now (roots .entry)))
-        (lentSpace (now (combinations .entry)) (now (metastates .entry)) (now (arcs .entry))) limit)
+        ≡ buildLeft header (lentTables (now (nodes .entry)) (now (classes .entry)) (now (roots .entry)))
+        (lentSpace (now (combinations .entry)) (now (metastates .entry)) (now (arcs .entry))) limit
         ⌝ }
 {
-    clear_sets(metastates);
+    clear_wide_words(metastates);
     clear_words(arcs);
     let by_phone = combine(header, nodes, classes, roots, combinations);
     let answer = by_phone.answer;

@@ -1,6 +1,7 @@
-// Metastates are found through chains: `chains` has for each key the latest metastate of that key, and from 65536 on for each
-// metastate the one before it of the same key. Places in it count from 1; 0 ends a chain. A key is a remainder by 65521, the
-// largest prime below 65536, so that keys spread.
+// Metastates are found through chains: `chains` has for each key the latest metastate of that key, and from 65536 on
+// for each metastate the one before it of the same key. Places in it count from 1; 0 ends a chain. A key is a
+// remainder by 65521, the largest prime below 65536, so that keys spread.
+use definitions::METASTATE_SIZE;
 use definitions::wide;
 use matrix::Matrix;
 use matrix::words::is_numbered;
@@ -31,8 +32,8 @@ pub fn find(metastates: &[u64], chains: &[u32], number: u64, m: Matrix) -> usize
 {
     let mut at = wide(chains[key_of(number, m)]);
     while at != 0 {
-        let from = 8 * (at - 1);
-        if is_numbered(&metastates[from..from + 8], number, m) {
+        let from = METASTATE_SIZE * (at - 1);
+        if is_numbered(&metastates[from..from + METASTATE_SIZE], number, m) {
             return at;
         }
         at = wide(chains[65535 + at]);

@@ -8,9 +8,11 @@ use crate::adding::add_arcs;
 use crate::following::follow;
 use crate::records::model_of;
 use crate::records::phone_of;
+use definitions::ARC_SIZE;
 use definitions::Counts;
 use definitions::Fault;
 use definitions::Header;
+use definitions::METASTATE_SIZE;
 use definitions::Refusal;
 use definitions::wide;
 use matrix::Matrix;
@@ -18,22 +20,22 @@ use matrix::sets::all_phones;
 use matrix::shaping::around;
 use matrix::shaping::shift;
 use matrix::testing::ends_here;
-use matrix::words::matrix_from;
+use matrix::words::matrix_at;
 ghost use mathlib.Core.List.{List, [], _∷_, _++_};
 ghost use mathlib.Core.Path.{_≡_};
 ghost use Prim.Native.Nat.{_<_, _+_};
-ghost use lib.ListN.{length, take, drop};
-ghost use Rattle.definitions.specs.Arcs.{Arc, arc, firstState};
-ghost use Rattle.definitions.specs.Connecting.{ownArcs, finalArcs, startEvents, noNetwork, performAll, expand};
+ghost use lib.Dec.{T};
+ghost use lib.ListN.{length};
+ghost use Rattle.definitions.specs.Arcs.{Arc, arc, lastState};
+ghost use Rattle.definitions.specs.Connecting.{startEvents, noNetwork, performAll, expand};
 ghost use Rattle.definitions.specs.Connecting.{turnsFrom, connect};
+ghost use Rattle.definitions.specs.ForeignTables.{headerKnown};
 ghost use Rattle.definitions.specs.Lists.{cleared};
-ghost use Rattle.definitions.specs.Matrices.{matrixWords};
-ghost use Rattle.definitions.specs.Metastates.{modelsOf};
-ghost use Rattle.matrix.specs.Shapes.{widthOf};
+ghost use Rattle.matrix.specs.Shapes.{widthOf, matrixIn, HasWidth};
 ghost use Rattle.network.specs.Combinations.{combinationsIn, nodesBook};
 ghost use Rattle.network.specs.Combinations.{Usable, Modelled, Ending};
 ghost use Rattle.network.specs.Networks.{networkHeld, roomOf, Holds};
-ghost use Rattle.network.specs.Steps.{AfterStep, AreArcs, Connected};
+ghost use Rattle.network.specs.Steps.{AfterStep, AreArcs, ownOf, plainOf, Connected};
 
 // The new arcs and one more.
 fn with_arc(new: Arcs, from: usize, to: usize, model: u32) -> Arcs
@@ -41,7 +43,7 @@ fn with_arc(new: Arcs, from: usize, to: usize, model: u32) -> Arcs
     ensures { λ r. ⌜ ((arcs : List Arc) → AreArcs new arcs → AreArcs r (arcs ++ (arc from to model 0 ∷ []))) ⌝ }
 {
     let mut words = new.words;
-    let at = 4 * new.count;
+    let at = ARC_SIZE * new.count;
     words[at] = from as u32;
     words[at + 1] = to as u32;
     words[at + 2] = model;
@@ -65,9 +67,8 @@ fn own_arcs(
         × (number < length (combinationsIn header (now combinations))) × (place < 65535)
         ⌝ }
     ensures { λ r. ⌜
-        AreArcs r (ownArcs (firstState (header .states) place)
-        (drop 1 (modelsOf (nodesBook header (now (nodes .entry))) (combinationsIn header (now (combinations .entry)))
-        (record { number = number; matrix = [] }))))
+        AreArcs r (ownOf header (now (nodes .entry)) (now (combinations .entry)) place
+        (record { number = number; matrix = [] }))
         ⌝ }
 {
     let states = wide(header.states);
@@ -85,6 +86,15 @@ fn own_arcs(
     new
 }
 
+// The last state of the metastate at a place.
+fn last_state(header: Header, place: usize) -> u32
+    requires { ⌜ T (headerKnown header) × (place < 65535) ⌝ }
+    ensures { λ r. ⌜ r ≡ lastState (header .states) place ⌝ }
+{
+    let last = 1 + (place + 1) * wide(header.states);
+    last as u32
+}
+
 // A metastate's own arcs, and the arc to FINAL where it may end.
 fn plain_arcs(
     header: Header,
@@ -97,14 +107,11 @@ fn plain_arcs(
     requires { ⌜
         Usable header (now combinations) × Modelled header (now nodes) (now combinations)
         × (number < length (combinationsIn header (now combinations))) × (place < 65535)
-        × (m .columns ≡ matrixWords (take (widthOf (header .half)) (m .columns)))
+        × HasWidth (widthOf (header .half)) (m .columns)
         ⌝ }
     ensures { λ r. ⌜
-        AreArcs r (ownArcs (firstState (header .states) place)
-        (drop 1 (modelsOf (nodesBook header (now (nodes .entry))) (combinationsIn header (now (combinations .entry)))
-        (record { number = number; matrix = take (widthOf (header .half)) (m .columns) })))
-        ++ finalArcs (nodesBook header (now (nodes .entry))) (combinationsIn header (now (combinations .entry))) place
-        (record { number = number; matrix = take (widthOf (header .half)) (m .columns) }))
+        AreArcs r (plainOf header (now (nodes .entry)) (now (combinations .entry)) place
+        (record { number = number; matrix = matrixIn (header .half) (m .columns) }))
         ⌝ }
 {
     let own = own_arcs(header, nodes, combinations, place, number);
@@ -114,11 +121,10 @@ fn plain_arcs(
     if !ends_here(m, header.half) {
         return own;
     }
-    let last = 1 + (place + 1) * wide(header.states);
-    with_arc(own, last, 1, 0)
+    with_arc(own, wide(last_state(header, place)), 1, 0)
 }
 
-// A turn: appends the arcs of the metastate at a place.
+// One turn: appends the plain arcs of the metastate at a place, then the arcs to its followers.
 fn expand(
     header: Header,
     nodes: &[u32],
@@ -147,9 +153,9 @@ fn expand(
         r (now (metastates .exit)) (now (arcs .exit)) (now (chains .exit))
         ⌝ }
 {
-    let from = 8 * place;
+    let from = METASTATE_SIZE * place;
     let number = metastates[from] as usize;
-    let m = matrix_from(&metastates[from + 1..from + 8]);
+    let m = matrix_at(metastates, from + 1);
     let new = plain_arcs(header, nodes, combinations, place, number, m);
     if !add_arcs(arcs, sizes.arcs, new) {
         return Step::Stop(Fault::Tangle);
@@ -158,7 +164,7 @@ fn expand(
         metastates: sizes.metastates,
         arcs: sizes.arcs + new.count,
     };
-    let last = 1 + (place + 1) * wide(header.states);
+    let last = last_state(header, place);
     let shifted = shift(m, 2 * wide(header.half), all_phones(header.phones));
     follow(
         header,
@@ -169,7 +175,7 @@ fn expand(
         arcs,
         chains,
         next,
-        last as u32,
+        last,
         shifted,
     )
 }
@@ -238,8 +244,8 @@ fn totals(header: Header, turns: u32, sizes: Sizes) -> Totals
     }
 }
 
-// The turns after the start, until none is left to expand, the limit is used up, or there is no room.
-fn turn(
+// Takes turns after the start, until none is left to expand, the limit is used up, or there is no room.
+fn take_turns(
     header: Header,
     nodes: &[u32],
     combinations: &[u64],
@@ -332,7 +338,7 @@ pub fn connect(
     );
     match step {
         Step::Next(sizes) => {
-            return turn(
+            return take_turns(
                 header,
                 nodes,
                 combinations,

@@ -4,37 +4,33 @@ use crate::Step;
 use crate::adding::enter;
 use crate::records::matrix_of;
 use crate::records::phone_of;
+use definitions::COMBINATION_SIZE;
 use definitions::Header;
 use definitions::wide;
 use matrix::Matrix;
 use matrix::meeting::meet;
 use matrix::sets::has_phone;
 use matrix::testing::valid;
-ghost use mathlib.Core.List.{map};
 ghost use mathlib.Core.Path.{_≡_};
 ghost use mathlib.Core.Bool.{false};
-ghost use Prim.Native.Nat.{ℕ, _≤_, _<_};
-ghost use lib.ListN.{length, take};
-ghost use Rattle.definitions.specs.Connecting.{enter, performAll};
-ghost use Rattle.definitions.specs.Matrices.{matrixWords, valid, meet};
+ghost use Prim.Native.Nat.{_≤_, _<_};
+ghost use lib.ListN.{length};
 ghost use Rattle.definitions.specs.Metastates.{followersFrom};
-ghost use Rattle.matrix.specs.Shapes.{widthOf};
-ghost use Rattle.definitions.specs.laws.Metastates.{numbered};
-ghost use Rattle.network.specs.Combinations.{combinationsIn, nodesBook};
-ghost use Rattle.network.specs.Combinations.{Usable, Modelled, Ending};
-ghost use Rattle.network.specs.Networks.{networkHeld, roomOf, Holds};
-ghost use Rattle.network.specs.Steps.{AfterStep};
-ghost use Rattle.network.specs.Following.{NextFollower};
+ghost use Rattle.matrix.specs.Shapes.{widthOf, matrixIn, HasWidth};
+ghost use Rattle.network.specs.Combinations.{combinationsIn, Usable, Modelled, Ending};
+ghost use Rattle.network.specs.Networks.{networkHeld, Holds};
+ghost use Rattle.network.specs.Steps.{AfterStep, enteringAll};
+ghost use Rattle.network.specs.Following.{followsAt, Beyond, NextFollower};
 
 // Whether a combination's matrix meets a matrix validly; not tried where the centre lacks its phone.
 fn follows(header: Header, combinations: &[u64], number: usize, shifted: Matrix) -> bool
     requires { ⌜
         Usable header (now combinations) × (number < length (combinationsIn header (now combinations)))
-        × (shifted .columns ≡ matrixWords (take (widthOf (header .half)) (shifted .columns)))
+        × HasWidth (widthOf (header .half)) (shifted .columns)
         ⌝ }
     ensures { λ r. ⌜
-        r ≡ valid (meet (take (widthOf (header .half)) (shifted .columns))
-        (numbered (combinationsIn header (now (combinations .entry))) number .matrix))
+        r ≡ followsAt (matrixIn (header .half) (shifted .columns))
+        (combinationsIn header (now (combinations .entry))) number
         ⌝ }
 {
     let centre = shifted.columns[wide(header.half)];
@@ -58,15 +54,12 @@ fn after(
     requires { ⌜
         Usable header (now combinations) × Ending header (now combinations) (now ends)
         × (number < length (combinationsIn header (now combinations)))
-        × (shifted .columns ≡ matrixWords (take (widthOf (header .half)) (shifted .columns)))
-        × (valid (meet (take (widthOf (header .half)) (shifted .columns))
-        (numbered (combinationsIn header (now combinations)) number .matrix)) ≡ false)
+        × HasWidth (widthOf (header .half)) (shifted .columns)
+        × (followsAt (matrixIn (header .half) (shifted .columns))
+        (combinationsIn header (now combinations)) number ≡ false)
         ⌝ }
     ensures { λ r. ⌜
-        (number < r) × (r ≤ length (combinationsIn header (now (combinations .entry))))
-        × ((i : ℕ) → number ≤ i → i < r
-        → valid (meet (take (widthOf (header .half)) (shifted .columns))
-        (numbered (combinationsIn header (now (combinations .entry))) i .matrix)) ≡ false)
+        Beyond (matrixIn (header .half) (shifted .columns)) (combinationsIn header (now (combinations .entry))) number r
         ⌝ }
 {
     let centre = shifted.columns[wide(header.half)];
@@ -88,15 +81,15 @@ fn next_follower(
     requires { ⌜
         Usable header (now combinations) × Ending header (now combinations) (now ends)
         × (from ≤ length (combinationsIn header (now combinations)))
-        × (shifted .columns ≡ matrixWords (take (widthOf (header .half)) (shifted .columns)))
+        × HasWidth (widthOf (header .half)) (shifted .columns)
         ⌝ }
     ensures { λ r. ⌜
-        NextFollower (take (widthOf (header .half)) (shifted .columns))
+        NextFollower (matrixIn (header .half) (shifted .columns))
         (combinationsIn header (now (combinations .entry))) from r
         ⌝ }
 {
     let mut number = from;
-    while number < combinations.len() / 11 {
+    while number < combinations.len() / COMBINATION_SIZE {
         if follows(header, combinations, number, shifted) {
             return number;
         }
@@ -121,7 +114,7 @@ pub fn follow(
     requires { ⌜
         Usable header (now combinations) × Modelled header (now nodes) (now combinations)
         × Ending header (now combinations) (now ends)
-        × (shifted .columns ≡ matrixWords (take (widthOf (header .half)) (shifted .columns)))
+        × HasWidth (widthOf (header .half)) (shifted .columns)
         × Holds (header .half) (length (combinationsIn header (now combinations)))
         (networkHeld (header .half) sizes (now metastates) (now arcs))
         (now metastates) (now arcs) (now chains)
@@ -129,17 +122,16 @@ pub fn follow(
     ensures { λ r. ⌜
         AfterStep (header .half) (length (combinationsIn header (now (combinations .entry))))
         (now (metastates .entry)) (now (arcs .entry))
-        (performAll (nodesBook header (now (nodes .entry))) (combinationsIn header (now (combinations .entry)))
-        (roomOf (now (metastates .entry)) (now (arcs .entry)))
-        (networkHeld (header .half) sizes (now (metastates .entry)) (now (arcs .entry)))
-        (map (enter from) (followersFrom (take (widthOf (header .half)) (shifted .columns)) 0
-        (combinationsIn header (now (combinations .entry))))))
+        (enteringAll header (now (nodes .entry)) (now (combinations .entry)) from (now (metastates .entry))
+        (now (arcs .entry)) (networkHeld (header .half) sizes (now (metastates .entry)) (now (arcs .entry)))
+        (followersFrom (matrixIn (header .half) (shifted .columns)) 0
+        (combinationsIn header (now (combinations .entry)))))
         r (now (metastates .exit)) (now (arcs .exit)) (now (chains .exit))
         ⌝ }
 {
     let mut now = sizes;
     let mut number = next_follower(header, combinations, ends, 0, shifted);
-    while number < combinations.len() / 11 {
+    while number < combinations.len() / COMBINATION_SIZE {
         let own = matrix_of(combinations, number);
         let met = meet(shifted, own);
         let step = enter(

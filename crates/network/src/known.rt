@@ -1,4 +1,5 @@
 // The test for foreign arcs (18): whether lent arcs, with their counts, are some that the network reader leaves.
+use definitions::ARC_SIZE;
 use definitions::Counts;
 use definitions::wide;
 use lines::Letters;
@@ -73,9 +74,9 @@ fn arcs_known(counts: Counts, arcs: &[u32]) -> bool
 {
     let mut last = 0;
     let mut i = 0;
-    while i < arcs.len() / 4 {
-        let at = 4 * i;
-        if !arc_known(counts, &arcs[at..at + 4]) {
+    while i < arcs.len() / ARC_SIZE {
+        let at = ARC_SIZE * i;
+        if !arc_known(counts, &arcs[at..at + ARC_SIZE]) {
             return false;
         }
         let from = arcs[at];
@@ -95,7 +96,7 @@ pub fn network_known(counts: Counts, arcs: &[u32]) -> bool
     if !counts_known(counts) {
         return false;
     }
-    let used = 4 * wide(counts.arcs);
+    let used = ARC_SIZE * wide(counts.arcs);
     if !holds_only(arcs, used) {
         return false;
     }

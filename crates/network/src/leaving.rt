@@ -1,6 +1,7 @@
 // The arcs that leave a state, handed out as a part of the lent arcs: 18, then 42.
 use crate::known::is_state;
 use crate::known::network_known;
+use definitions::ARC_SIZE;
 use definitions::Counts;
 use definitions::wide;
 ghost use mathlib.Core.Path.{_≡_};
@@ -23,10 +24,10 @@ fn arcs_below(arcs: &[u32], state: usize) -> usize
         ⌝ }
 {
     let mut low = 0;
-    let mut high = arcs.len() / 4;
+    let mut high = arcs.len() / ARC_SIZE;
     while low < high {
         let middle = low + (high - low) / 2;
-        if wide(arcs[4 * middle]) < state {
+        if wide(arcs[ARC_SIZE * middle]) < state {
             low = middle + 1;
         } else {
             high = middle;
@@ -35,8 +36,8 @@ fn arcs_below(arcs: &[u32], state: usize) -> usize
     low
 }
 
-// Hands out the arcs that leave a state; `fault` becomes 0, or the number of the fault. The part's address says where it stands, also
-// where it has no arcs.
+// Hands out the arcs that leave a state; `fault` becomes 0, or the number of the fault. The part's address says where
+// it stands, also where it has no arcs.
 pub fn leaving<'a>(counts: Counts, arcs: &'a [u32], state: u32, fault: &mut u32) -> &'a [u32]
     ensures fault { λ r. ⌜ now (fault .exit) ≡ faultOf (leaving counts (now (arcs .entry)) state) ⌝ }
     ensures address { λ r. ⌜
@@ -57,9 +58,9 @@ pub fn leaving<'a>(counts: Counts, arcs: &'a [u32], state: u32, fault: &mut u32)
         *fault = 42;
         return &arcs[0..0];
     }
-    let used = 4 * wide(counts.arcs);
+    let used = ARC_SIZE * wide(counts.arcs);
     let first = arcs_below(&arcs[..used], wide(state));
     let end = arcs_below(&arcs[..used], wide(state) + 1);
     *fault = 0;
-    &arcs[4 * first..4 * end]
+    &arcs[ARC_SIZE * first..ARC_SIZE * end]
 }

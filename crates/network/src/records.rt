@@ -1,6 +1,7 @@
 // What the records of combinations say: phone, matrix, and the models of their leaves.
+use definitions::COMBINATION_SIZE;
 use matrix::Matrix;
-use matrix::words::matrix_from;
+use matrix::words::matrix_at;
 use tables::records::node_at;
 ghost use mathlib.Core.Path.{_≡_};
 ghost use Prim.Native.Nat.{_+_, _*_, _≤_, _<_};
@@ -19,7 +20,7 @@ pub fn phone_of(combinations: &[u64], number: usize) -> u32
         ⌝ }
     ensures { λ r. ⌜ r ≡ now (combinations .entry) ! (combinationSize * number) ⌝ }
 {
-    combinations[11 * number] as u32
+    combinations[COMBINATION_SIZE * number] as u32
 }
 
 // The matrix of a combination.
@@ -29,8 +30,7 @@ pub fn matrix_of(combinations: &[u64], number: usize) -> Matrix
         r .columns ≡ take matrixSize (drop (combinationSize * number + 4) (now (combinations .entry)))
         ⌝ }
 {
-    let from = 11 * number;
-    matrix_from(&combinations[from + 4..from + 11])
+    matrix_at(combinations, COMBINATION_SIZE * number + 4)
 }
 
 // The model of a combination's state; states count from 0 here.
@@ -44,7 +44,7 @@ pub fn model_of(nodes: &[u32], combinations: &[u64], number: usize, state: usize
         (now (nodes .entry))) .value
         ⌝ }
 {
-    let leaf = combinations[11 * number + 1 + state];
+    let leaf = combinations[COMBINATION_SIZE * number + 1 + state];
     let record = node_at(nodes, leaf as u32);
     record.value
 }

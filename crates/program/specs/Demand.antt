@@ -15,8 +15,8 @@ use Rattle.definitions.specs.laws.RoundTrips.{Leaves}
 
 -- Where what is printed begins with a W, the input is an accepted book, and what is printed is network text:
 -- reading it leaves counts and words of which demand 3 holds.
-abbrev pub MeetsDemand3 : (input output : List ℕ) → Type 0
-MeetsDemand3 input output =
+abbrev pub PrintsDemand3 : (input output : List ℕ) → Type 0
+PrintsDemand3 input output =
     output ! 0 ≡ code "W"
     → (lines : List BookLine) × (readBook programLent input ≡ answered lines)
     × (counts : Counts) × (words : List ℕ) × Leaves (length words) output counts words

@@ -1,8 +1,12 @@
 // The program's work: a book's network text, or the line of its refusal.
 use crate::Output;
 use builder::building::build_book;
+use definitions::ARC_SIZE;
+use definitions::COMBINATION_SIZE;
 use definitions::Counts;
 use definitions::Fault;
+use definitions::METASTATE_SIZE;
+use definitions::NODE_SIZE;
 use definitions::Refusal;
 use definitions::number;
 use lines::Row;
@@ -17,7 +21,7 @@ ghost use lib.ListN.{length, take};
 ghost use Rattle.definitions.specs.Arcs.{arcSize};
 ghost use Rattle.definitions.specs.NetworkText.{networkKnown};
 ghost use Rattle.definitions.specs.Program.{refusalText, program};
-ghost use Rattle.program.specs.Demand.{MeetsDemand3};
+ghost use Rattle.program.specs.Demand.{PrintsDemand3};
 ghost use Rattle.program.specs.Printing.{outputSize, Empty, Prints, textIn, bookText};
 
 // One line X with number and line.
@@ -57,12 +61,12 @@ fn print_built(text: &[u8], output: &mut [u8]) -> usize
     requires { ⌜ (length (now text) ≤ 65536) × Empty (now output) ⌝ }
     ensures { λ r. ⌜ Prints (bookText (now (text .entry))) (now (output .exit)) r ⌝ }
 {
-    let mut nodes = [0u32; 5120];
+    let mut nodes = [0u32; 1024 * NODE_SIZE];
     let mut classes = [0u64; 255];
     let mut roots = [0u32; 192];
-    let mut combinations = [0u64; 5632];
-    let mut metastates = [0u64; 4096];
-    let mut arcs = [0u32; 8000];
+    let mut combinations = [0u64; 512 * COMBINATION_SIZE];
+    let mut metastates = [0u64; 512 * METASTATE_SIZE];
+    let mut arcs = [0u32; 2000 * ARC_SIZE];
     let answer = build_book(
         text,
         &mut nodes,
@@ -108,7 +112,7 @@ fn print_all(input: &[u8], output: &mut [u8]) -> usize
 // What the program prints for an input.
 pub fn run(input: &[u8]) -> Output
     ensures prints { λ r. ⌜ Prints (program (now (input .entry))) (r .bytes) (r .length) ⌝ }
-    ensures demand { λ r. ⌜ MeetsDemand3 (now (input .entry)) (take (r .length) (r .bytes)) ⌝ }
+    ensures demand { λ r. ⌜ PrintsDemand3 (now (input .entry)) (take (r .length) (r .bytes)) ⌝ }
     ensures fits { λ r. ⌜ (outputSize ≡ length (r .bytes)) × (r .length ≤ outputSize) ⌝ }
 {
     let mut bytes = [0u8; 64032];

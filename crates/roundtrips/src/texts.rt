@@ -1,6 +1,6 @@
 // One network text: what reading answers and leaves, and the network written again.
 use crate::written::show_again;
-use crate::written::show_strangers;
+use crate::written::show_foreign;
 use definitions::Counts;
 use nettext::Reading;
 use nettext::reader::read;
@@ -31,7 +31,7 @@ pub fn show_text(title: &[u8], text: &[u8]) {
             print(b"  arcs");
             print_used_words(&arcs);
             show_again(counts, &arcs, text);
-            show_strangers(counts, &mut arcs);
+            show_foreign(counts, &mut arcs);
         }
         Reading::Refused(refusal) => {
             print_refusal(refusal);

@@ -79,7 +79,7 @@ pub fn show_again(counts: Counts, arcs: &[u32], text: &[u8]) {
 }
 
 // What writing a network answers that no text leaves.
-fn show_stranger(what: &[u8], counts: Counts, arcs: &[u32]) {
+fn show_foreign_case(what: &[u8], counts: Counts, arcs: &[u32]) {
     let mut buffer = [7u8; 420];
     print(b"  ");
     print(what);
@@ -107,20 +107,20 @@ fn show_changed(what: &[u8], counts: Counts, arcs: &mut [u32], place: usize, wor
     if place < arcs.len() {
         let kept = arcs[place];
         arcs[place] = word;
-        show_stranger(what, counts, arcs);
+        show_foreign_case(what, counts, arcs);
         arcs[place] = kept;
     }
 }
 
 // A network with one of its counts or one of its words changed.
-pub fn show_strangers(counts: Counts, arcs: &mut [u32]) {
+pub fn show_foreign(counts: Counts, arcs: &mut [u32]) {
     let k = counts.states;
     let m = counts.metastates;
     let a = counts.arcs;
-    show_stranger(b"four states", with_counts(4, m, a), arcs);
-    show_stranger(b"no metastates", with_counts(k, 0, a), arcs);
-    show_stranger(b"no arcs", with_counts(k, m, 0), arcs);
-    show_stranger(b"more arcs than words", with_counts(k, m, 13), arcs);
+    show_foreign_case(b"four states", with_counts(4, m, a), arcs);
+    show_foreign_case(b"no metastates", with_counts(k, 0, a), arcs);
+    show_foreign_case(b"no arcs", with_counts(k, m, 0), arcs);
+    show_foreign_case(b"more arcs than words", with_counts(k, m, 13), arcs);
     show_changed(b"first arc from state 3", counts, arcs, 0, 3);
     show_changed(b"phone 65", counts, arcs, 3, 65);
     show_changed(b"a word beyond the arcs", counts, arcs, 49, 1);

@@ -23,13 +23,13 @@ pub fn used_words(words: &[u32]) -> usize
     used
 }
 
-pub fn used_sets(sets: &[u64]) -> usize
-    ensures within { λ r. ⌜ r ≤ length (now (sets .entry)) ⌝ }
-    ensures used { λ r. ⌜ r ≡ usedOf (now (sets .entry)) ⌝ }
+pub fn used_wide_words(wide: &[u64]) -> usize
+    ensures within { λ r. ⌜ r ≤ length (now (wide .entry)) ⌝ }
+    ensures used { λ r. ⌜ r ≡ usedOf (now (wide .entry)) ⌝ }
 {
-    let mut used = sets.len();
+    let mut used = wide.len();
     while 0 < used {
-        if sets[used - 1] != 0 {
+        if wide[used - 1] != 0 {
             return used;
         }
         used -= 1;

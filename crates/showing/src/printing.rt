@@ -1,5 +1,5 @@
 // Words, numbers and refusals on standard output.
-use crate::comparing::used_sets;
+use crate::comparing::used_wide_words;
 use crate::comparing::used_words;
 use definitions::Refusal;
 use definitions::number;
@@ -25,10 +25,10 @@ pub fn print_words(words: &[u32]) {
     }
 }
 
-pub fn print_sets(sets: &[u64]) {
+pub fn print_wide_words(wide: &[u64]) {
     let mut i = 0;
-    while i < sets.len() {
-        print_number(sets[i]);
+    while i < wide.len() {
+        print_number(wide[i]);
         i += 1;
     }
 }
@@ -42,11 +42,11 @@ pub fn print_used_words(words: &[u32]) {
     print(b"\n");
 }
 
-pub fn print_used_sets(sets: &[u64]) {
-    let used = used_sets(sets);
-    print_sets(&sets[0..used]);
+pub fn print_used_wide_words(wide: &[u64]) {
+    let used = used_wide_words(wide);
+    print_wide_words(&wide[0..used]);
     print(b", then 0 to the end:");
-    print_number((sets.len() - used) as u64);
+    print_number((wide.len() - used) as u64);
     print(b"\n");
 }
 

@@ -1,13 +1,11 @@
 -- The three lent slices of a contract: as tables, and their lengths.
 use mathlib.Core.List.{List}
 use Prim.Native.Nat.{ℕ}
-use lib.ListN.{length}
 use Rattle.definitions.specs.BookReading.{Lent}
-use Rattle.definitions.specs.Tables.{Tables}
+use Rattle.definitions.specs.Tables.{Tables, lentOf}
 
 abbrev pub lentTables : (nodes classes roots : List ℕ) → Tables
 lentTables nodes classes roots = record { nodes = nodes; classes = classes; roots = roots }
 
 abbrev pub lengthsOf : (nodes classes roots : List ℕ) → Lent
-lengthsOf nodes classes roots =
-    record { nodes = length nodes; classes = length classes; roots = length roots }
+lengthsOf nodes classes roots = lentOf (lentTables nodes classes roots)

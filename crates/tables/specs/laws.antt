@@ -2,10 +2,9 @@
 -- them hold.
 pub mod Records
 pub mod Naming
-pub mod Known
-pub mod TablesKnown
+pub mod RecordTests
+pub mod TableTests
 pub mod NamingTables
-pub mod Foreign
+pub mod LookupOrder
 pub mod Roots
 pub mod KnownTables
-pub mod KnownSound

@@ -13,11 +13,11 @@ ghost use mathlib.Core.Bool.{_&&_};
 ghost use mathlib.Core.List.{[], map};
 ghost use mathlib.Core.Path.{_≡_};
 ghost use Prim.Native.Nat.{_*_};
-ghost use lib.Dec.{T};
+ghost use lib.Dec.{T, ltb, eqb};
 ghost use Rattle.definitions.specs.BookLines.{childrenOf};
 ghost use Rattle.definitions.specs.BookReading.{nodeSize};
-ghost use Rattle.definitions.specs.ForeignTables.{headerKnown, holdsOnly, rootTableKnown};
-ghost use Rattle.definitions.specs.ForeignTables.{namedOnce, tablesKnown};
+ghost use Rattle.definitions.specs.ForeignTables.{headerKnown, holdsOnly, nodeTableKnown, classTableKnown};
+ghost use Rattle.definitions.specs.ForeignTables.{rootTableKnown, namedOnce, tablesKnown};
 ghost use Rattle.definitions.specs.Lists.{concatMap};
 ghost use Rattle.definitions.specs.Lookup.{lookupKnown};
 ghost use Rattle.definitions.specs.Tables.{nodeRecords, tablesBook, treeNode};
@@ -76,10 +76,11 @@ fn named_once(header: Header, nodes: &[u32], roots: &[u32]) -> bool
     first_misnamed(&counts[..count]) == count
 }
 
-// Whether reading leaves these tables with this header.
-pub fn tables_known(header: Header, nodes: &[u32], classes: &[u64], roots: &[u32]) -> bool
+// Whether reading leaves these records and classes with this header.
+fn records_known(header: Header, nodes: &[u32], classes: &[u64]) -> bool
     ensures { λ r. ⌜
-        r ≡ tablesKnown header (lentTables (now (nodes .entry)) (now (classes .entry)) (now (roots .entry)))
+        r ≡ (headerKnown header && nodeTableKnown header (now (nodes .entry))
+        && classTableKnown header (now (classes .entry)))
         ⌝ }
 {
     if !header_known(header) {
@@ -88,7 +89,16 @@ pub fn tables_known(header: Header, nodes: &[u32], classes: &[u64], roots: &[u32
     if !node_table_known(header, nodes) {
         return false;
     }
-    if !class_table_known(header, classes) {
+    class_table_known(header, classes)
+}
+
+// Whether reading leaves these tables with this header.
+pub fn tables_known(header: Header, nodes: &[u32], classes: &[u64], roots: &[u32]) -> bool
+    ensures { λ r. ⌜
+        r ≡ tablesKnown header (lentTables (now (nodes .entry)) (now (classes .entry)) (now (roots .entry)))
+        ⌝ }
+{
+    if !records_known(header, nodes, classes) {
         return false;
     }
     if !root_table_known(header, roots) {
@@ -105,10 +115,23 @@ pub fn lookup_known(header: Header, nodes: &[u32], classes: &[u64], root: u32) -
         && lookupKnown header (now (classes .entry)) (nodeRecords header (now (nodes .entry))) root)
         ⌝ }
 {
+    if !records_known(header, nodes, classes) {
+        return false;
+    }
+    root < header.nodes
+}
+
+// The same of a list of so many node records, but for the records, which are judged one by one.
+pub fn list_known(header: Header, count: usize, classes: &[u64], root: u32) -> bool
+    ensures { λ r. ⌜
+        r ≡ (headerKnown header && eqb count (header .nodes) && classTableKnown header (now (classes .entry))
+        && ltb root (header .nodes))
+        ⌝ }
+{
     if !header_known(header) {
         return false;
     }
-    if !node_table_known(header, nodes) {
+    if count != wide(header.nodes) {
         return false;
     }
     if !class_table_known(header, classes) {

@@ -1,18 +1,18 @@
 // Each table by itself: whether its words are some that reading leaves under a header.
+use crate::nodes::record_known;
 use crate::records::node_at;
 use crate::words::holds_only;
 use crate::words::holds_only_sets;
 use definitions::Header;
-use definitions::Node;
+use definitions::NODE_SIZE;
 use definitions::wide;
 use lines::Letters;
 use lines::Row;
 use lines::ranges::in_fixed_ranges;
-ghost use mathlib.Core.Bool.{_||_};
 ghost use mathlib.Core.Path.{_≡_};
 ghost use Prim.Native.Nat.{_≤_, _^_};
 ghost use lib.Dec.{T, ltb};
-ghost use Rattle.definitions.specs.ForeignTables.{headerKnown, questionKnown, leafKnown};
+ghost use Rattle.definitions.specs.ForeignTables.{headerKnown};
 ghost use Rattle.definitions.specs.ForeignTables.{nodeTableKnown, classTableKnown, rootTableKnown};
 ghost use Rattle.definitions.specs.Lists.{every};
 
@@ -36,74 +36,12 @@ pub fn header_known(header: Header) -> bool
     )
 }
 
-// A record that an N line leaves as node `at`.
-fn question_known(header: Header, at: u32, node: Node) -> bool
-    requires { ⌜ header .half ≤ 3 ⌝ }
-    ensures { λ r. ⌜ r ≡ questionKnown header at node ⌝ }
-{
-    if node.kind != 1 {
-        return false;
-    }
-    if node.value < 1 {
-        return false;
-    }
-    if header.classes < node.value {
-        return false;
-    }
-    if 2 * header.half < node.position {
-        return false;
-    }
-    if node.yes <= at {
-        return false;
-    }
-    if header.nodes <= node.yes {
-        return false;
-    }
-    if node.no <= at {
-        return false;
-    }
-    node.no < header.nodes
-}
-
-// A record that an L line leaves.
-fn leaf_known(node: Node) -> bool
-    ensures { λ r. ⌜ r ≡ leafKnown node ⌝ }
-{
-    if node.kind != 2 {
-        return false;
-    }
-    if node.value < 1 {
-        return false;
-    }
-    if 65535 < node.value {
-        return false;
-    }
-    if node.position != 0 {
-        return false;
-    }
-    if node.yes != 0 {
-        return false;
-    }
-    node.no == 0
-}
-
-// A record that an N or L line leaves as node `at`.
-fn record_known(header: Header, at: u32, node: Node) -> bool
-    requires { ⌜ header .half ≤ 3 ⌝ }
-    ensures { λ r. ⌜ r ≡ (questionKnown header at node || leafKnown node) ⌝ }
-{
-    if question_known(header, at, node) {
-        return true;
-    }
-    leaf_known(node)
-}
-
 // Records that N and L lines leave, and nothing beyond them.
 pub fn node_table_known(header: Header, words: &[u32]) -> bool
     requires { ⌜ T (headerKnown header) ⌝ }
     ensures { λ r. ⌜ r ≡ nodeTableKnown header (now (words .entry)) ⌝ }
 {
-    if !holds_only(words, 5 * wide(header.nodes)) {
+    if !holds_only(words, NODE_SIZE * wide(header.nodes)) {
         return false;
     }
     let mut at = 0;

@@ -3,6 +3,7 @@
 pub mod foreign;
 mod known;
 pub mod naming;
+pub mod nodes;
 pub mod records;
 pub mod roots;
 pub mod words;

@@ -1,4 +1,5 @@
 // A word of a table, and the five words of a node out of the table of nodes.
+use definitions::NODE_SIZE;
 use definitions::Node;
 ghost use mathlib.Core.Path.{_≡_};
 ghost use Prim.Native.Nat.{_*_};
@@ -21,7 +22,7 @@ pub fn word_at(words: &[u32], place: usize) -> u32
 pub fn node_at(words: &[u32], node: u32) -> Node
     ensures { λ r. ⌜ r ≡ nodeOf (drop (nodeSize * node) (now (words .entry))) ⌝ }
 {
-    let at = 5 * (node as usize);
+    let at = NODE_SIZE * (node as usize);
     Node {
         kind: word_at(words, at),
         value: word_at(words, at + 1),

@@ -7,7 +7,7 @@ ghost use Prim.Native.Nat.{_+_, _-_, _*_};
 ghost use Rattle.definitions.specs.Lists.{_!_};
 
 // A number counted from 1, as one counted from 0.
-fn from_zero(number: u32) -> usize
+pub fn from_zero(number: u32) -> usize
     ensures { λ r. ⌜ r ≡ number - 1 ⌝ }
 {
     if number == 0 {

@@ -1,6 +1,9 @@
--- The laws of this crate: phones, walks, models, and what the transcription gives.
+-- The laws of this crate: phones, walks, models, that the two lookups agree, what the lookup and the
+-- transcription answer, what the transcription gives, and the stages of the lookup over node structs.
 pub mod Phones
 pub mod Walking
 pub mod Models
+pub mod Agreement
 pub mod Answering
 pub mod Given
+pub mod Stages

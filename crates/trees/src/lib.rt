@@ -1,6 +1,8 @@
 // The trees of a book at work: the leaf that a context reaches, and the models of a phone sequence.
 mod contexts;
 pub mod leaves;
+mod stages;
+pub mod structs;
 pub mod transcription;
 mod walking;
 
@@ -16,4 +18,13 @@ pub enum Lookup {
 pub enum Transcript {
     Models(usize),
     Refused(Refusal),
+}
+
+// Where a lookup over node structs stands.
+enum Stage {
+    // The records before this place were judged.
+    Judging(u32),
+    // All records were judged, and the walk has come to this node.
+    Walking(u32),
+    Answered(Lookup),
 }

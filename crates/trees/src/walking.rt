@@ -4,30 +4,40 @@ use definitions::Node;
 use definitions::wide;
 use matrix::sets::has_phone;
 use tables::records::node_at;
+use tables::records::word_at;
+use tables::roots::from_zero;
 ghost use mathlib.Core.List.{map};
 ghost use mathlib.Core.Path.{_≡_};
-ghost use Prim.Native.Nat.{_*_, _≤_, _<_};
+ghost use Prim.Native.Nat.{_-_, _*_, _<_};
 ghost use lib.Dec.{T};
-ghost use lib.ListN.{length, drop};
+ghost use lib.ListN.{drop};
 ghost use Rattle.definitions.specs.BookReading.{nodeSize};
 ghost use Rattle.definitions.specs.ForeignTables.{nodesKnown};
-ghost use Rattle.definitions.specs.Lists.{if_then_else_};
-ghost use Rattle.definitions.specs.Lookup.{holdsAt, leafReached, isContext};
+ghost use Rattle.definitions.specs.Lists.{if_then_else_, _!_};
+ghost use Rattle.definitions.specs.Lookup.{holdsAt, leafReached};
 ghost use Rattle.definitions.specs.Tables.{nodeOf, nodeRecords, treeNode};
 
+// The set of a class, empty beyond the table; class 0 counts as 1.
+fn set_of(classes: &[u64], class: u32) -> u64
+    ensures { λ r. ⌜ r ≡ now (classes .entry) ! (class - 1) ⌝ }
+{
+    let at = from_zero(class);
+    if at < classes.len() {
+        return classes[at];
+    }
+    0
+}
+
 // The child of a question that a context goes to.
-fn child_of(node: Node, classes: &[u64], context: &[u32]) -> u32
-    requires { ⌜
-        (1 ≤ node .value) × (node .value ≤ length (now classes)) × (node .position < length (now context))
-        ⌝ }
+pub fn child_of(node: Node, classes: &[u64], context: &[u32]) -> u32
     ensures { λ r. ⌜
         r ≡ (if holdsAt (now (classes .entry)) (node .value) (node .position) (now (context .entry))
         then node .yes else node .no)
         ⌝ }
 {
-    let class = wide(node.value) - 1;
-    let position = wide(node.position);
-    if has_phone(classes[class], context[position]) {
+    let set = set_of(classes, node.value);
+    let phone = word_at(context, wide(node.position));
+    if has_phone(set, phone) {
         return node.yes;
     }
     node.no
@@ -36,11 +46,7 @@ fn child_of(node: Node, classes: &[u64], context: &[u32]) -> u32
 // The leaf that a context reaches from a root. Children are greater than their node, so the walk ends within
 // as many steps as there are nodes.
 pub fn walk(header: Header, nodes: &[u32], classes: &[u64], context: &[u32], root: u32) -> u32
-    requires { ⌜
-        T (nodesKnown header 0 (nodeRecords header (now nodes)))
-        × (header .classes ≤ length (now classes)) × T (isContext header (now context))
-        × (root < header .nodes)
-        ⌝ }
+    requires { ⌜ T (nodesKnown header 0 (nodeRecords header (now nodes))) × (root < header .nodes) ⌝ }
     ensures { λ r. ⌜
         (r ≡ leafReached (map treeNode (nodeRecords header (now (nodes .entry)))) (now (classes .entry))
         (now (context .entry)) root)

@@ -22,7 +22,7 @@ use Rattle.book.specs.declared.Reading.the-variants as reading
 use Rattle.book.specs.Answers.{readingOf}
 use Rattle.network.specs.declared.Build.{Build}
 use Rattle.network.specs.declared.Build.the-variants as build
-use Rattle.network.specs.Answers.{totalsOf, buildOf, lentBuffers}
+use Rattle.network.specs.Answers.{totalsOf, buildOf, lentBuffers, buildAnswer, buildLeft}
 use Rattle.builder.specs.Answers.{bookAnswer, MeetsDemand3}
 use Rattle.builder.specs.Tables.{tablesKept}
 use Rattle.builder.specs.laws.Keeping.{finished-inverted}
@@ -155,9 +155,9 @@ module _ (lent : Lent) (space : Space) (limit : ℕ) (text : List ℕ) where
       (answer : Build) (tables′ : Tables) (buffers : Buffers)
       → length (tables .nodes) ≡ lent .nodes → length (tables .classes) ≡ lent .classes
       → length (tables .roots) ≡ lent .roots
-      → answer ≡ buildOf (header .states) (build header tables space limit)
+      → answer ≡ buildAnswer header tables space limit
       → tables′ ≡ tablesKept tables (build header tables space limit)
-      → buffers ≡ buffersLeft (tablesBook header tables) space (build header tables space limit)
+      → buffers ≡ buildLeft header tables space limit
       → BookEnds lent space limit text answer tables′ buffers
 
   ends-read : (lines : List BookLine) → readBook lent text ≡ answered lines

@@ -20,7 +20,7 @@ use Rattle.definitions.specs.construction.Turning.{connect-keeps}
 module _ (book : Book) (combinations : List Combination) (room : Room) (limit : ℕ) (built : Built)
     (answers : connect book combinations room limit ≡ answered built)
   where
-    abbrev pub tableOf : List Metastate
+    abbrev tableOf : List Metastate
     tableOf = networkIn built .metastates
 
     abbrev Once : ℕ → Network → Type 0

@@ -7,12 +7,12 @@ use Prim.Native.Nat.{ℕ, suc, _+_}
 use native.Mathlib.Omega.{arith}
 use lib.Dec.{T}
 use lib.ListN.{length, drop, replicate, length-append, length-drop, length-replicate}
-use lib.Seq.{getD-take, getD-drop, getD-append-add, drop-append-add, take-at}
+use lib.Seq.{getD-append-add, drop-append-add, take-at}
 use Rattle.definitions.specs.Lists.{_!_}
 use Rattle.definitions.specs.BookLines.{isPhone}
 use Rattle.definitions.specs.Tables.{Book}
 use Rattle.definitions.specs.Metastates.{Metastate}
-use Rattle.definitions.specs.laws.Lists.{every-parts, every-split}
+use Rattle.definitions.specs.laws.Lists.{every-parts, every-split, part-at}
 use Rattle.definitions.specs.laws.Sound.{AllPhones, Sound}
 use Rattle.definitions.specs.laws.Contexts.{silence-phones}
 use Rattle.definitions.specs.graph.Graph.{Alive}
@@ -81,8 +81,7 @@ module _ (book : Book) (sound : Sound book) (x : Metastate) (kept : Constructed 
       (omega (arith, onward-length)) in
       let place : n + length js ≡ length (window .window) + 0 = omega (arith, window-length) in
       ap (λ (l : List ℕ). l ! length js) (sym middle)
-      ∙ getD-take (suc (length js)) (drop n Z) (length js) 0 (omega arith)
-      ∙ getD-drop n Z (length js) 0
+      ∙ part-at (suc (length js)) n Z (length js) 0 (omega arith)
       ∙ rw place (getD-append-add (window .window) (replicate (suc n) 1) 0 0)
 
   pub constructed-alive : (table : List Metastate) → Alive (graphOf book table) x

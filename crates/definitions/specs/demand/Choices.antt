@@ -14,7 +14,8 @@ use Rattle.definitions.specs.Lists.{_!_, select, upFrom}
 use Rattle.definitions.specs.Tables.{Book}
 use Rattle.definitions.specs.Lookup.{leafReached}
 use Rattle.definitions.specs.Matrices.{Matrix, valid, meet}
-use Rattle.definitions.specs.Combinations.{Leaf, leavesOf, rootOf, Combination, choose}
+use Rattle.definitions.specs.Tables.{rootOf}
+use Rattle.definitions.specs.Combinations.{Leaf, leavesOf, Combination, choose}
 use Rattle.definitions.specs.Combinations.{combinationsOf, combinations}
 use Rattle.definitions.specs.Metastates.{noCombination}
 use Rattle.definitions.specs.laws.Tests.{T-and, if-true, every-at}

@@ -5,7 +5,7 @@
 use mathlib.Core.Path.{_≡_, refl, sym, ap, _∙_, subst}
 use mathlib.Core.Logic.{inl, inr, ⊎-elim}
 use mathlib.Core.List.{List, [], _∷_, _++_, map}
-use Prim.Native.Nat.{ℕ, zero, suc, _+_, _-_, _≤_, _<_}
+use Prim.Native.Nat.{ℕ, suc, _+_, _≤_, _<_}
 use native.Mathlib.Omega.{arith}
 use lib.Dec.{T, eqb→eq}
 use lib.ListN.{length, length-append}
@@ -13,22 +13,21 @@ use Rattle.definitions.specs.Lists.{_!_, upFrom}
 use Rattle.definitions.specs.BookLines.{isPhone}
 use Rattle.definitions.specs.Tables.{Book}
 use Rattle.definitions.specs.PhoneSets.{has}
-use Rattle.definitions.specs.Matrices.{Matrix, yesSide, noSide, valid, meet}
-use Rattle.definitions.specs.Combinations.{Leaf, leavesBelow, leavesOf, rootOf, Combination, choose}
+use Rattle.definitions.specs.Matrices.{Matrix, valid, meet}
+use Rattle.definitions.specs.Tables.{rootOf}
+use Rattle.definitions.specs.Combinations.{Leaf, leavesOf, Combination, choose}
 use Rattle.definitions.specs.Combinations.{combinationsOf, combinations}
 use Rattle.definitions.specs.Metastates.{noCombination}
 use Rattle.definitions.specs.laws.Tests.{T-and}
 use Rattle.definitions.specs.laws.Lists.{upFrom-length}
 use Rattle.definitions.specs.laws.Members.{isIn, in-at, of-append, of-concatMap, of-one, of-upFrom}
-use Rattle.definitions.specs.laws.Members.{of-single}
 use Rattle.definitions.specs.laws.Ranges.{phone-range}
-use Rattle.definitions.specs.laws.Walks.{IsLeaf, by-node}
+use Rattle.definitions.specs.laws.Walks.{IsLeaf}
 use Rattle.definitions.specs.laws.Sound.{columnsOf, Sound}
 use Rattle.definitions.specs.laws.PhoneSets.{has-alone}
 use Rattle.definitions.specs.laws.Matrices.{meet-has, root-column}
 use Rattle.definitions.specs.laws.Matrices.{Below, meet-below, root-below, meet-length, root-length}
-use Rattle.definitions.specs.laws.Leaves.{below-leaf, below-question, phoneMatrix, leaf-inside}
-use Rattle.definitions.specs.laws.Leaves.{of-ascending}
+use Rattle.definitions.specs.laws.Leaves.{below-all, phoneMatrix, leaf-inside, of-ascending}
 use Rattle.definitions.specs.laws.Metastates.{numbered}
 use Rattle.definitions.specs.demand.Windows.{admits, meet-admits}
 use Rattle.definitions.specs.demand.TreeWindows.{root-centre}
@@ -39,31 +38,14 @@ abbrev pub LeafOf : Book → (node : ℕ) → Type 0
 LeafOf book node = (node < length (book .nodes)) × IsLeaf (book .nodes) node
 
 module _ (book : Book) (sound : Sound book) where
-  below-leaves : (levels : ℕ) (m : Matrix) (node : ℕ) → node < length (book .nodes)
-      → (l : Leaf) → isIn l (leavesBelow levels book m node) → LeafOf book (l .node)
-  unfolding leavesBelow
-  below-leaves zero m node h l i = absurd i
-  below-leaves (suc levels) m node h l i =
-      by-node (book .nodes) node
-      (λ model e.
-      let same = of-single (record { node = node; matrix = m }) l
-      (rw (below-leaf book levels m node model e) at i) in
-      subst (λ k. LeafOf book (k .node)) (sym same) (h, (model, e)))
-      (λ class position yesNode noNode e.
-      let s : ℕ = book .classes ! (class - 1) in
-      let onYes : Matrix = yesSide position s m in
-      let onNo : Matrix = noSide position s m in
-      let (yesLater, noLater) = sound .forward node class position yesNode noNode e in
-      ⊎-elim (below-leaves levels onYes yesNode (yesLater .listed) l)
-      (below-leaves levels onNo noNode (noLater .listed) l)
-      (of-append l (leavesBelow levels book onYes yesNode) (leavesBelow levels book onNo noNode)
-      (rw (below-question book levels m node class position yesNode noNode e) at i)))
-
   tree-leaves : (phone state : ℕ) (l : Leaf) → isIn l (leavesOf book phone state) → LeafOf book (l .node)
   unfolding leavesOf
   tree-leaves phone state l i =
-      below-leaves (length (book .nodes)) _ (rootOf book phone state) (sound .root phone state) l
-      (of-ascending l _ i)
+      below-all book (λ m node. node < length (book .nodes))
+      (λ m node class position yesNode noNode e h.
+      let (yesLater, noLater) = sound .forward node class position yesNode noNode e in
+      (yesLater .listed, noLater .listed))
+      (length (book .nodes)) _ (rootOf book phone state) (sound .root phone state) l (of-ascending l _ i)
 
 -- ---- the combinations that begin with some leaves
 

@@ -10,7 +10,8 @@ use lib.ListN.{length, length-map}
 use Rattle.definitions.specs.Lists.{_!_, concatMap, upFrom}
 use Rattle.definitions.specs.Tables.{Book}
 use Rattle.definitions.specs.Lookup.{modelAt, leafReached}
-use Rattle.definitions.specs.Combinations.{rootOf, combinations}
+use Rattle.definitions.specs.Tables.{rootOf}
+use Rattle.definitions.specs.Combinations.{combinations}
 use Rattle.definitions.specs.Metastates.{Metastate, combinationOf, phoneOf, modelsOf}
 use Rattle.definitions.specs.TreesGive.{windows, withSilence, contexts, silentEnds}
 use Rattle.definitions.specs.Transcription.{modelOf, transcription}

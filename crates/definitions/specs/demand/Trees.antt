@@ -15,7 +15,8 @@ use Rattle.definitions.specs.Tables.{Book}
 use Rattle.definitions.specs.Lookup.{nodeAt, holdsAt, walk, leafReached}
 use Rattle.definitions.specs.PhoneSets.{has}
 use Rattle.definitions.specs.Matrices.{Matrix, yesSide, noSide}
-use Rattle.definitions.specs.Combinations.{Leaf, leavesBelow, leavesOf, rootOf}
+use Rattle.definitions.specs.Tables.{rootOf}
+use Rattle.definitions.specs.Combinations.{Leaf, leavesBelow, leavesOf}
 use Rattle.definitions.specs.laws.Tests.{if-true}
 use Rattle.definitions.specs.laws.Selected.{select-append}
 use Rattle.definitions.specs.laws.Walks.{walk-leaf, walk-question, by-node}
@@ -31,7 +32,7 @@ abbrev pub leafAdmits : (W : List ℕ) → Leaf → Bool
 leafAdmits W l = admits (l .matrix) W
 
 -- the nodes of the leaves that admit the context
-abbrev pub leavesAdmitting : (W : List ℕ) → List Leaf → List ℕ
+abbrev leavesAdmitting : (W : List ℕ) → List Leaf → List ℕ
 leavesAdmitting W leaves = map (λ l. l .node) (select (leafAdmits W) leaves)
 
 admitting-append : (W : List ℕ) (k l : List Leaf)

@@ -41,7 +41,7 @@ use Rattle.definitions.specs.demand.Sentences.{passage-sentence, sentenc
 
 module _ (book : Book) where
   -- the metastate where a sentence starts with a combination, and the metastates of a sequence of numbers
-  abbrev pub startOf : (j : ℕ) → Metastate
+  abbrev startOf : (j : ℕ) → Metastate
   startOf j = record { number = j; matrix = startCut (book .half) (combinationAt book j .matrix) }
 
   unfoldable pub wayOf : List ℕ → List Metastate
@@ -76,7 +76,7 @@ module _ (book : Book) (sound : Sound book) where
       omega (arith, chosen-at book sound (x .number) (s .listed) .width) in
       rw (s .cut) (start-admits (book .half) (combinationAt book (x .number) .matrix) Z room)
 
-  pub constructed-start : (x : Metastate) → StartOf book (combinations book) x → Constructed book x
+  constructed-start : (x : Metastate) → StartOf book (combinations book) x → Constructed book x
   constructed-start x s =
       let f = chosen-at book sound (x .number) (s .listed) in
       record {

@@ -29,7 +29,7 @@ admits [] W = true
 admits (column ∷ m) [] = false
 admits (column ∷ m) (p ∷ W) = has p column && admits m W
 
-pub admits-cons : (column : ℕ) (m : Matrix) (p : ℕ) (W : List ℕ)
+admits-cons : (column : ℕ) (m : Matrix) (p : ℕ) (W : List ℕ)
     → T (admits (column ∷ m) (p ∷ W)) ↔ (T (has p column) × T (admits m W))
 unfolding admits
 admits-cons column m p W = T-and (has p column) (admits m W)

@@ -23,7 +23,8 @@ use Rattle.definitions.specs.Lookup.{leafLookup, leafLookupInTable}
 use Rattle.definitions.specs.PhoneSets.{has, alone, allPhones, without, setOf}
 use Rattle.definitions.specs.Matrices.{matrixWords, rootMatrix, yesSide, noSide, valid, meet, shift}
 use Rattle.definitions.specs.Matrices.{startCut, endsHere}
-use Rattle.definitions.specs.Combinations.{leavesBelow, isBefore, insertLeaf, ascending, rootOf}
+use Rattle.definitions.specs.Tables.{rootOf}
+use Rattle.definitions.specs.Combinations.{leavesBelow, isBefore, insertLeaf, ascending}
 use Rattle.definitions.specs.Combinations.{leavesOf}
 use Rattle.definitions.specs.Combinations.{choose, combinationsOf, combinations, combinationWords}
 use Rattle.definitions.specs.Combinations.{combinationRoom, combine, combinationSpace}

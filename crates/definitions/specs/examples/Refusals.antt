@@ -12,7 +12,7 @@ use Rattle.definitions.specs.Tables.{nodeRecords}
 use Rattle.definitions.specs.Lookup.{leafLookup}
 use Rattle.definitions.specs.Arcs.{arcSize}
 use Rattle.definitions.specs.Building.{build}
-use Rattle.definitions.specs.NetworkText.{readNetwork, arcsLeft}
+use Rattle.definitions.specs.NetworkText.{readNetwork, arcsLeft, writeNetwork}
 use Rattle.definitions.specs.Leaving.{leaving}
 use Rattle.definitions.specs.Transcription.{transcribe}
 use Rattle.definitions.specs.Program.{program}
@@ -114,3 +114,18 @@ elsewhere =
 pub elsewhere-hold : Holds elsewhere
 unfolding everything example reading line narrow fewer counts arcs elsewhere
 elsewhere-hold = (refl, (refl, (refl, (refl, (refl, (refl, (refl, (refl, (refl, (refl, tt))))))))))
+
+-- network text and the arcs that leave a state: 20 at line 1, 18 before 33, and before 42
+pub networks : List Case
+networks =
+    read (readNetwork (arcSize * 11) output) is accepts
+    ∷ read (readNetwork (arcSize * 11 - 1) output) is refuses 20 1
+    ∷ given (writeNetwork counts arcs 384) is gives output
+    ∷ given (writeNetwork counts arcs 383) is refuses 33 0
+    ∷ given (writeNetwork counts (set arcs 0 6) 383) is refuses 18 0
+    ∷ read (leaving counts (set arcs 0 6) 6) is refuses 18 0
+    ∷ []
+
+pub networks-hold : Holds networks
+unfolding everything example counts arcs networks
+networks-hold = (refl, (refl, (refl, (refl, (refl, (refl, tt))))))

@@ -17,7 +17,7 @@ use Rattle.definitions.specs.BookLines.{nodesOf, nodeIn, rootsOf, rootIn
 use Rattle.definitions.specs.BookReading.{Lent, withinHeader, bookInOrder, childrenGreater, readBook}
 use Rattle.definitions.specs.Tables.{Book, bookOf}
 use Rattle.definitions.specs.Lookup.{nodeAt}
-use Rattle.definitions.specs.Combinations.{rootOf}
+use Rattle.definitions.specs.Tables.{rootOf}
 use Rattle.definitions.specs.laws.Tests.{T-and, T-three}
 use Rattle.definitions.specs.laws.Lists.{concatMap-snoc}
 use Rattle.definitions.specs.laws.Ranges.{Within}
@@ -160,7 +160,7 @@ accepted-fit lent text lines e =
 -- ---- soundness
 
 -- beyond the list stands a leaf
-pub question-listed : (nodes : List TreeNode) (node class position yesNode noNode : ℕ)
+question-listed : (nodes : List TreeNode) (node class position yesNode noNode : ℕ)
     → nodeAt nodes node ≡ question class position yesNode noNode → node < length nodes
 question-listed [] node class position yesNode noNode e =
     let z : _≡_ {A = ℕ} 0 1 = cc in omega arith

@@ -15,7 +15,8 @@ use Rattle.definitions.specs.BookLines.{BookLine}
 use Rattle.definitions.specs.BookReading.{orphans, Lent, readBook}
 use Rattle.definitions.specs.Tables.{Book, bookOf}
 use Rattle.definitions.specs.Matrices.{Matrix, rootMatrix, yesSide, noSide, valid, meet}
-use Rattle.definitions.specs.Combinations.{Leaf, leavesBelow, isBefore, insertLeaf, ascending, rootOf}
+use Rattle.definitions.specs.Tables.{rootOf}
+use Rattle.definitions.specs.Combinations.{Leaf, leavesBelow, isBefore, insertLeaf, ascending}
 use Rattle.definitions.specs.Combinations.{leavesOf, Combination, choose, combinationsOf}
 use Rattle.definitions.specs.Combinations.{combinations}
 use Rattle.definitions.specs.Metastates.{noCombination}

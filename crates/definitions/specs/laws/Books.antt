@@ -123,7 +123,7 @@ pub record Orderly (lines : List BookLine) : Type 0 where
   pub named-once : orphans (nodesOf lines) (rootsOf lines) ≡ []
 
 -- there is at least one phone and one state, so at least one root
-some-root : (header : Header) → InRange header → 0 < rootCount header
+pub some-root : (header : Header) → InRange header → 0 < rootCount header
 unfolding rootCount
 some-root header r = mul-pos (r .phones-range .low) (r .states-range .low)
 

@@ -19,7 +19,7 @@ use Rattle.definitions.specs.BookLines.{nodeIn, rootsOf, rootIn}
 use Rattle.definitions.specs.BookReading.{Lent, bookInOrder, readBook}
 use Rattle.definitions.specs.Tables.{bookOf}
 use Rattle.definitions.specs.Lookup.{nodeAt}
-use Rattle.definitions.specs.Combinations.{rootOf}
+use Rattle.definitions.specs.Tables.{rootOf}
 use Rattle.definitions.specs.TreesGive.{rootLine, nodeLine}
 use Rattle.definitions.specs.laws.Tests.{T-and, same-tests, eq→eqb}
 use Rattle.definitions.specs.laws.Lists.{concatMap-snoc}

@@ -8,11 +8,11 @@ use native.Mathlib.Omega.{arith}
 use lib.Dec.{T}
 use lib.ListN.{length, take, drop, getD, replicate, length-append, length-replicate, length-take}
 use lib.ListN.{length-drop, getD-replicate, List·getD-append}
-use lib.Seq.{getD-take, getD-drop, drop-drop, getD-append-add, take-at, drop-at}
+use lib.Seq.{drop-drop, getD-append-add, take-at, drop-at}
 use Rattle.definitions.specs.Lists.{_!_, every}
 use Rattle.definitions.specs.BookLines.{isPhone}
 use Rattle.definitions.specs.TreesGive.{windows, withSilence, contexts}
-use Rattle.definitions.specs.laws.Lists.{every-parts, every-replicate}
+use Rattle.definitions.specs.laws.Lists.{every-parts, every-replicate, part-at}
 use Rattle.definitions.specs.laws.Ranges.{phone-range}
 
 -- the windows of a list
@@ -113,8 +113,7 @@ module _ (half : ℕ) (S : List ℕ) (i : ℕ) (place : i < length S) where
     context-column : contextAt half S i ! c ≡ withSilence half S ! (i + c)
     context-column =
         ap (λ (l : List ℕ). l ! c) context-window
-        ∙ getD-take (2 * half + 1) (drop i (withSilence half S)) c 0 column
-        ∙ getD-drop i (withSilence half S) c 0
+        ∙ part-at (2 * half + 1) i (withSilence half S) c 0 column
 
     -- a place before the sequence: silence
     pub context-before : i + c < half → contextAt half S i ! c ≡ 1

@@ -41,14 +41,14 @@ unfolding digitsField isNumeral
 numeral-field [] h = absurd h
 numeral-field (b ∷ bytes) h = if-true (isNumeral (b ∷ bytes)) _ _ h
 
-pub field-reads : (n : ℕ) → fieldOf (fieldText n) ≡ number n
+field-reads : (n : ℕ) → fieldOf (fieldText n) ≡ number n
 unfolding fieldOf fieldText
 field-reads n =
     let digits : List ℕ = numeral n in
     let read : digitsField digits ≡ number (valueOf 0 digits) = numeral-field digits (numeral-is n) in
     rw (skip-spaces (6 - length digits) digits, skip-numeral digits (numeral-is n), read, numeral-value n)
 
-pub blank-reads : (k : ℕ) → fieldOf (replicate k space) ≡ blank
+blank-reads : (k : ℕ) → fieldOf (replicate k space) ≡ blank
 unfolding fieldOf skipSpaces digitsField
 blank-reads zero = refl
 blank-reads (suc k) = blank-reads k
@@ -104,7 +104,7 @@ blank-field (b ∷ bytes) e = go (isNumeral (b ∷ bytes)) e
     go true k = cc
     go false k = cc
 
-pub field-writes : (bytes : List ℕ) (n : ℕ) → length bytes ≡ 6 → fieldOf bytes ≡ number n
+field-writes : (bytes : List ℕ) (n : ℕ) → length bytes ≡ 6 → fieldOf bytes ≡ number n
     → (bytes ≡ fieldText n) × (n < 10 ^ 6)
 unfolding fieldOf fieldText
 field-writes bytes n l e =
@@ -115,7 +115,7 @@ field-writes bytes n l e =
     let written : digits ≡ numeral n = sym (numeral-writes digits proper) ∙ ap numeral value in
     (spaces-first bytes (numeral n) 6 l written .0, omega (arith, value-below digits proper))
 
-pub blank-writes : (bytes : List ℕ) (k : ℕ) → length bytes ≡ k → fieldOf bytes ≡ blank
+blank-writes : (bytes : List ℕ) (k : ℕ) → length bytes ≡ k → fieldOf bytes ≡ blank
     → bytes ≡ replicate k space
 unfolding fieldOf
 blank-writes bytes k l e =

@@ -10,12 +10,20 @@ use lib.ListN.{length, getD}
 use Rattle.definitions.specs.declared.Fault.{Fault}
 use Rattle.definitions.specs.declared.Fault.the-variants.{Count}
 use Rattle.definitions.specs.Lists.{if_then_else_, every}
-use Rattle.definitions.specs.Faults.{Outcome, answered, refused, refuse, Test, _unless_, judge}
-use Rattle.definitions.specs.Faults.{andThen}
+use Rattle.definitions.specs.Faults.{Outcome, answered, refused, refuse, Test, _unless_, judge, andThen}
 use Rattle.definitions.specs.laws.Tests.{T-and, every-at, if-true, if-false}
 
 abbrev pub allPass : List Test → Type 0
 allPass ts = T (every (λ t. t .passes) ts)
+
+-- tests that pass, one by one
+pub pass-none : allPass []
+unfolding every
+pass-none = tt
+
+pub pass-more : (t : Test) (ts : List Test) → T (t .passes) → allPass ts → allPass (t ∷ ts)
+unfolding every
+pass-more t ts h k = T-and (t .passes) (every (λ t. t .passes) ts) .1 (h, k)
 
 -- a test among those that pass, by its place
 abbrev pub testAt : List Test → ℕ → Test
@@ -39,7 +47,7 @@ module _ {A : Type 0} (line : ℕ) where
       if-true (t .passes) _ _ (parts .0) ∙ judge-passing ts answer (parts .1)
 
   -- where the tests before it pass, a test that fails refuses with its fault
-  pub judge-failing : (ts : List Test) (t : Test) (us : List Test) (answer : Outcome A)
+  judge-failing : (ts : List Test) (t : Test) (us : List Test) (answer : Outcome A)
       → allPass ts → T (not (t .passes)) → judge line (ts ++ (t ∷ us)) answer ≡ refuse (t .fault) line
   unfolding judge every
   judge-failing [] t us answer h n = if-false (t .passes) _ _ n

@@ -2,28 +2,29 @@
 -- combining never refuses it by 18. Each line passed tests that ask the same of its numbers, and the H line
 -- those that ask for wide enough tables.
 use mathlib.Core.Path.{_≡_, refl, sym, ap, ap₂, _∙_, subst}
-use mathlib.Core.Logic.{inl, inr}
+use mathlib.Core.Logic.{inl, inr, _↔_}
 use mathlib.Core.List.{List, [], _∷_, map}
 use mathlib.Core.Bool.{Bool, true, _&&_, _||_}
 use Prim.Native.Nat.{ℕ, suc, _-_, _*_, _^_, _≤_, _<_}
+use Prim.Native.Char.{code}
 use lib.Dec.{T, leb, ltb, eqb, leb→le, le→leb, lt→ltb, eqb→eq}
 use lib.ListN.{length, take, drop, length-drop, take-append-drop}
 use lib.Seq.{drop-at, length-take-le}
-use borrow.Author.Tests.{lt-ltb, le-leb}
+use borrow.Author.Tests.{le-leb}
 use Rattle.definitions.specs.declared.Fault.the-variants.{Choices}
 use Rattle.definitions.specs.declared.Header.{Header}
 use Rattle.definitions.specs.Lists.{every, select, concatMap, upFrom, cleared, padded}
 use Rattle.definitions.specs.Faults.{answered, _unless_, judge}
 use Rattle.definitions.specs.Forms.{Range, _‥_}
-use Rattle.definitions.specs.Lines.{inRanges}
-use Rattle.definitions.specs.BookLines.{BookLine, headerOf, rootCount, Member, membersOf, TreeNode}
-use Rattle.definitions.specs.BookLines.{question, leaf, nodesOf, rootsOf}
+use Rattle.definitions.specs.Lines.{formOf, inRanges, inFixedRanges}
+use Rattle.definitions.specs.BookLines.{BookLine, bookLine, headerOf, rootCount, Member, membersOf}
+use Rattle.definitions.specs.BookLines.{TreeNode, question, leaf, nodesOf, rootsOf}
 use Rattle.definitions.specs.BookReading.{Lent, nodeSize, wideEnough, readBook}
 use Rattle.definitions.specs.Tables.{bookOf, phonesOfClass, classSets, nodeWords, nodeOf, nodeRecords}
 use Rattle.definitions.specs.Tables.{Tables, tablesOf, tablesLeft, tablesBook}
-use Rattle.definitions.specs.ForeignTables.{headerKnown, questionKnown, leafKnown, nodesKnown}
-use Rattle.definitions.specs.ForeignTables.{holdsOnly, nodeTableKnown, classTableKnown}
-use Rattle.definitions.specs.ForeignTables.{rootTableKnown, namedOnce, tablesKnown}
+use Rattle.definitions.specs.ForeignTables.{headerKnown, questionKnown, leafKnown, nodesKnown, holdsOnly}
+use Rattle.definitions.specs.ForeignTables.{nodeTableKnown, classTableKnown, rootTableKnown, namedOnce}
+use Rattle.definitions.specs.ForeignTables.{tablesKnown}
 use Rattle.definitions.specs.PhoneSets.{setOf}
 use Rattle.definitions.specs.Combinations.{combinations, combinationRoom, combine}
 use Rattle.definitions.specs.laws.Tests.{T-and, T-three, if-true}
@@ -31,12 +32,12 @@ use Rattle.definitions.specs.laws.Lists.{padded-length, padded-take, eve
 use Rattle.definitions.specs.laws.Members.{isIn, of-map, every-in}
 use Rattle.definitions.specs.laws.Selected.{of-select}
 use Rattle.definitions.specs.laws.Records.{flat-length}
-use Rattle.definitions.specs.laws.Ranges.{Within}
+use Rattle.definitions.specs.laws.Ranges.{Within, line-ranged}
 use Rattle.definitions.specs.laws.Tables.{Heads, node-sized, tables-records, tables-book}
 use Rattle.definitions.specs.laws.Books.{InRange, Roomy, roomy, Orderly, accepted-holds, accepted-orderly}
 use Rattle.definitions.specs.laws.Books.{orderly-heads, accepted-book}
-use Rattle.definitions.specs.laws.Accepted.{allFrom, NodeFits, RootFits, MemberFits, AllFit}
-use Rattle.definitions.specs.laws.Accepted.{accepted-fit}
+use Rattle.definitions.specs.laws.Accepted.{allFrom, NodeFits, RootFits, MemberFits, AllFit, accepted-fit}
+use Rattle.definitions.specs.laws.KnownRecords.{record-exactly, known-first}
 use Rattle.definitions.specs.laws.PhoneSets.{setOf-below}
 
 -- ---- the header
@@ -44,7 +45,7 @@ use Rattle.definitions.specs.laws.PhoneSets.{setOf-below}
 pub within-passes : (r : Range) (n : ℕ) → Within r n → (leb (r .lowest) n && leb n (r .highest)) ≡ true
 within-passes r n w = rw (le-leb (r .lowest) n (w .low), le-leb n (r .highest) (w .high))
 
-header-known : (header : Header) → InRange header → T (headerKnown header)
+pub header-known : (header : Header) → InRange header → T (headerKnown header)
 unfolding headerKnown inRanges
 header-known header r =
     rw (
@@ -54,6 +55,33 @@ header-known header r =
       within-passes (0 ‥ 255) (header .classes) (r .classes-range),
       within-passes (1 ‥ 4096) (header .nodes) (r .nodes-range),
     ) tt
+
+-- and is in range
+pub header-ranges : (header : Header) → T (headerKnown header) → InRange header
+unfolding headerKnown inFixedRanges formOf bookLine
+header-ranges header h =
+    let numbers : List ℕ =
+    header .half ∷ header .states ∷ header .phones ∷ header .classes ∷ header .nodes ∷ [] in
+    line-ranged (record { letter = code "H"; numbers = numbers }) h
+
+-- ---- the parts of the test for foreign tables
+
+pub tables-parts : (header : Header) (tables : Tables)
+    → T (tablesKnown header tables)
+    ↔ (T (headerKnown header) × T (nodeTableKnown header (tables .nodes))
+    × T (classTableKnown header (tables .classes)) × T (rootTableKnown header (tables .roots))
+    × T (namedOnce (tablesBook header tables)))
+unfolding tablesKnown
+tables-parts header tables =
+    let nodes : Bool = nodeTableKnown header (tables .nodes) in
+    let classes : Bool = classTableKnown header (tables .classes) in
+    let roots : Bool = rootTableKnown header (tables .roots) in
+    let once : Bool = namedOnce (tablesBook header tables) in
+    let first = T-three (headerKnown header) nodes classes in
+    let last = T-three (headerKnown header && nodes && classes) roots once in (
+      λ h. let (before, r, o) = last .0 h in let (k, n, c) = first .0 before in (k, n, c, r, o),
+      λ (k, n, c, r, o). last .1 (first .1 (k, n, c), r, o),
+    )
 
 -- ---- what holds of each element of a list with its number
 
@@ -106,26 +134,20 @@ holds-padded count words h =
 -- ---- nodes: records as their lines leave them
 
 node-known : (header : Header) (at : ℕ) (node : TreeNode) → NodeFits header at node
-    → (questionKnown header at (nodeOf (nodeWords node)) || leafKnown (nodeOf (nodeWords node))) ≡ true
-unfolding questionKnown leafKnown nodeOf nodeWords
+    → T (questionKnown header at (nodeOf (nodeWords node)) || leafKnown (nodeOf (nodeWords node)))
+unfolding nodeOf nodeWords
 node-known header at (question class position yesNode noNode) f =
-    rw (
-      le-leb 1 class (f .class-low),
-      le-leb class (header .classes) (f .class-high),
-      le-leb position (2 * header .half) (f .position-high),
-      lt-ltb at yesNode (f .yes-greater),
-      lt-ltb yesNode (header .nodes) (f .yes-listed),
-      lt-ltb at noNode (f .no-greater),
-      lt-ltb noNode (header .nodes) (f .no-listed),
-    )
-node-known header at (leaf model) f = rw (le-leb 1 model (f .low), le-leb model 65535 (f .high))
+    record-exactly header at (nodeOf (1 ∷ class ∷ position ∷ yesNode ∷ noNode ∷ [])) .1 (inl (refl, f))
+node-known header at (leaf model) f =
+    record-exactly header at (nodeOf (2 ∷ model ∷ 0 ∷ 0 ∷ 0 ∷ [])) .1 (inr (refl, f, refl, refl, refl))
 
 nodes-known : (header : Header) (at : ℕ) (nodes : List TreeNode) → allFrom (NodeFits header) at nodes
     → T (nodesKnown header at (map nodeOf (map nodeWords nodes)))
 unfolding nodesKnown
 nodes-known header at [] h = tt
 nodes-known header at (node ∷ nodes) h =
-    rw (node-known header at node (h .0)) (nodes-known header (suc at) nodes (h .1))
+    known-first header at (nodeOf (nodeWords node)) (map nodeOf (map nodeWords nodes)) .1
+    (node-known header at node (h .0), nodes-known header (suc at) nodes (h .1))
 
 node-table-known : (header : Header) (size : ℕ) (nodes : List TreeNode) → header .nodes ≡ length nodes
     → nodeSize * header .nodes ≤ size → allFrom (NodeFits header) 0 nodes
@@ -211,15 +233,9 @@ module _ (lent : Lent) (text : List ℕ) (lines : List BookLine) (e : readBook l
   known-names = rw (tables-book header lent (bookOf lines) heads, orderly .named-once) tt
 
   all-known : T (tablesKnown header tables)
-  unfolding tablesKnown
   all-known =
-      let nodes : Bool = nodeTableKnown header (tables .nodes) in
-      let classes : Bool = classTableKnown header (tables .classes) in
-      let roots : Bool = rootTableKnown header (tables .roots) in
-      let three = T-three (headerKnown header) nodes classes .1
-      (header-known header (orderly .in-range), known-nodes, known-classes) in
-      T-three (headerKnown header && nodes && classes) roots (namedOnce (tablesBook header tables)) .1
-      (three, known-roots, known-names)
+      tables-parts header tables .1
+      (header-known header (orderly .in-range), known-nodes, known-classes, known-roots, known-names)
 
   pub accepted-known : T (tablesKnown (headerOf lines) (tablesLeft lent (readBook lent text)))
   unfolding tablesLeft

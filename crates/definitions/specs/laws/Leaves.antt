@@ -17,10 +17,11 @@ use Rattle.definitions.specs.Lookup.{nodeAt}
 use Rattle.definitions.specs.PhoneSets.{has}
 use Rattle.definitions.specs.Matrices.{Matrix, rootMatrix, yesSide, noSide, meet}
 use Rattle.definitions.specs.Combinations.{Leaf, leavesBelow, isBefore, insertLeaf, ascending}
-use Rattle.definitions.specs.Combinations.{leavesOf, rootOf}
+use Rattle.definitions.specs.Tables.{rootOf}
+use Rattle.definitions.specs.Combinations.{leavesOf}
 use Rattle.definitions.specs.laws.Tests.{T-and}
 use Rattle.definitions.specs.laws.Members.{isIn, of-append, of-single}
-use Rattle.definitions.specs.laws.Walks.{by-node}
+use Rattle.definitions.specs.laws.Walks.{IsLeaf, by-node}
 use Rattle.definitions.specs.laws.Matrices.{meet-has, meet-length, yes-has, yes-other, yes-length}
 use Rattle.definitions.specs.laws.Matrices.{no-has, no-other, no-length, columns-same}
 
@@ -54,7 +55,7 @@ no-inside : (position s : ℕ) (m : Matrix) → Inside (noSide position s m) m
 no-inside i s m = side-inside (noSide i s m) m i (no-length i s m) (no-other i s m)
     (λ p h. T-and (has p (m ! i)) (not (has p s)) .0 (rw no-has at h) .0)
 
--- meeting it with the other changes nothing
+-- meeting it with the other changes nothing, so a meeting may start from the other
 both-second : (x y : Bool) → (T y → T x) → (x && y) ≡ y
 both-second true y h = refl
 both-second false true h = absurd (h tt)
@@ -87,26 +88,43 @@ module _ (book : Book) (levels : ℕ) (m : Matrix) (node : ℕ) where
 abbrev pub phoneMatrix : Book → (phone : ℕ) → Matrix
 phoneMatrix book phone = rootMatrix (book .half) (book .phones) phone
 
+-- what both sides of each question keep holds of every leaf below a node of which it holds
+module _ (book : Book) (P : (m : Matrix) → (node : ℕ) → Type 0)
+    (sides : (m : Matrix) (node class position yesNode noNode : ℕ)
+    → nodeAt (book .nodes) node ≡ question class position yesNode noNode → P m node
+    → P (yesSide position (book .classes ! (class - 1)) m) yesNode
+    × P (noSide position (book .classes ! (class - 1)) m) noNode)
+  where
+    pub below-all : (levels : ℕ) (m : Matrix) (node : ℕ) → P m node
+        → (l : Leaf) → isIn l (leavesBelow levels book m node)
+        → P (l .matrix) (l .node) × IsLeaf (book .nodes) (l .node)
+    unfolding leavesBelow
+    below-all zero m node h l i = absurd i
+    below-all (suc levels) m node h l i =
+        by-node (book .nodes) node
+        (λ model e.
+        let same = of-single (record { node = node; matrix = m }) l
+        (rw (below-leaf book levels m node model e) at i) in
+        subst (λ k. P (k .matrix) (k .node) × IsLeaf (book .nodes) (k .node)) (sym same) (h, (model, e)))
+        (λ class position yesNode noNode e.
+        let s : ℕ = book .classes ! (class - 1) in
+        let onYes : Matrix = yesSide position s m in
+        let onNo : Matrix = noSide position s m in
+        let (yesHolds, noHolds) = sides m node class position yesNode noNode e h in
+        ⊎-elim (below-all levels onYes yesNode yesHolds l) (below-all levels onNo noNode noHolds l)
+        (of-append l (leavesBelow levels book onYes yesNode) (leavesBelow levels book onNo noNode)
+        (rw (below-question book levels m node class position yesNode noNode e) at i)))
+
 below-inside : (levels : ℕ) (book : Book) (m : Matrix) (node : ℕ) (l : Leaf)
     → isIn l (leavesBelow levels book m node) → Inside (l .matrix) m
-unfolding leavesBelow
-below-inside zero book m node l i = absurd i
-below-inside (suc levels) book m node l i =
-    by-node (book .nodes) node
-    (λ model e.
-    let same = of-single (record { node = node; matrix = m }) l (rw (e, leavesBelow) at i) in
-    subst (λ k. Inside (k .matrix) m) (sym same) (inside-self m))
-    (λ class position yesNode noNode e.
-    let s : ℕ = book .classes ! (class - 1) in
-    let onYes : Matrix = yesSide position s m in
-    let onNo : Matrix = noSide position s m in
-    let yesLeaf = below-inside levels book onYes yesNode l in
-    let noLeaf = below-inside levels book onNo noNode l in
-    ⊎-elim
-    (λ j. inside-trans (l .matrix) onYes m (yesLeaf j) (yes-inside position s m))
-    (λ j. inside-trans (l .matrix) onNo m (noLeaf j) (no-inside position s m))
-    (of-append l (leavesBelow levels book onYes yesNode) (leavesBelow levels book onNo noNode)
-    (rw (e, leavesBelow) at i)))
+below-inside levels book m node l i =
+    below-all book (λ a n. Inside a m)
+    (λ a n class position yesNode noNode e h.
+    let s : ℕ = book .classes ! (class - 1) in (
+      inside-trans (yesSide position s a) a m (yes-inside position s a) h,
+      inside-trans (noSide position s a) a m (no-inside position s a) h,
+    ))
+    levels m node (inside-self m) l i .0
 
 -- ---- ascending leaves are the same leaves
 

@@ -24,7 +24,7 @@ withMetastate net x = record { metastates = net .metastates ++ (x ∷ []); arcs 
 module _ (room : Room) (net : Network) where
   -- ---- no room
 
-  pub no-room-metastate : (x : Metastate) → room .metastates ≤ length (net .metastates)
+  no-room-metastate : (x : Metastate) → room .metastates ≤ length (net .metastates)
       → addMetastate room x net ≡ refuse Crowd 0
   unfolding addMetastate
   no-room-metastate x h = rw (le-ltb (length (net .metastates)) (room .metastates) h)

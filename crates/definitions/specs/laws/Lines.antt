@@ -8,7 +8,7 @@ use mathlib.Core.Option.{Option, none, some, Option·none-ne-some}
 use Prim.Native.Nat.{ℕ, _*_, _/_, _%_, _≤_}
 use native.Mathlib.Omega.{arith}
 use lib.Dec.{T, eqb}
-use lib.ListN.{length, take, drop, length-append, length-map, length-drop, take-append-drop}
+use lib.ListN.{length, take, drop, length-append, length-drop, take-append-drop}
 use lib.ListN.{drop-of-length-le}
 use lib.Seq.{getD-at, take-all, drop-cons, drop-drop}
 use borrow.Author.Tests.{eqb-true}
@@ -17,7 +17,7 @@ use Rattle.definitions.specs.Forms.{Range, Form}
 use Rattle.definitions.specs.Lines.{lineFeed, fieldOf, Line, formOf, numbersOf, fieldsOf, withLetter}
 use Rattle.definitions.specs.Lines.{lineOf, lineText, linesOf}
 use Rattle.definitions.specs.laws.Records.{joined, allOf, joined-length, records-joined}
-use Rattle.definitions.specs.laws.Records.{records-length, records-sized, joined-records}
+use Rattle.definitions.specs.laws.Records.{read-length, records-sized, joined-records}
 use Rattle.definitions.specs.laws.Fields.{textOf, fits, isRead, fields-reads, fields-length}
 use Rattle.definitions.specs.laws.Fields.{fields-writes}
 use Rattle.definitions.specs.laws.LineFields.{allFit, lineFields, lineFields-length, lineFields-text}
@@ -102,7 +102,7 @@ pub record Parts (forms : List Form) (bytes : List ℕ) (line : Line) : Type 0 w
   pub letter : line .letter ≡ bytes ! 0
   pub found : numbersOf (form .fields) (fieldsOf bytes) ≡ some (line .numbers)
 
-pub line-parts : (forms : List Form) (bytes : List ℕ) (line : Line) → lineOf forms bytes ≡ some line
+line-parts : (forms : List Form) (bytes : List ℕ) (line : Line) → lineOf forms bytes ≡ some line
     → Parts forms bytes line
 unfolding withLetter
 line-parts forms bytes line e = by-form (formOf forms (bytes ! 0)) refl
@@ -128,6 +128,10 @@ pub record Read (forms : List Form) (bytes : List ℕ) (line : Line) : Type 0 wh
   pub fit : T (allFit (line .numbers))
   pub written : lineText line ≡ bytes
 
+pub fields-five : (bytes : List ℕ) → length (fieldsOf bytes) ≡ 5
+unfolding fieldsOf
+fields-five bytes = read-length 6 fieldOf 5 (drop 1 bytes)
+
 module _ (forms : List Form) (bytes : List ℕ) (size : length bytes ≡ 32) (feed : bytes ! 31 ≡ lineFeed) where
   last-byte : drop 30 (drop 1 bytes) ≡ lineFeed ∷ []
   last-byte =
@@ -139,10 +143,6 @@ module _ (forms : List Form) (bytes : List ℕ) (size : length bytes ≡ 32) (fe
   line-bytes =
       drop-cons bytes 0 0 (omega arith)
       ∙ ap (λ (r : List ℕ). bytes ! 0 ∷ r) (sym (take-append-drop 30 (drop 1 bytes)) ∙ rw last-byte)
-
-  fields-count : length (fieldsOf bytes) ≡ 5
-  unfolding fieldsOf
-  fields-count = length-map (records 6 5 (drop 1 bytes)) fieldOf ∙ records-length 6 5 (drop 1 bytes)
 
   -- its fields, where none is malformed, are written as they stand
   fields-bytes : T (every isRead (fieldsOf bytes))
@@ -158,7 +158,7 @@ module _ (forms : List Form) (bytes : List ℕ) (size : length bytes ≡ 32) (fe
   line-writes line e =
       let parts : Parts forms bytes line = line-parts forms bytes line e in
       let ranges : List Range = parts .form .fields in
-      let (many, few, split) = lineFields-writes ranges (fieldsOf bytes) fields-count (parts .found) in
+      let (many, few, split) = lineFields-writes ranges (fieldsOf bytes) (fields-five bytes) (parts .found) in
       let (text, fitting) = fields-bytes (rw split (lineFields-isRead (line .numbers))) in
       record {
         parts = parts;

@@ -1,15 +1,15 @@
 -- Laws about the list vocabulary: tests of every element, lists that are the same, what the elements of joined
--- lists give, a part of a part, counting up, buffers cleared and beyond their used words. The other laws use
--- them.
+-- lists give, a part and a part of a part, counting up, buffers cleared and beyond their used words. The other
+-- laws use them.
 use mathlib.Core.Path.{_≡_, refl, sym, ap, ap₂, _∙_, subst}
 use mathlib.Core.Logic.{_↔_}
-use mathlib.Core.List.{List, [], _∷_, _++_, map, append-assoc, append-nil}
+use mathlib.Core.List.{List, [], _∷_, _++_, map, append-assoc, append-nil, map-append}
 use mathlib.Core.Bool.{Bool, _&&_, and-assoc}
 use Prim.Native.Nat.{ℕ, zero, suc, _+_, _-_, _≤_, _<_}
 use native.Mathlib.Nat.{add-zero, zero-add, sub-zero, zero-sub}
 use native.Mathlib.Omega.{arith}
 use lib.Dec.{T, eqb, eqb→eq, eqb-refl}
-use lib.Seq.{take-at, take-nil}
+use lib.Seq.{take-at, take-nil, getD-take, getD-drop}
 use lib.ListN.{length, take, drop, getD, replicate, length-append, length-map, take-append-drop}
 use lib.ListN.{length-replicate}
 use Rattle.definitions.specs.Lists.{_!_, every, concatMap, upFrom, same, cleared, padded}
@@ -80,6 +80,13 @@ unfolding concatMap
 concatMap-map f g [] = refl
 concatMap-map f g (x ∷ l) = ap (λ m. f (g x) ++ m) (concatMap-map f g l)
 
+pub map-concatMap : {A B C : Type 0} (f : B → C) (g : A → List B) (l : List A)
+    → map f (concatMap g l) ≡ concatMap (λ x. map f (g x)) l
+unfolding concatMap
+map-concatMap f g [] = refl
+map-concatMap f g (x ∷ l) =
+    map-append f (g x) (concatMap g l) ∙ ap (λ m. map f (g x) ++ m) (map-concatMap f g l)
+
 -- one element more, at the end
 pub concatMap-snoc : {A B : Type 0} (f : A → List B) (l : List A) (x : A)
     → concatMap f (l ++ (x ∷ [])) ≡ concatMap f l ++ f x
@@ -103,7 +110,29 @@ pub same-at : {A : Type 0} (f : A → A) (l : List A) (a : A) (i : ℕ) → i < 
     → f (getD l i a) ≡ getD l i a
 same-at f l a i h e = sym (map-at f l a a i h) ∙ ap (λ (k : List _). getD k i a) e
 
--- ---- a part of a part
+-- ---- so many numbers are those at their places
+
+pub three : (l : List ℕ) → length l ≡ 3 → l ! 0 ∷ l ! 1 ∷ l ! 2 ∷ [] ≡ l
+three [] e = absurd (omega arith)
+three (a ∷ []) e = absurd (omega arith)
+three (a ∷ b ∷ []) e = absurd (omega arith)
+three (a ∷ b ∷ c ∷ []) e = refl
+three (a ∷ b ∷ c ∷ d ∷ l) e = absurd (omega arith)
+
+pub four : (l : List ℕ) → length l ≡ 4 → l ! 0 ∷ l ! 1 ∷ l ! 2 ∷ l ! 3 ∷ [] ≡ l
+four [] e = absurd (omega arith)
+four (a ∷ l) e = ap (λ (r : List ℕ). a ∷ r) (three l (omega arith))
+
+pub five : (l : List ℕ) → length l ≡ 5 → l ! 0 ∷ l ! 1 ∷ l ! 2 ∷ l ! 3 ∷ l ! 4 ∷ [] ≡ l
+five [] e = absurd (omega arith)
+five (a ∷ l) e = ap (λ (r : List ℕ). a ∷ r) (four l (omega arith))
+
+-- ---- a part, and a part of a part
+
+-- an element of a part, by its place in the whole
+pub part-at : {A : Type 0} (size from : ℕ) (l : List A) (i : ℕ) (d : A) → i < size
+    → getD (take size (drop from l)) i d ≡ getD l (from + i) d
+part-at size from l i d h = getD-take size (drop from l) i d h ∙ getD-drop from l i d
 
 pub drop-take : {A : Type 0} (count more : ℕ) (l : List A)
     → drop count (take (count + more) l) ≡ take more (drop count l)

@@ -21,7 +21,7 @@ use Rattle.definitions.specs.Matrices.{valid, endsHere}
 use Rattle.definitions.specs.laws.Tests.{every-at, every-from}
 use Rattle.definitions.specs.laws.PhoneSets.{has-and, has-without, has-alone, has-all, some-member}
 use Rattle.definitions.specs.laws.PhoneSets.{member-nonzero, same-members, alone-below, all-below}
-use Rattle.definitions.specs.laws.PhoneSets.{and-below-left, without-below}
+use Rattle.definitions.specs.laws.PhoneSets.{and-below-left}
 
 -- ---- the meet of two matrices
 
@@ -45,7 +45,7 @@ meet-length (x ∷ a) (y ∷ b) e = ap suc (meet-length a b (suc-inj e))
 
 -- ---- the shift
 
-pub shift-column : (phones : ℕ) (m : Matrix) (c : ℕ) → c + 1 < length m → shift phones m ! c ≡ m ! (c + 1)
+shift-column : (phones : ℕ) (m : Matrix) (c : ℕ) → c + 1 < length m → shift phones m ! c ≡ m ! (c + 1)
 unfolding shift
 shift-column n m c h =
     List·getD-append (drop 1 m) _ 0 c (rw length-drop (omega arith))
@@ -93,10 +93,10 @@ pub no-set : (position s : ℕ) (m : Matrix) → noSide position s m ≡ set m p
 unfolding noSide
 no-set i s = is-set (λ k. noSide k s) (λ x. without x s) (λ k. refl) (λ x m. refl) (λ k x m. refl) i
 
-pub yes-column : (position s : ℕ) (m : Matrix) → yesSide position s m ! position ≡ bitAnd (m ! position) s
+yes-column : (position s : ℕ) (m : Matrix) → yesSide position s m ! position ≡ bitAnd (m ! position) s
 yes-column i s m = rw yes-set (put-column (λ x. bitAnd x s) refl m i)
 
-pub no-column : (position s : ℕ) (m : Matrix) → noSide position s m ! position ≡ without (m ! position) s
+no-column : (position s : ℕ) (m : Matrix) → noSide position s m ! position ≡ without (m ! position) s
 unfolding without
 no-column i s m = rw no-set (put-column (λ x. without x s) refl m i)
 
@@ -239,12 +239,6 @@ unfolding shift
 shift-below n m h =
     let last = replicate-below n 1 (allPhones n) (all-below n) in
     append-below n (drop 1 m) (allPhones n ∷ []) (λ c. rw getD-drop (h (1 + c))) last
-
-pub yes-below : (phones position s : ℕ) (m : Matrix) → Below phones m → Below phones (yesSide position s m)
-yes-below n i s m h = rw yes-set (set-below n m i _ h (and-below-left n (m ! i) s (h i)))
-
-pub no-below : (phones position s : ℕ) (m : Matrix) → Below phones m → Below phones (noSide position s m)
-no-below n i s m h = rw no-set (set-below n m i _ h (without-below n (m ! i) s (h i)))
 
 pub start-below : (phones half : ℕ) (m : Matrix) → Below phones m → Below phones (startCut half m)
 unfolding startCut

@@ -2,15 +2,16 @@
 -- twice. The proofs about tables, arcs, leaves and combinations use them. The library's own membership is an
 -- indexed type; this one computes on the list, so a proof of it is taken apart by `inl` and `inr`.
 use mathlib.Core.Path.{_≡_, refl, sym, ap, ap₂, subst}
-use mathlib.Core.Logic.{_⊎_, inl, inr, ⊎-elim}
+use mathlib.Core.Logic.{_⊎_, inl, inr, ⊎-elim, ⊎-map, _↔_}
 use mathlib.Core.List.{List, [], _∷_, _++_, map}
 use mathlib.Core.Bool.{Bool, true, false}
 use Prim.Native.Nat.{ℕ, zero, suc, _+_, _≤_, _<_}
 use native.Mathlib.Omega.{arith}
 use native.Mathlib.Decide.{ℕ-discrete}
-use lib.Dec.{T}
+use lib.Dec.{T, eqb, eqb→eq}
 use lib.ListN.{length, getD}
-use Rattle.definitions.specs.Lists.{if_then_else_, every, concatMap, upFrom}
+use Rattle.definitions.specs.Lists.{if_then_else_, every, atLeastOne, concatMap, upFrom}
+use Rattle.definitions.specs.laws.Tests.{T-or, eq→eqb}
 use Rattle.definitions.specs.laws.Lists.{every-cons}
 
 -- x is an element of the list
@@ -80,6 +81,13 @@ of-concatMap {A} f y (x ∷ l) h = go (of-append y (f x) (concatMap f l) h) (λ 
     go (inl i) rest = (x, inl refl, i)
     go (inr i) rest = let (z, j, k) = rest i in (z, inr j, k)
 
+-- what gives the same for each element
+pub concatMap-same : {A B : Type 0} (f g : A → List B) (l : List A) → ((x : A) → isIn x l → f x ≡ g x)
+    → concatMap f l ≡ concatMap g l
+unfolding concatMap
+concatMap-same f g [] h = refl
+concatMap-same f g (x ∷ l) h = ap₂ _++_ (h x (inl refl)) (concatMap-same f g l (λ y i. h y (inr i)))
+
 -- what gives each element back gives the list back
 pub map-back : {A B : Type 0} (f : A → B) (g : B → A) (l : List A) → ((x : A) → isIn x l → g (f x) ≡ x)
     → map g (map f l) ≡ l
@@ -121,6 +129,16 @@ in-every test (y ∷ l) h x (inr i) = in-every test l (every-cons test y l .0 h 
 pub every-weaker : {A : Type 0} (test weaker : A → Bool) → ((x : A) → T (test x) → T (weaker x)) → (l : List A)
     → T (every test l) → T (every weaker l)
 every-weaker test weaker f l h = every-in weaker l (λ x i. f x (in-every test l h x i))
+
+-- the test whether a number is listed
+pub listed : (x : ℕ) (l : List ℕ) → T (atLeastOne (eqb x) l) ↔ isIn x l
+unfolding atLeastOne
+listed x [] = (λ h. h, λ h. h)
+listed x (y ∷ l) =
+    let test = T-or (eqb x y) (atLeastOne (eqb x) l) in (
+      λ h. ⊎-map (eqb→eq x y) (listed x l .0) (test .0 h),
+      λ h. test .1 (⊎-map (eq→eqb x y) (listed x l .1) h),
+    )
 
 -- ---- an element that is there if a test holds
 

@@ -3,7 +3,7 @@
 -- Demand 3 starts from these models.
 use mathlib.Core.Path.{_≡_, refl, sym, ap, ap₂, _∙_, subst}
 use mathlib.Core.Logic.{inl, inr, _↔_}
-use mathlib.Core.List.{List, [], _∷_, _++_, map, map-append}
+use mathlib.Core.List.{List, [], _∷_, map}
 use mathlib.Core.Bool.{Bool, true, false}
 use mathlib.Core.Option.{Option, none, some, Option·none-ne-some}
 use Prim.Native.Nat.{ℕ, _+_, _*_, _≤_, _<_}
@@ -20,8 +20,8 @@ use Rattle.definitions.specs.TreesGive.{withSilence, contexts, modelGive
 use Rattle.definitions.specs.TreesGive.{treesGive}
 use Rattle.definitions.specs.Transcription.{modelOf, transcription}
 use Rattle.definitions.specs.laws.Tests.{if-true}
-use Rattle.definitions.specs.laws.Lists.{every-split}
-use Rattle.definitions.specs.laws.Members.{isIn, of-upFrom, place-of}
+use Rattle.definitions.specs.laws.Lists.{every-split, map-concatMap}
+use Rattle.definitions.specs.laws.Members.{isIn, concatMap-same, of-upFrom, place-of}
 use Rattle.definitions.specs.laws.Books.{accepted-orderly}
 use Rattle.definitions.specs.laws.Sound.{AllPhones}
 use Rattle.definitions.specs.laws.WalkByLines.{given-by-tables}
@@ -42,11 +42,7 @@ map-some f g (x ∷ l) h = ap₂ _∷_ (h x (inl refl)) (map-some f g l (λ y i.
 
 concatMap-some : {A : Type 0} (f : A → List (Option ℕ)) (g : A → List ℕ) (l : List A)
     → ((x : A) → isIn x l → f x ≡ map some (g x)) → concatMap f l ≡ map some (concatMap g l)
-unfolding concatMap
-concatMap-some f g [] h = refl
-concatMap-some f g (x ∷ l) h =
-    ap₂ _++_ (h x (inl refl)) (concatMap-some f g l (λ y i. h y (inr i)))
-    ∙ sym (map-append some (g x) (concatMap g l))
+concatMap-some f g l h = concatMap-same f (λ x. map some (g x)) l h ∙ sym (map-concatMap some g l)
 
 -- ---- contexts and states in range
 

@@ -6,7 +6,7 @@ use mathlib.Core.List.{List, [], _∷_, _++_, map}
 use mathlib.Core.Bool.{Bool, _&&_}
 use Prim.Native.Nat.{ℕ, _*_, _≤_}
 use lib.Dec.{T}
-use lib.ListN.{length, take, length-map}
+use lib.ListN.{length, take}
 use Rattle.definitions.specs.declared.Counts.{Counts}
 use Rattle.definitions.specs.Faults.{answered}
 use Rattle.definitions.specs.Lists.{every, concatMap, records, padded}
@@ -14,17 +14,18 @@ use Rattle.definitions.specs.ForeignTables.{holdsOnly}
 use Rattle.definitions.specs.Arcs.{Arc, arcSize, arcWords, arcOf, arcsIn}
 use Rattle.definitions.specs.NetworkText.{arcsLeft, arcKnown, neverDescending, networkKnown}
 use Rattle.definitions.specs.laws.Tests.{T-and, T-three}
-use Rattle.definitions.specs.laws.Records.{joined, allOf, sized-parts, records-length, records-sized}
+use Rattle.definitions.specs.laws.Lists.{four}
+use Rattle.definitions.specs.laws.Records.{joined, allOf, sized-parts, read-length, records-sized}
 use Rattle.definitions.specs.laws.Records.{joined-records, arc-sized, arcs-read, flat-length}
 use Rattle.definitions.specs.laws.Known.{holds-padded, holds-used}
-use Rattle.definitions.specs.laws.NetworkLines.{linesFor, lines-arcs, four, countsRanged}
+use Rattle.definitions.specs.laws.NetworkLines.{linesFor, lines-arcs, countsRanged}
 use Rattle.definitions.specs.laws.NetworkTexts.{Orderly}
 
 -- ---- arcs in words
 
 pub arcs-length : (count : ℕ) (words : List ℕ) → length (arcsIn count words) ≡ count
 unfolding arcsIn
-arcs-length count words = length-map (records arcSize count words) arcOf ∙ records-length arcSize count words
+arcs-length count words = read-length arcSize arcOf count words
 
 -- written again, they are the words that they were taken from
 arcs-again : (own : List (List ℕ)) → T (allOf arcSize own) → concatMap arcWords (map arcOf own) ≡ joined own

@@ -8,12 +8,12 @@ use mathlib.Core.Option.{none, some, Option·none-ne-some}
 use Prim.Native.Nat.{ℕ, _*_, _≤_, _<_}
 use Prim.Native.Char.{code}
 use native.Mathlib.Omega.{arith}
-use lib.Dec.{T, leb, ltb, eqb, leb→le, le→leb, lit≤, lt→ltb, ltb→lt}
+use lib.Dec.{T, leb, eqb, leb→le, le→leb}
 use lib.ListN.{length}
 use borrow.Author.Tests.{lt-ltb, le-leb, ne-eqb, eqb-true}
 use Rattle.definitions.specs.declared.Counts.{Counts}
 use Rattle.definitions.specs.Lists.{if_then_else_, _!_, every, lastPasses, concatMap}
-use Rattle.definitions.specs.Forms.{Range, Form, formW, formA, networkForms}
+use Rattle.definitions.specs.Forms.{Form, formW, formA, networkForms}
 use Rattle.definitions.specs.Lines.{lineFeed, Line, formOf, lineOf, inRanges, inFixedRanges, lineText}
 use Rattle.definitions.specs.Reading.{lineTests}
 use Rattle.definitions.specs.Arcs.{Arc, arc, arcSize, arcWords}
@@ -21,11 +21,13 @@ use Rattle.definitions.specs.NetworkText.{NetworkLine, W, A, networkLine
 use Rattle.definitions.specs.NetworkText.{arcInLine, arcsOf, isState, networkFollows, withinCounts}
 use Rattle.definitions.specs.NetworkText.{networkInOrder, networkTests, networkComplete, networkKind}
 use Rattle.definitions.specs.NetworkText.{arcKnown, neverDescending, lineOfCounts, lineOfArc}
-use Rattle.definitions.specs.laws.Tests.{T-and, T-three, between}
+use Rattle.definitions.specs.laws.Tests.{T-and, T-three}
+use Rattle.definitions.specs.laws.Lists.{three, four}
 use Rattle.definitions.specs.laws.Judging.{allPass}
 use Rattle.definitions.specs.laws.LineFields.{allFit}
-use Rattle.definitions.specs.laws.Lines.{Read, line-reads, line-writes}
+use Rattle.definitions.specs.laws.Lines.{Read, line-writes}
 use Rattle.definitions.specs.laws.Reading.{Passed}
+use Rattle.definitions.specs.laws.WrittenTexts.{ranges-fit, Writes, Writer, Next}
 
 -- ---- the lines of counts and arcs
 
@@ -61,17 +63,10 @@ lineFor (W states metastates arcs) =
     lineOfCounts (record { states = states; metastates = metastates; arcs = arcs })
 lineFor (A a) = lineOfArc a
 
--- so many numbers are those at their places
-three : (l : List ℕ) → length l ≡ 3 → l ! 0 ∷ l ! 1 ∷ l ! 2 ∷ [] ≡ l
-three [] e = absurd (omega arith)
-three (a ∷ []) e = absurd (omega arith)
-three (a ∷ b ∷ []) e = absurd (omega arith)
-three (a ∷ b ∷ c ∷ []) e = refl
-three (a ∷ b ∷ c ∷ d ∷ l) e = absurd (omega arith)
-
-pub four : (l : List ℕ) → length l ≡ 4 → l ! 0 ∷ l ! 1 ∷ l ! 2 ∷ l ! 3 ∷ [] ≡ l
-four [] e = absurd (omega arith)
-four (a ∷ l) e = ap (λ (r : List ℕ). a ∷ r) (three l (omega arith))
+-- and the table of its letter
+abbrev formFor : NetworkLine → Form
+formFor (W states metastates arcs) = formW
+formFor (A a) = formA
 
 line-again : (line : Line) (form : Form) → formOf networkForms (line .letter) ≡ some form
     → length (line .numbers) ≡ length (form .fields) → lineFor (networkLine line) ≡ line
@@ -146,22 +141,6 @@ module _ (lent : ℕ) (counts : Counts) where
 -- ---- one line more
 
 -- the numbers of a line in its ranges have room in their fields
-pub ranges-fit : (ranges : List Range) (numbers : List ℕ) → length numbers ≡ length ranges
-    → T (every (λ range. ltb (range .highest) 1000000) ranges) → T (inRanges ranges numbers)
-    → T (allFit numbers)
-unfolding inRanges every
-ranges-fit [] [] e low h = tt
-ranges-fit [] (n ∷ numbers) e low h = absurd (omega arith)
-ranges-fit (range ∷ ranges) [] e low h = absurd h
-ranges-fit (range ∷ ranges) (n ∷ numbers) e low h =
-    let (first, others) = T-and (ltb (range .highest) 1000000) (every _ ranges) .0 low in
-    let (own, rest) = T-and (leb (range .lowest) n && leb n (range .highest)) (inRanges ranges numbers) .0 h in
-    let (_, high) = between (range .lowest) n (range .highest) .0 own in
-    T-and (ltb n 1000000) (allFit numbers) .1 (
-      lt→ltb n 1000000 (omega (arith, ltb→lt (range .highest) 1000000 first)),
-      ranges-fit ranges numbers (omega arith) others rest,
-    )
-
 pub counts-fit : (counts : Counts) → T (countsRanged counts) → T (allFit (lineOfCounts counts .numbers))
 unfolding lineOfCounts every
 counts-fit counts h = ranges-fit (formW .fields) _ refl tt h
@@ -174,28 +153,35 @@ pub known-ranged : (counts : Counts) (a : Arc) → T (arcKnown counts a) → T (
 unfolding arcKnown
 known-ranged counts a h = T-three (arcRanged a) (isState counts (a .from)) (isState counts (a .to)) .0 h .0
 
+-- how network text is written
+pub network-writes : (lent : ℕ) (line : NetworkLine)
+    → Writes (networkKind lent) line (lineFor line) (formFor line)
+unfolding networkKind networkLine formOf lineOfCounts lineOfArc arcWords every
+network-writes lent (W states metastates arcs) =
+    record { again = refl; known = refl; many = refl; fits = tt }
+network-writes lent (A a) = record { again = refl; known = refl; many = refl; fits = tt }
+
+abbrev pub networkWriter : (lent : ℕ) → Writer (networkKind lent)
+networkWriter lent = record { lineFor = lineFor; form = formFor; writes = network-writes lent }
+
 module _ (lent : ℕ) (counts : Counts) where
   -- the lines of known counts and arcs pass their tests
-  pub counts-passes : T (countsRanged counts) → arcSize * counts .arcs ≤ lent
-      → Passed (networkKind lent) [] (lineText (lineOfCounts counts)) (lineOfCounts counts)
-  unfolding networkKind networkComplete lineOfCounts formOf
-  counts-passes h wide =
+  pub counts-next : T (countsRanged counts) → arcSize * counts .arcs ≤ lent
+      → Next (networkWriter lent) [] (W (counts .states) (counts .metastates) (counts .arcs))
+  unfolding networkKind networkComplete
+  counts-next h wide =
+      let room : Bool = leb (arcSize * counts .arcs) lent in
       record {
         unfinished = tt;
-        parsed = line-reads networkForms formW _ refl refl (lit≤ tt) (counts-fit counts h);
-        tested =
-            let room : Bool = leb (arcSize * counts .arcs) lent in
-            rw (counts-tested lent counts) (T-and (countsRanged counts) room .1 (h, le→leb _ _ wide));
+        tested = rw (counts-tested lent counts) (T-and (countsRanged counts) room .1 (h, le→leb _ _ wide));
       }
 
-  pub arc-passes : (done : List Arc) (a : Arc) → length done < counts .arcs → T (arcKnown counts a)
-      → T (mayFollow done a)
-      → Passed (networkKind lent) (linesFor counts done) (lineText (lineOfArc a)) (lineOfArc a)
-  unfolding networkKind lineOfArc arcWords formOf
-  arc-passes done a fewer known follows =
+  pub arc-next : (done : List Arc) (a : Arc) → length done < counts .arcs → T (arcKnown counts a)
+      → T (mayFollow done a) → Next (networkWriter lent) (linesFor counts done) (A a)
+  unfolding networkKind
+  arc-next done a fewer known follows =
       record {
         unfinished = rw (lines-complete counts done, ne-eqb (length done) (counts .arcs) (λ e. omega arith)) tt;
-        parsed = line-reads networkForms formA _ refl refl (lit≤ tt) (arc-fit a (known-ranged counts a known));
         tested =
             rw (arc-tested lent counts done a)
             (T-and (arcKnown counts a) (mayFollow done a) .1 (known, follows));

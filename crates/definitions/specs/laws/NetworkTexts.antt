@@ -5,30 +5,29 @@ use mathlib.Core.List.{List, [], _∷_, _++_, map, map-append, append-nil}
 use mathlib.Core.Bool.{true}
 use Prim.Native.Nat.{ℕ, suc, _+_, _*_, _%_, _≤_}
 use native.Mathlib.Omega.{arith}
-use lib.Dec.{T, ltb, eqb, eqb→eq, lit≤, lt→ltb}
+use lib.Dec.{T, ltb, eqb, eqb→eq}
 use lib.ListN.{length, length-append, length-map}
 use lib.Seq.{append-snoc}
 use Rattle.definitions.specs.declared.Counts.{Counts}
-use Rattle.definitions.specs.Lists.{_!_, every, concatMap}
+use Rattle.definitions.specs.Lists.{every, concatMap}
 use Rattle.definitions.specs.Faults.{answered}
-use Rattle.definitions.specs.Lines.{lineFeed, lineText, linesOf, endsInLineFeed, wholeLines}
+use Rattle.definitions.specs.Lines.{lineText, linesOf, endsInLineFeed, wholeLines}
 use Rattle.definitions.specs.Reading.{readFrom, withLine}
 use Rattle.definitions.specs.Arcs.{Arc, arcSize, arcWords}
-use Rattle.definitions.specs.NetworkText.{NetworkLine, networkLine, networkComplete, networkKind}
-use Rattle.definitions.specs.NetworkText.{readNetwork, arcKnown, neverDescending, lineOfCounts}
-use Rattle.definitions.specs.NetworkText.{lineOfArc, networkText}
+use Rattle.definitions.specs.NetworkText.{NetworkLine, A, networkLine, networkComplete, networkKind}
+use Rattle.definitions.specs.NetworkText.{readNetwork, arcKnown, neverDescending, lineOfCounts, lineOfArc}
+use Rattle.definitions.specs.NetworkText.{networkText}
 use Rattle.definitions.specs.laws.Tests.{T-three, eq→eqb}
-use Rattle.definitions.specs.laws.Lists.{every-cons}
-use Rattle.definitions.specs.laws.Members.{every-weaker}
-use Rattle.definitions.specs.laws.Records.{joined, allOf, sized-parts, sized-more, concatMap-joined}
-use Rattle.definitions.specs.laws.Records.{joined-length}
-use Rattle.definitions.specs.laws.Lines.{line-length, line-end, text-reads, text-writes, text-sized}
-use Rattle.definitions.specs.laws.Reading.{line-taken, line-passed, lines-end, lines-ended}
-use Rattle.definitions.specs.laws.Reading.{text-lines, text-read}
-use Rattle.definitions.specs.laws.NetworkLines.{linesFor, lines-complete, countsRanged, arcRanged}
-use Rattle.definitions.specs.laws.NetworkLines.{mayFollow, counts-fit, arc-fit, known-ranged}
-use Rattle.definitions.specs.laws.NetworkLines.{counts-passes, arc-passes, counts-found, arc-found}
-use Rattle.definitions.specs.laws.NetworkLines.{order-parts}
+use Rattle.definitions.specs.laws.Lists.{every-cons, concatMap-map}
+use Rattle.definitions.specs.laws.Records.{joined, allOf, sized-parts, concatMap-joined}
+use Rattle.definitions.specs.laws.Lines.{text-writes, text-sized}
+use Rattle.definitions.specs.laws.Reading.{line-passed, lines-end, text-lines}
+use Rattle.definitions.specs.laws.LineBytes.{isByte}
+use Rattle.definitions.specs.laws.WrittenTexts.{lineBytes, written, text-bytes, text-length, allNext}
+use Rattle.definitions.specs.laws.WrittenTexts.{all-ranged, text-taken}
+use Rattle.definitions.specs.laws.NetworkLines.{linesFor, lines-complete, countsRanged, mayFollow}
+use Rattle.definitions.specs.laws.NetworkLines.{networkWriter, counts-next, arc-next, counts-found}
+use Rattle.definitions.specs.laws.NetworkLines.{arc-found, order-parts}
 
 -- counts and arcs that can be read into a table of so many words
 pub record Orderly (lent : ℕ) (counts : Counts) (arcs : List Arc) : Type 0 where
@@ -50,93 +49,54 @@ module _ (lent : ℕ) (counts : Counts) where
   unfolding networkKind networkLine lineOfArc arcWords
   lines-more done a = rw map-append
 
-  -- after the arcs done, those that follow are read one by one
-  arcs-taken : (at : ℕ) (done arcs : List Arc) → length done + length arcs ≡ counts .arcs
+  -- after the arcs done, the lines of those that follow pass their tests one by one
+  arcs-next : (done arcs : List Arc) → length done + length arcs ≡ counts .arcs
       → T (every (arcKnown counts) arcs) → T (neverDescending (done ++ arcs))
-      → readFrom (networkKind lent) at (linesFor counts done) (map arcText arcs)
-      ≡ answered (linesFor counts (done ++ arcs))
-  unfolding networkKind
-  arcs-taken at done [] all known order =
-      let full : T (networkComplete (linesFor counts done)) =
-      rw (lines-complete counts done) (eq→eqb (length done) (counts .arcs) (omega arith)) in
-      lines-ended (networkKind lent) at (linesFor counts done) full ∙ rw append-nil
-  arcs-taken at done (a ∷ arcs) all known order =
+      → allNext (networkWriter lent) (linesFor counts done) (map A arcs)
+  arcs-next done [] all known order = tt
+  arcs-next done (a ∷ arcs) all known order =
       let (own, others) = every-cons (arcKnown counts) a arcs .0 known in
       let (_, follows, _) = T-three (neverDescending done) (mayFollow done a) (neverDescending (a ∷ arcs)) .0
       (subst T (order-parts done a arcs) order) in
-      let passed = arc-passes lent counts done a (omega arith) own follows in
-      let next = arcs-taken (suc at) (done ++ (a ∷ [])) arcs (rw length-append (omega arith)) others
+      let next = arcs-next (done ++ (a ∷ [])) arcs (rw length-append (omega arith)) others
       (rw (append-snoc done a arcs) order) in
-      let before : List NetworkLine = linesFor counts done in
-      line-taken (networkKind lent) at before (arcText a) (lineOfArc a) (map arcText arcs) passed
-      ∙ rw (lines-more done a) (next ∙ rw (append-snoc done a arcs))
+      (arc-next lent counts done a (omega arith) own follows, rw map-append at next)
 
--- the lines of a network text, each of 32 bytes and a line feed at its end
-abbrev textLines : Counts → List Arc → List (List ℕ)
-textLines counts arcs = lineText (lineOfCounts counts) ∷ map arcText arcs
-
-lines-joined : (counts : Counts) (arcs : List Arc) → joined (textLines counts arcs) ≡ networkText counts arcs
+-- the text of counts and arcs is the text of their lines
+text-written : (lent : ℕ) (counts : Counts) (arcs : List Arc)
+    → written (networkWriter lent) (linesFor counts arcs) ≡ networkText counts arcs
 unfolding networkText concatMap
-lines-joined counts arcs =
-    ap (λ (l : List ℕ). lineText (lineOfCounts counts) ++ l) (sym (concatMap-joined arcText arcs))
+text-written lent counts arcs =
+    ap (λ (l : List ℕ). lineText (lineOfCounts counts) ++ l)
+    (concatMap-map (lineBytes (networkWriter lent)) A arcs)
 
-arcs-sized : (arcs : List Arc) → T (every arcRanged arcs)
-    → T (allOf 32 (map arcText arcs)) × T (every endsInLineFeed (map arcText arcs))
-unfolding every endsInLineFeed lineOfArc arcWords
-arcs-sized [] h = (tt, tt)
-arcs-sized (a ∷ arcs) h =
-    let (own, others) = every-cons arcRanged a arcs .0 h in
-    let (sizes, feeds) = arcs-sized arcs others in
-    let size : length (arcText a) ≡ 32 = line-length (lineOfArc a) (lit≤ tt) (arc-fit a own) in
-    let feed : arcText a ! 31 ≡ lineFeed = line-end (lineOfArc a) (lit≤ tt) (arc-fit a own) in (
-      sized-more 32 (arcText a) (map arcText arcs) size sizes,
-      every-cons endsInLineFeed (arcText a) (map arcText arcs) .1 (eq→eqb _ _ feed, feeds),
-    )
+module _ (lent : ℕ) (counts : Counts) (arcs : List Arc) (o : Orderly lent counts arcs) where
+  lines-next : allNext (networkWriter lent) [] (linesFor counts arcs)
+  lines-next = (
+    counts-next lent counts (o .ranged) (o .wide),
+    arcs-next lent counts [] arcs (omega (arith, o .all)) (o .known) (o .in-order),
+  )
 
-module _ (counts : Counts) (arcs : List Arc)
-    (ranged : T (countsRanged counts)) (known : T (every (arcKnown counts) arcs))
-  where
-    lines-ready : T (allOf 32 (textLines counts arcs)) × T (every endsInLineFeed (textLines counts arcs))
-    unfolding lineOfCounts endsInLineFeed
-    lines-ready =
-        let fit = counts-fit counts ranged in
-        let (sizes, feeds) =
-        arcs-sized arcs (every-weaker (arcKnown counts) arcRanged (known-ranged counts) arcs known) in
-        let size = line-length (lineOfCounts counts) (lit≤ tt) fit in
-        let feed = line-end (lineOfCounts counts) (lit≤ tt) fit in (
-          sized-more 32 _ (map arcText arcs) size sizes,
-          every-cons endsInLineFeed _ (map arcText arcs) .1 (eq→eqb _ _ feed, feeds),
-        )
+  pub lines-length : length (networkText counts arcs) ≡ 32 + 32 * counts .arcs
+  lines-length =
+      let lines : List NetworkLine = linesFor counts arcs in
+      ap length (sym (text-written lent counts arcs))
+      ∙ text-length (networkWriter lent) lines (all-ranged (networkWriter lent) [] lines lines-next)
+      ∙ omega (arith, length-map arcs A, o .all)
 
-    lines-again : linesOf (networkText counts arcs) ≡ textLines counts arcs
-    lines-again =
-        ap linesOf (sym (lines-joined counts arcs)) ∙ text-reads (textLines counts arcs) (lines-ready .0)
+  pub network-read : readNetwork lent (networkText counts arcs) ≡ answered (linesFor counts arcs)
+  unfolding readNetwork networkKind
+  network-read =
+      let lines : List NetworkLine = linesFor counts arcs in
+      let full : T (networkComplete lines) =
+      rw (lines-complete counts arcs) (eq→eqb (length arcs) (counts .arcs) (o .all)) in
+      ap (readNetwork lent) (sym (text-written lent counts arcs))
+      ∙ text-taken (networkWriter lent) lines (omega arith) lines-next full
 
-    pub lines-length : length (networkText counts arcs) ≡ 32 + 32 * length arcs
-    lines-length =
-        ap length (sym (lines-joined counts arcs))
-        ∙ joined-length 32 (textLines counts arcs) (lines-ready .0) ∙ omega (arith, length-map arcs arcText)
-
-    lines-whole : T (wholeLines (networkText counts arcs))
-    unfolding wholeLines
-    lines-whole =
-        let text : List ℕ = networkText counts arcs in
-        T-three (ltb 0 (length text)) (eqb (length text % 32) 0) (every endsInLineFeed (linesOf text)) .1 (
-          lt→ltb 0 (length text) (omega (arith, lines-length)),
-          eq→eqb (length text % 32) 0 (omega (arith, lines-length)),
-          rw lines-again (lines-ready .1),
-        )
-
-pub network-read : (lent : ℕ) (counts : Counts) (arcs : List Arc) → Orderly lent counts arcs
-    → readNetwork lent (networkText counts arcs) ≡ answered (linesFor counts arcs)
-unfolding readNetwork networkKind networkLine lineOfCounts
-network-read lent counts arcs o =
-    let first : List ℕ = lineText (lineOfCounts counts) in
-    text-read (networkKind lent) (networkText counts arcs) (lines-whole counts arcs (o .ranged) (o .known))
-    ∙ rw (lines-again counts arcs (o .ranged) (o .known))
-    (line-taken (networkKind lent) 1 [] first (lineOfCounts counts) (map arcText arcs)
-    (counts-passes lent counts (o .ranged) (o .wide))
-    ∙ arcs-taken lent counts 2 [] arcs (omega (arith, o .all)) (o .known) (o .in-order))
+-- every byte of it is a byte
+pub network-bytes : (counts : Counts) (arcs : List Arc) → T (every isByte (networkText counts arcs))
+network-bytes counts arcs =
+    rw (← text-written 0 counts arcs) (text-bytes (networkWriter 0) (linesFor counts arcs))
 
 -- ---- what is read is what was written
 
@@ -205,6 +165,12 @@ pub record Found (lent : ℕ) (text : List ℕ) (lines : List NetworkLine) : Typ
   pub orderly : Orderly lent counts arcs
 
 -- the W line before its arcs
+lines-joined : (counts : Counts) (arcs : List Arc)
+    → joined (lineText (lineOfCounts counts) ∷ map arcText arcs) ≡ networkText counts arcs
+unfolding networkText concatMap
+lines-joined counts arcs =
+    ap (λ (l : List ℕ). lineText (lineOfCounts counts) ++ l) (sym (concatMap-joined arcText arcs))
+
 counts-before : (lent : ℕ) (counts : Counts) (rest : List (List ℕ)) (lines : List NetworkLine)
     → T (countsRanged counts) → arcSize * counts .arcs ≤ lent → After lent counts [] rest lines
     → Found lent (joined (lineText (lineOfCounts counts) ∷ rest)) lines

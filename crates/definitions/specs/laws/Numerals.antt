@@ -128,7 +128,7 @@ numeral-digits = by-digits (λ n. T (every isDigit (numeral n)))
     (λ n h. rw numeral-short (digits-more [] n tt h))
     (λ n h ih. rw numeral-long (digits-more (numeral (n / 10)) (n % 10) ih (omega arith)))
 
-pub numeral-nonempty : (n : ℕ) → 0 < length (numeral n)
+numeral-nonempty : (n : ℕ) → 0 < length (numeral n)
 numeral-nonempty = by-digits (λ n. 0 < length (numeral n))
     (λ n h. rw numeral-short (omega arith)) (λ n h ih. rw (numeral-long, length-append) (omega arith))
 

@@ -66,7 +66,7 @@ has-without = digitwise without (λ x y. x - min x y) (λ x y. x && not y) refl
 
 -- ---- sets built from nothing
 
-pub has-none : (p : ℕ) → has p 0 ≡ false
+has-none : (p : ℕ) → has p 0 ≡ false
 unfolding has
 has-none zero = refl
 has-none (suc zero) = refl
@@ -111,7 +111,7 @@ has-listed i (p ∷ l) = has-or (suc i) (alone p) (setOf l) ∙ ap₂ _||_ (head
     head zero = has-none (suc i) ∙ sym (eqb·suc-zero i)
     head (suc j) = has-alone (suc i) (suc j) (omega arith)
 
-pub has-setOf : (p : ℕ) (l : List ℕ) → T (every (ltb 0) l) → has p (setOf l) ≡ atLeastOne (eqb p) l
+has-setOf : (p : ℕ) (l : List ℕ) → T (every (ltb 0) l) → has p (setOf l) ≡ atLeastOne (eqb p) l
 unfolding has every atLeastOne
 has-setOf (suc i) l h = has-listed i l
 has-setOf zero [] h = refl
@@ -201,10 +201,6 @@ all-below = ones-lt
 
 pub and-below-left : (w a b : ℕ) → a < 2 ^ w → bitAnd a b < 2 ^ w
 and-below-left w a b h = omega (arith, and-le-l a b)
-
-pub without-below : (w a b : ℕ) → a < 2 ^ w → without a b < 2 ^ w
-unfolding without
-without-below w a b h = omega arith
 
 pub setOf-below : (phones : ℕ) (l : List ℕ) → T (every (λ p. leb p phones) l) → setOf l < 2 ^ phones
 unfolding setOf every

@@ -42,7 +42,7 @@ unfolding program
 program-short input h = rw (le-ltb 65536 (length input) h, program)
 
 -- what lies beyond the byte that makes it too long does not count
-pub program-cut : (input : List ℕ) → 65536 < length input → program (take 65537 input) ≡ program input
+program-cut : (input : List ℕ) → 65536 < length input → program (take 65537 input) ≡ program input
 program-cut input h =
     let cut : length (take 65537 input) ≡ 65537 = length-take-le 65537 input (omega arith) in
     program-long (take 65537 input) (omega (arith, cut)) ∙ sym (program-long input h)

@@ -36,6 +36,18 @@ range-parts r ranges n numbers h =
     let parts = T-and (leb (r .lowest) n && leb n (r .highest)) (inRanges ranges numbers) .0 h in
     (in-range r n (parts .0), parts .1)
 
+-- numbers in the ranges of their fields, one by one
+pub range-none : T (inRanges [] [])
+unfolding inRanges
+range-none = tt
+
+pub range-more : (r : Range) (ranges : List Range) (n : ℕ) (numbers : List ℕ)
+    → (r .lowest ≤ n) × (n ≤ r .highest) → T (inRanges ranges numbers) → T (inRanges (r ∷ ranges) (n ∷ numbers))
+unfolding inRanges
+range-more r ranges n numbers own h =
+    T-and (leb (r .lowest) n && leb n (r .highest)) (inRanges ranges numbers) .1
+    (between (r .lowest) n (r .highest) .1 own, h)
+
 pub ranges-at : (ranges : List Range) (numbers : List ℕ) → T (inRanges ranges numbers)
     → (i : ℕ) → i < length ranges → Within (getD ranges i (0 ‥ 0)) (numbers ! i)
 unfolding inRanges

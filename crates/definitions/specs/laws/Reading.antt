@@ -104,7 +104,7 @@ module _ {L : Type 0} (kind : Kind L) (P : List L → Type 0)
     (keep : (before : List L) (bytes : List ℕ) (line : Line)
     → P before → Passed kind before bytes line → P (before ++ (kind .view line ∷ [])))
   where
-    pub lines-hold : (at : ℕ) (before : List L) (rest : List (List ℕ)) (answer : List L)
+    lines-hold : (at : ℕ) (before : List L) (rest : List (List ℕ)) (answer : List L)
         → P before → readFrom kind at before rest ≡ answered answer → Accepted kind P answer
     lines-hold at before [] answer p e =
         let (complete, judged) = lines-end kind at before answer e in

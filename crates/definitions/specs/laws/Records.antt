@@ -13,7 +13,7 @@ use lib.Seq.{take-at, drop-at, drop-drop, take-add, length-take-le}
 use Rattle.definitions.specs.Lists.{every, concatMap, records, cleared, padded}
 use Rattle.definitions.specs.Arcs.{Arc, arcSize, arcWords, arcOf, arcsIn}
 use Rattle.definitions.specs.laws.Tests.{eq→eqb}
-use Rattle.definitions.specs.laws.Lists.{every-cons, same-at}
+use Rattle.definitions.specs.laws.Lists.{every-cons, map-at, same-at}
 use Rattle.definitions.specs.laws.Members.{isIn, of-map, every-in, map-back}
 
 -- ---- lists joined, and records of a list
@@ -79,6 +79,16 @@ module _ (size : ℕ) where
       let more : size + size * i ≡ size * suc i = omega (arith, mul-suc size i) in
       record-at count (drop size text) i (omega arith)
       ∙ ap (take size) (drop-drop (size * i) size text ∙ rw more)
+
+  -- what is read from each of them
+  module _ {A : Type 0} (f : List ℕ → A) (count : ℕ) (text : List ℕ) where
+    pub read-length : length (map f (records size count text)) ≡ count
+    read-length = length-map (records size count text) f ∙ records-length count text
+
+    pub read-at : (d : A) (i : ℕ) → i < count
+        → getD (map f (records size count text)) i d ≡ f (take size (drop (size * i) text))
+    read-at d i h =
+        map-at f (records size count text) [] d i (rw records-length h) ∙ ap f (record-at count text i h)
 
   -- a text with room for the records
   room : (count : ℕ) (text : List ℕ) → size * suc count ≤ length text

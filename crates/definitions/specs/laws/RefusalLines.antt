@@ -130,14 +130,10 @@ names-lines lines = go (orphans (nodesOf lines) (rootsOf lines))
     go [] = tt
     go (node ∷ others) = omega (arith, node-line 1 node lines)
 
+-- reading refuses at a line of the text, or at the one after the last
 book-lines : (lent : Lent) (text : List ℕ) → RefusesUpTo (suc (length text / 32)) (readBook lent text)
 unfolding readBook bookKind
 book-lines lent text = text-lines (bookKind lent) names-lines text
-
--- the line of a refusal of reading is one of the text, or the one after the last
-pub read-line : (lent : Lent) (text : List ℕ) (r : Refusal) → readBook lent text ≡ refused r
-    → r .line ≤ suc (length text / 32)
-read-line lent text r e = refused-line _ (readBook lent text) r (book-lines lent text) e
 
 -- ---- building, with line 0
 

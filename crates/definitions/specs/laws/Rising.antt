@@ -1,16 +1,18 @@
 -- Laws about order: of lists of numbers, by the first that differs; and lists whose elements stand before
--- all later ones in some order. The leaves of a tree and the combinations of a book are such lists.
+-- all later ones in some order. The leaves of a tree, the combinations of a book and the members of its classes
+-- are such lists.
 use mathlib.Core.Path.{refl}
 use mathlib.Core.Logic.{_⊎_, inl, inr}
-use mathlib.Core.List.{List, [], _∷_, _++_}
-use mathlib.Core.Bool.{Bool, false, _&&_, _||_}
+use mathlib.Core.List.{List, [], _∷_, _++_, map}
+use mathlib.Core.Bool.{Bool, true, false, _&&_, _||_}
 use Prim.Native.Nat.{ℕ, zero, suc, _<_}
 use native.Mathlib.Omega.{arith}
 use lib.Dec.{T, ltb, eqb, lt→ltb, ltb→lt, eqb-refl}
 use lib.ListN.{length, getD}
-use Rattle.definitions.specs.Lists.{concatMap, upFrom}
+use Rattle.definitions.specs.Lists.{if_then_else_, select, lastPasses, concatMap, upFrom}
 use Rattle.definitions.specs.laws.Tests.{T-and, T-or}
-use Rattle.definitions.specs.laws.Members.{isIn, of-append, of-concatMap, of-upFrom, in-at}
+use Rattle.definitions.specs.laws.Members.{isIn, of-append, of-map, of-concatMap, of-upFrom, in-at}
+use Rattle.definitions.specs.laws.Selected.{of-select}
 
 -- ---- lists of numbers
 
@@ -57,7 +59,7 @@ rising-at before (x ∷ l) d r zero (suc j) h k = r .0 (getD l j d) (in-at l j d
 rising-at before (x ∷ l) d r (suc i) (suc j) h k =
     rising-at before l d (r .1) i j (omega arith) (omega arith)
 
-rising-append : {A : Type 0} (before : A → A → Type 0) (k l : List A) → Rising before k → Rising before l
+pub rising-append : {A : Type 0} (before : A → A → Type 0) (k l : List A) → Rising before k → Rising before l
     → ((x y : A) → isIn x k → isIn y l → before x y) → Rising before (k ++ l)
 rising-append before [] l r s across = s
 rising-append {A} before (x ∷ k) l r s across =
@@ -86,3 +88,32 @@ pub rising-upFrom : (a count : ℕ) → Rising _<_ (upFrom a count)
 unfolding upFrom
 rising-upFrom a zero = tt
 rising-upFrom a (suc count) = (λ y h. of-upFrom (suc a) count y h .0, rising-upFrom (suc a) count)
+
+-- the elements that pass a test stay in order
+pub rising-select : {A : Type 0} (before : A → A → Type 0) (test : A → Bool) (l : List A) → Rising before l
+    → Rising before (select test l)
+unfolding select
+rising-select before test [] r = tt
+rising-select before test (x ∷ l) r = go (test x) (rising-select before test l (r .1))
+  where
+    go : (b : Bool) → Rising before (select test l)
+        → Rising before (if b then x ∷ select test l else select test l)
+    go true rest = (λ y i. r .0 y (of-select test y l i .0), rest)
+    go false rest = rest
+
+-- and so do elements put for others, where that keeps the order of any two
+pub rising-map : {A B : Type 0} (before : A → A → Type 0) (after : B → B → Type 0) (f : A → B)
+    → ((x y : A) → before x y → after (f x) (f y)) → (l : List A) → Rising before l → Rising after (map f l)
+rising-map before after f keeps [] r = tt
+rising-map {A} {B} before after f keeps (x ∷ l) r = (later, rising-map before after f keeps l (r .1))
+  where
+    later : (b : B) → isIn b (map f l) → after (f x) b
+    later b h = let (y, i, e) = of-map f b l h in rw e (keeps x y (r .0 y i))
+
+-- the last of the elements before one stands before it
+pub rising-last : {A : Type 0} (before : A → A → Bool) (done : List A) (x : A) (rest : List A)
+    → Rising (λ a b. T (before a b)) (done ++ (x ∷ rest)) → T (lastPasses (λ a. before a x) done)
+unfolding lastPasses
+rising-last before [] x rest r = tt
+rising-last before (a ∷ []) x rest r = r .0 x (inl refl)
+rising-last before (a ∷ b ∷ done) x rest r = rising-last before (b ∷ done) x rest (r .1)

@@ -1,13 +1,11 @@
 -- Demand 2 of document 01: a network written as text and read again is the same network, and text read and
--- written again is the same text. With it 18 for arcs is exact: the arcs that are known are those that reading
--- some text leaves.
+-- written again is the same text.
 use mathlib.Core.Path.{_≡_, sym, ap, _∙_, subst}
-use mathlib.Core.Logic.{_↔_}
 use mathlib.Core.List.{List, [], _∷_}
 use mathlib.Core.Bool.{Bool, true, _&&_}
 use Prim.Native.Nat.{ℕ, _+_, _*_, _≤_}
 use native.Mathlib.Omega.{arith}
-use lib.Dec.{T, leb, ltb, le→leb, lit<}
+use lib.Dec.{T, leb, le→leb, lit<}
 use lib.ListN.{length, take}
 use Rattle.definitions.specs.declared.Counts.{Counts}
 use Rattle.definitions.specs.declared.Fault.the-variants.{Foreign, Short}
@@ -19,11 +17,9 @@ use Rattle.definitions.specs.NetworkText.{networkText, writeNetwork}
 use Rattle.definitions.specs.laws.Tests.{T-and}
 use Rattle.definitions.specs.laws.Judging.{passes-at, judge-passing, judge-answered}
 use Rattle.definitions.specs.laws.NetworkLines.{linesFor, lines-arcs, lines-counts}
-use Rattle.definitions.specs.laws.NetworkBytes.{text-bytes}
 use Rattle.definitions.specs.laws.NetworkTexts.{Orderly, lines-length, network-read, Found, network-found}
-use Rattle.definitions.specs.laws.NetworkKnown.{arcs-length, arcs-written, arcsHeld, known-parts}
-use Rattle.definitions.specs.laws.NetworkKnown.{known-orderly, known-holds, tableOf, table-left}
-use Rattle.definitions.specs.laws.NetworkKnown.{orderly-arcs, orderly-known}
+use Rattle.definitions.specs.laws.NetworkKnown.{arcs-written, arcsHeld, known-orderly, known-holds}
+use Rattle.definitions.specs.laws.NetworkKnown.{tableOf, table-left, orderly-arcs, orderly-known}
 
 -- a text that reading into an arc table of so many words accepts, with these counts, leaving these words
 abbrev pub Leaves : (lent : ℕ) → (text : List ℕ) → Counts → (words : List ℕ) → Type 0
@@ -32,7 +28,7 @@ Leaves lent text counts words =
     × (arcsLeft lent (readNetwork lent text) ≡ words)
 
 -- the text of the arcs that words hold
-abbrev textHeld : Counts → (words : List ℕ) → List ℕ
+abbrev pub textHeld : Counts → (words : List ℕ) → List ℕ
 textHeld counts words = networkText counts (arcsHeld counts words)
 
 -- known arcs are left by their text, in any table with room for them
@@ -46,14 +42,14 @@ module _ (counts : Counts) (words : List ℕ) (known : T (networkKnown counts wo
       let same = arcs-written (counts .arcs) words (known-holds counts words known .0) in
       (linesFor counts arcs, read, lines-counts counts arcs, rw (read, arcsLeft, lines-arcs counts arcs, same))
 
-  known-leaves-same : Leaves (length words) (textHeld counts words) counts words
+  pub known-leaves-same : Leaves (length words) (textHeld counts words) counts words
   known-leaves-same =
       let (wide, whole) = known-holds counts words known in
       subst (λ table. Leaves (length words) (textHeld counts words) counts table) (sym whole)
       (known-leaves (length words) wide)
 
 -- counts with words that a text leaves are known, and the text is theirs
-leaves-known : (lent : ℕ) (text : List ℕ) (counts : Counts) (words : List ℕ) → Leaves lent text counts words
+pub leaves-known : (lent : ℕ) (text : List ℕ) (counts : Counts) (words : List ℕ) → Leaves lent text counts words
     → T (networkKnown counts words) × (textHeld counts words ≡ text)
 leaves-known lent text counts words (lines, read, stated, left) =
     let f : Found lent text lines = network-found lent text lines read in
@@ -109,23 +105,14 @@ read-written lent text counts words size left room =
     (judge-passing 0 (Foreign unless networkKnown counts words ∷ Short unless fits ∷ [])
     (answered text) (T-and (networkKnown counts words) (fits && true) .1 (known, short)))
 
--- 18, exactly: arcs with their counts are known exactly when some text leaves them
-pub known-exactly : (counts : Counts) (words : List ℕ)
-    → T (networkKnown counts words)
-    ↔ ((text : List ℕ) × T (every (λ byte. ltb byte 256) text) × Leaves (length words) text counts words)
-known-exactly counts words =
-    let arcs : List Arc = arcsHeld counts words in (
-      λ h. (textHeld counts words, text-bytes counts arcs, known-leaves-same counts words h),
-      λ (text, bytes, left). leaves-known (length words) text counts words left .0,
-    )
-
 -- ---- how long the text is, and that it is written where it has room
 
 pub text-length : (counts : Counts) (words : List ℕ) → T (networkKnown counts words)
     → length (networkText counts (arcsIn (counts .arcs) words)) ≡ 32 + 32 * counts .arcs
 text-length counts words h =
-    let (ranged, _, known, _) = known-parts counts words .0 h in
-    lines-length counts (arcsHeld counts words) ranged known ∙ rw (arcs-length (counts .arcs) words)
+    let (wide, _) = known-holds counts words h in
+    let orderly = known-orderly counts words (length words) h wide in
+    lines-length (length words) counts (arcsHeld counts words) orderly
 
 pub known-written : (counts : Counts) (words : List ℕ) (size : ℕ) → T (networkKnown counts words)
     → 32 + 32 * counts .arcs ≤ size

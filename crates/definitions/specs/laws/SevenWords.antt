@@ -11,7 +11,6 @@ use lib.Seq.{ext-getD, set-getD, drop-append-le, take-at, drop-at}
 use Rattle.definitions.specs.Lists.{_!_, cleared, padded}
 use Rattle.definitions.specs.PhoneSets.{has, alone, allPhones, without}
 use Rattle.definitions.specs.Matrices.{Matrix, matrixWords, yesSide, noSide, meet, shift, startCut}
-use Rattle.definitions.specs.Matrices.{valid}
 use Rattle.definitions.specs.laws.Lists.{padded-length, padded-take}
 use Rattle.definitions.specs.laws.Matrices.{meet-column, meet-length, shift-length, start-length}
 use Rattle.definitions.specs.laws.Matrices.{yes-set, no-set}
@@ -62,7 +61,7 @@ module _ (size : ℕ) where
   unfolding padded
   padded-width m n e = simp (length-append, e)
 
-  pub padded-meet : (a b : Matrix) → length a ≡ length b
+  padded-meet : (a b : Matrix) → length a ≡ length b
       → padded size (meet a b) ≡ meet (padded size a) (padded size b)
   padded-meet a b e = ext-getD 0 (padded size (meet a b)) (meet (padded size a) (padded size b)) widths
       (λ c k. simp (meet-column, padded-column))
@@ -70,7 +69,7 @@ module _ (size : ℕ) where
       widths : length (padded size (meet a b)) ≡ length (meet (padded size a) (padded size b))
       widths = padded-width a (meet a b) (meet-length a b e) ∙ sym (meet-length _ _ (padded-width b a e))
 
-  pub padded-shift : (phones w : ℕ) (m : Matrix) → length m ≡ suc w
+  padded-shift : (phones w : ℕ) (m : Matrix) → length m ≡ suc w
       → padded size (shift phones m)
       ≡ take w (drop 1 (padded size m)) ++ (allPhones phones ∷ drop (suc w) (padded size m))
   unfolding padded shift
@@ -86,21 +85,21 @@ module _ (size : ℕ) where
   padded-put f e m i =
       padded-as m (set m i (f (m ! i))) (length-set m i (f (m ! i))) ∙ zeros-put f e m (size - length m) i
 
-  pub padded-yes : (position s : ℕ) (m : Matrix)
+  padded-yes : (position s : ℕ) (m : Matrix)
       → padded size (yesSide position s m) ≡ yesSide position s (padded size m)
   padded-yes i s m = simp yes-set (padded-put (λ x. bitAnd x s) refl m i)
 
-  pub padded-no : (position s : ℕ) (m : Matrix)
+  padded-no : (position s : ℕ) (m : Matrix)
       → padded size (noSide position s m) ≡ noSide position s (padded size m)
   unfolding without
   padded-no i s m = simp no-set (padded-put (λ x. without x s) refl m i)
 
-  pub padded-start : (half : ℕ) (m : Matrix) → padded size (startCut half m) ≡ startCut half (padded size m)
+  padded-start : (half : ℕ) (m : Matrix) → padded size (startCut half m) ≡ startCut half (padded size m)
   unfolding padded
   padded-start half m =
       padded-as m (startCut half m) (start-length half m) ∙ zeros-start half m (size - length m)
 
-  pub padded-same : (a b : Matrix) → length a ≡ length b → padded size a ≡ padded size b → a ≡ b
+  padded-same : (a b : Matrix) → length a ≡ length b → padded size a ≡ padded size b → a ≡ b
   padded-same a b e q =
       sym (padded-take size (length a) a refl) ∙ ap₂ take e q ∙ padded-take size (length b) b refl
 
@@ -110,7 +109,7 @@ pub words-length : (m : Matrix) → length m ≤ 7 → length (matrixWords m) �
 unfolding matrixWords
 words-length = padded-length 7
 
-pub words-column : (m : Matrix) (c : ℕ) → matrixWords m ! c ≡ m ! c
+words-column : (m : Matrix) (c : ℕ) → matrixWords m ! c ≡ m ! c
 unfolding matrixWords
 words-column = padded-column 7
 
@@ -143,12 +142,9 @@ unfolding matrixWords
 words-start = padded-start 7
 
 -- the matrix is the words up to its width
-pub words-take : (m : Matrix) → take (length m) (matrixWords m) ≡ m
+pub words-take : (m : Matrix) {width : ℕ} → length m ≡ width → take width (matrixWords m) ≡ m
 unfolding matrixWords
-words-take m = padded-take 7 (length m) m refl
-
-pub words-valid : (m : Matrix) → valid m ≡ valid (take (length m) (matrixWords m))
-words-valid m = ap valid (sym (words-take m))
+words-take m {width} e = padded-take 7 width m (sym e)
 
 pub words-same : (a b : Matrix) → length a ≡ length b → matrixWords a ≡ matrixWords b → a ≡ b
 unfolding matrixWords

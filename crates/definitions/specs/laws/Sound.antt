@@ -9,7 +9,7 @@ use Rattle.definitions.specs.Lists.{every}
 use Rattle.definitions.specs.BookLines.{isPhone, question, leaf}
 use Rattle.definitions.specs.Tables.{Book}
 use Rattle.definitions.specs.Lookup.{nodeAt}
-use Rattle.definitions.specs.Combinations.{rootOf}
+use Rattle.definitions.specs.Tables.{rootOf}
 use Rattle.definitions.specs.laws.Walks.{Forward}
 
 -- "A matrix has 2n+1 columns"

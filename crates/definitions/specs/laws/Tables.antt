@@ -2,19 +2,19 @@
 -- So whatever a later stage computes from tables as reading left them, it computes from the lines' book.
 -- And about the records in any table of nodes: how many they are, and the words that each reads.
 use mathlib.Core.Path.{_≡_, refl, ap, ap₂, _∙_}
-use mathlib.Core.List.{List, [], _∷_, map}
+use mathlib.Core.List.{List, [], _∷_, _++_, map}
 use Prim.Native.Nat.{ℕ, _-_}
 use lib.Dec.{lit<}
 use lib.ListN.{length, take, length-map}
 use lib.Seq.{getD-take}
 use Rattle.definitions.specs.declared.Header.{Header}
-use Rattle.definitions.specs.Lists.{concatMap, records, cleared, padded}
+use Rattle.definitions.specs.Lists.{concatMap, cleared, padded}
 use Rattle.definitions.specs.BookLines.{TreeNode, question, leaf, rootCount}
 use Rattle.definitions.specs.BookReading.{Lent, nodeSize}
 use Rattle.definitions.specs.Tables.{Book, nodeWords, nodeOf, treeNode, nodeRecords, tablesOf}
 use Rattle.definitions.specs.Tables.{tablesBook}
 use Rattle.definitions.specs.laws.Lists.{padded-take}
-use Rattle.definitions.specs.laws.Records.{records-length, flat-records}
+use Rattle.definitions.specs.laws.Records.{read-length, flat-records}
 
 -- a header that states a book's counts
 pub record Heads (header : Header) (book : Book) : Type 0 where
@@ -56,22 +56,27 @@ node-of-first words =
 pub node-records-length : (header : Header) (words : List ℕ)
     → length (nodeRecords header words) ≡ header .nodes
 unfolding nodeRecords
-node-records-length header words =
-    length-map (records nodeSize (header .nodes) words) nodeOf
-    ∙ records-length nodeSize (header .nodes) words
+node-records-length header words = read-length nodeSize nodeOf (header .nodes) words
 
 pub tree-nodes-length : (header : Header) (words : List ℕ)
     → length (map treeNode (nodeRecords header words)) ≡ header .nodes
 tree-nodes-length header words =
     length-map (nodeRecords header words) treeNode ∙ node-records-length header words
 
+-- the records in a table that begins with elements written as five words each
+pub written-nodes : {A : Type 0} (words : A → List ℕ) → ((x : A) → length (words x) ≡ nodeSize)
+    → (header : Header) (xs : List A) (rest : List ℕ) → header .nodes ≡ length xs
+    → nodeRecords header (concatMap words xs ++ rest) ≡ map nodeOf (map words xs)
+unfolding nodeRecords
+written-nodes words sized header xs rest e =
+    rw e (ap (map nodeOf) (flat-records words nodeSize sized xs rest))
+
 -- the records in a node table, and the nodes that they are
 pub tables-records : (header : Header) (size : ℕ) (nodes : List TreeNode) → header .nodes ≡ length nodes
     → nodeRecords header (padded size (concatMap nodeWords nodes)) ≡ map nodeOf (map nodeWords nodes)
-unfolding nodeRecords padded
+unfolding padded
 tables-records header size nodes e =
-    let rest : List ℕ = cleared (size - length (concatMap nodeWords nodes)) in
-    rw e (ap (map nodeOf) (flat-records nodeWords nodeSize node-sized nodes rest))
+    written-nodes nodeWords node-sized header nodes (cleared (size - length (concatMap nodeWords nodes))) e
 
 tables-nodes : (header : Header) (size : ℕ) (nodes : List TreeNode) → header .nodes ≡ length nodes
     → map treeNode (nodeRecords header (padded size (concatMap nodeWords nodes))) ≡ nodes

@@ -63,7 +63,7 @@ module _ (nodes : List TreeNode) (classes context : List ℕ) where
   walk-question steps node class position yesNode noNode e = rw (e, walk)
 
   -- enough steps end at a leaf
-  pub walk-ends : Forward nodes → (steps node : ℕ) → node < length nodes → length nodes ≤ node + steps
+  walk-ends : Forward nodes → (steps node : ℕ) → node < length nodes → length nodes ≤ node + steps
       → IsLeaf nodes (walked steps node)
   walk-ends forward zero node h k = absurd (omega arith)
   walk-ends forward (suc steps) node h k =

@@ -103,7 +103,7 @@ module _ {L : Type 0} (kind : Kind L) (before : List L) (bytes : List ℕ) where
       by-line c (some line) e = line-passed line c e (sym (verdict-line _ _ _ c e) ∙ k)
 
   -- a line with a fault is refused
-  pub verdict-refused : (fault : Fault) → lineVerdict kind before bytes ≡ Failed fault
+  verdict-refused : (fault : Fault) → lineVerdict kind before bytes ≡ Failed fault
       → (at : ℕ) (rest : List (List ℕ)) → readFrom kind at before (bytes ∷ rest) ≡ refuse fault at
   unfolding readFrom judge lineRead andThen
   verdict-refused fault k at rest =

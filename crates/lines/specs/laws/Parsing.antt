@@ -8,18 +8,17 @@ use Prim.Native.Nat.{ℕ, zero, suc, _+_, _-_, _*_, _≤_, _<_}
 use native.Mathlib.Omega.{arith}
 use native.Mathlib.Numerals.{add-one}
 use lib.Dec.{ltb}
-use lib.ListN.{length, getD, set, take, drop, length-drop, length-map, length-set, drop-of-length-le}
-use lib.ListN.{List·getD-map}
+use lib.ListN.{length, getD, set, take, drop, length-drop, length-set, drop-of-length-le}
 use lib.Seq.{drop-cons, drop-drop, take-all, take-suc-set}
 use borrow.Author.Tests.{ltb-true, ltb-false}
-use Rattle.definitions.specs.Lists.{if_then_else_, _!_, every, records, cleared, padded}
+use Rattle.definitions.specs.Lists.{if_then_else_, _!_, every, cleared, padded}
 use Rattle.definitions.specs.Forms.{Range, Form}
 use Rattle.definitions.specs.Lines.{Field, blank, malformed, number, isBlank, fieldOf, skipSpaces, digitsField}
 use Rattle.definitions.specs.Lines.{fieldsOf, numbersOf, formOf, withLetter, lineOf}
 use Rattle.definitions.specs.laws.Tests.{by-test}
 use Rattle.definitions.specs.laws.Lists.{padded-none}
-use Rattle.definitions.specs.laws.Records.{records-length, record-at}
-use Rattle.definitions.specs.laws.Lines.{line-known, line-unknown, form-letter}
+use Rattle.definitions.specs.laws.Records.{read-at}
+use Rattle.definitions.specs.laws.Lines.{line-known, line-unknown, form-letter, fields-five}
 use Rattle.lines.specs.declared.Letters.{Letters}
 use Rattle.lines.specs.declared.Letters.the-variants.{Book, Network}
 use Rattle.lines.specs.Places.{formIn, formAt, rangesAt}
@@ -50,13 +49,8 @@ module _ (s : List ℕ) (field from : ℕ) (place : from ≡ 1 + 6 * field) wher
 fields-at : (s : List ℕ) (field : ℕ) → field < 5 → getD (fieldsOf s) field blank ≡ fieldAt s field
 unfolding fieldsOf fieldAt fieldOf skipSpaces digitsField
 fields-at s field h =
-    List·getD-map fieldOf (records 6 5 (drop 1 s)) field []
-    ∙ ap fieldOf (record-at 6 5 (drop 1 s) field h)
+    read-at 6 fieldOf 5 (drop 1 s) blank field h
     ∙ ap (λ (l : List ℕ). fieldOf (take 6 l)) (drop-drop (6 * field) 1 s)
-
-fields-five : (s : List ℕ) → length (fieldsOf s) ≡ 5
-unfolding fieldsOf
-fields-five s = length-map (records 6 5 (drop 1 s)) fieldOf ∙ records-length 6 5 (drop 1 s)
 
 -- ---- the entries of a line's fields
 

@@ -33,7 +33,7 @@ put-more at next word words table e h =
     (ap (λ (l : List ℕ). l ++ rest) (append-assoc (take at table) (word ∷ []) words))
 
 -- words put one by one, the first `k` places after a place
-abbrev pub putFrom : (at k : ℕ) → (words table : List ℕ) → List ℕ
+abbrev putFrom : (at k : ℕ) → (words table : List ℕ) → List ℕ
 putFrom at k [] table = table
 putFrom at k (word ∷ words) table = putFrom at (suc k) words (set table (at + k) word)
 

@@ -62,10 +62,10 @@ heldForm form =
     record { letter = form .letter; used = length (form .fields); ranges = heldRanges (form .fields) }
 
 -- what the code reads at a place
-abbrev pub heldAt : (place : ℕ) → HeldForm
+abbrev heldAt : (place : ℕ) → HeldForm
 heldAt place = getD (map heldForm allForms) place (record { letter = 0; used = 0; ranges = [] })
 
-abbrev pub heldRangeAt : (place field : ℕ) → HeldRange
+abbrev heldRangeAt : (place field : ℕ) → HeldRange
 heldRangeAt place field = getD (heldAt place .ranges) field (0, 0)
 
 module _ (place : ℕ) (h : place < 7) where

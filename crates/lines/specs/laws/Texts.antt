@@ -5,12 +5,13 @@ use mathlib.Core.List.{List, [], _∷_, _++_}
 use mathlib.Core.Bool.{false}
 use Prim.Native.Nat.{ℕ, suc, _+_, _*_, _/_, _%_, _≤_, _<_}
 use native.Mathlib.Omega.{arith}
-use lib.Dec.{eqb}
+use lib.Dec.{eqb, lit<}
 use lib.ListN.{length, take, drop, getD, drop-of-length-le}
-use lib.Seq.{drop-cons, take-suc, getD-take, getD-drop}
+use lib.Seq.{drop-cons, take-suc}
 use borrow.Author.Tests.{lt-ltb, ne-eqb}
 use Rattle.definitions.specs.Lists.{_!_}
 use Rattle.definitions.specs.Lines.{lineFeed, linesOf, endsInLineFeed, wholeLines}
+use Rattle.definitions.specs.laws.Lists.{part-at}
 use Rattle.definitions.specs.laws.Records.{records-length, record-at}
 use Rattle.lines.specs.laws.Passing.{Passed}
 
@@ -44,14 +45,10 @@ lines-take text i h = take-suc (linesOf text) i [] (line-listed text i h) ∙ rw
 
 -- ---- lines that end in a line feed
 
--- the last byte of a line
-last-at : (text : List ℕ) (i : ℕ) → (take 32 (drop (32 * i) text) ! 31) ≡ (text ! (32 * i + 31))
-last-at text i = getD-take 32 (drop (32 * i) text) 31 0 (omega arith) ∙ getD-drop (32 * i) text 31 0
-
 pub feed-at : (text : List ℕ) (i : ℕ) → i < length text / 32
     → endsInLineFeed (getD (linesOf text) i []) ≡ eqb (text ! (32 * i + 31)) lineFeed
 unfolding endsInLineFeed
-feed-at text i h = rw (line-at text i h, last-at text i)
+feed-at text i h = rw (line-at text i h, part-at 32 (32 * i) text 31 0 (lit< tt))
 
 -- ---- a text in whole lines
 

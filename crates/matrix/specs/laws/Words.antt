@@ -1,20 +1,16 @@
--- Laws about words that a loop writes: the seven words of a matrix, words written over the first of a lent
--- part, and the test whether words are the same. The proofs of the functions that do so use them.
+-- Laws about words that a loop writes: the seven words of a matrix, and words written from a place on over others.
+-- The proofs of the functions that do so use them.
 use mathlib.Core.Path.{_≡_, refl, sym, ap, _∙_}
-use mathlib.Core.List.{List, [], _∷_, _++_, append-nil}
-use mathlib.Core.Bool.{true, false}
+use mathlib.Core.List.{List, [], _∷_, _++_}
 use Prim.Native.Nat.{ℕ, zero, suc, _+_, _-_, _≤_, _<_}
-use native.Mathlib.Numerals.{add-one}
 use native.Mathlib.Omega.{arith}
-use lib.Dec.{eqb}
-use lib.ListN.{length, set, take, drop, length-append, length-take, length-drop, length-replicate}
-use lib.ListN.{take-append-drop, drop-of-length-le, List·getD-append}
-use lib.Seq.{length-take-le, take-all, drop-cons, drop-drop, drop-append-add, getD-take}
-use borrow.Author.Tests.{eq-eqb, ne-eqb}
-use Rattle.definitions.specs.Lists.{_!_, cleared, padded, same}
+use native.Mathlib.Numerals.{add-one}
+use lib.ListN.{length-set, length, set, take, drop, length-append, length-drop, length-replicate}
+use lib.ListN.{take-append-drop, drop-of-length-le}
+use lib.Seq.{paste, paste-zero, paste-suc, take-append-le, length-take-le, take-all, drop-append-add, getD-take}
+use Rattle.definitions.specs.Lists.{_!_, cleared, padded}
 use Rattle.definitions.specs.Matrices.{matrixSize}
-use Rattle.definitions.specs.laws.Tests.{by-test}
-use Rattle.definitions.specs.laws.Lists.{drop-cleared, padded-take}
+use Rattle.definitions.specs.laws.Lists.{drop-cleared}
 use Rattle.definitions.specs.laws.SevenWords.{padded-column}
 use Rattle.lines.specs.laws.Filling.{Filled, filled-more, filled-end}
 use Rattle.matrix.specs.Words.{overwritten}
@@ -69,10 +65,11 @@ seven-rest words c h k =
     ap (λ (l : List ℕ). drop c l) (take-all matrixSize (words ++ z) all) ∙ drop-past words z c h
     ∙ drop-cleared (c - n) (matrixSize - n) ∙ ap (λ (i : ℕ). cleared i) left ∙ sym (drop-cleared c matrixSize)
 
--- seven words are the matrix
-pub matrix-words : (words : List ℕ) → length words ≡ matrixSize
-    → take matrixSize (padded matrixSize words) ≡ words
-matrix-words words e = padded-take matrixSize matrixSize words (sym e)
+-- where seven words are there, they are the matrix
+pub seven-there : (words : List ℕ) (from : ℕ) → from + matrixSize ≤ length words
+    → firstSeven (drop from words) ≡ take matrixSize (drop from words)
+unfolding padded
+seven-there words from h = take-append-le matrixSize (drop from words) _ (rw length-drop (omega arith))
 
 -- a number stands before the columns
 pub after-number : (number : ℕ) (columns : List ℕ) (place : ℕ) → (place ≡ 0 → ⊥)
@@ -81,73 +78,48 @@ after-number number columns zero n = absurd (n refl)
 after-number number columns (suc place) n =
     let before : suc place - 1 ≡ place = omega arith in rw before
 
--- ---- words written over the first of a lent part
+-- ---- words written from a place on
 
-pub overwritten-all : (words new : List ℕ) → length words ≡ length new → overwritten words new ≡ new
+-- where all have room
+pub overwritten-there : (words : List ℕ) (at : ℕ) (new : List ℕ) {size : ℕ} → length new ≡ size
+    → at + size ≤ length words → overwritten words at new ≡ take at words ++ new ++ drop (at + size) words
 unfolding overwritten
-overwritten-all words new e =
-    let none : drop (length new) words ≡ [] = drop-of-length-le words {i = length new} (omega arith) in
-    rw (none, append-nil, take-all (length words) new (omega arith))
+overwritten-there words at new e h = rw (e, take-all (length words - at) new (omega arith))
 
-pub overwritten-length : (words new : List ℕ) → length (overwritten words new) ≡ length words
-unfolding overwritten
-overwritten-length words new = simp (length-append, length-take, length-drop) (omega arith)
+-- words s, before the loop d, with the first i of the new ones written
+pub record Written (d : List ℕ) (at : ℕ) (new : List ℕ) (i : ℕ) (s : List ℕ) : Type 0 where
+  pub within : i ≤ length d - at
+  pub few : i ≤ length new
+  pub sized : length s ≡ length d
+  pub holds : s ≡ paste d at new i
 
-pub overwritten-at : (words new : List ℕ) (i : ℕ) → i < length words → i < length new
-    → new ! i ≡ overwritten words new ! i
-unfolding overwritten
-overwritten-at words new i h k =
-    let n : ℕ = length words in
-    let inside : i < length (take n new) = simp length-take (omega arith) in
-    sym (List·getD-append (take n new) (drop (length new) words) 0 i inside ∙ getD-take n new i 0 h)
+pub written-start : (d : List ℕ) (at : ℕ) (new : List ℕ) → Written d at new 0 d
+written-start d at new =
+    record { within = omega arith; few = omega arith; sized = refl; holds = paste-zero d at new }
 
--- all of them are written
-pub overwritten-rest : (words new : List ℕ) (i : ℕ) → length new ≤ i → i ≤ length words
-    → drop i (overwritten words new) ≡ drop i words
-unfolding overwritten
-overwritten-rest words new i h k =
-    let n : ℕ = length new in
-    let place : n + (i - n) ≡ i = omega arith in
-    ap (λ (l : List ℕ). drop i (l ++ drop n words)) (take-all (length words) new (omega arith))
-    ∙ drop-past new (drop n words) i h ∙ drop-drop (i - n) n words ∙ ap (λ (j : ℕ). drop j words) place
-
--- ---- words that are the same
-
-pub same-lengths : (k l : List ℕ) → (length k ≡ length l → ⊥) → false ≡ same k l
-unfolding same
-same-lengths [] [] h = absurd (h refl)
-same-lengths [] (y ∷ l) h = refl
-same-lengths (x ∷ k) [] h = refl
-same-lengths (x ∷ k) (y ∷ l) h = by-test (eqb x y)
-    (λ e. rw e (same-lengths k l (λ q. h (ap suc q))))
-    (λ e. rw e)
-
--- the words before place i are the same, so the whole is left to the others
-pub record Alike (k l : List ℕ) (i : ℕ) : Type 0 where
-  pub sized : length k ≡ length l
-  pub rest : same k l ≡ same (drop i k) (drop i l)
-
-pub alike-start : (k l : List ℕ) → length k ≡ length l → Alike k l 0
-alike-start k l e = record { sized = e; rest = refl }
-
-module _ {k l : List ℕ} {i : ℕ} (a : Alike k l i) where
-  pub alike-more : i < length k → k ! i ≡ l ! i → Alike k l (i + 1)
-  unfolding same
-  alike-more h e = record {
-    sized = a .sized;
-    rest =
-        a .rest
-        ∙ rw (drop-cons k i 0 h, drop-cons l i 0 (omega (arith, a .sized)), eq-eqb (k ! i) (l ! i) e, add-one);
+module _ {d : List ℕ} {at : ℕ} {new : List ℕ} {i : ℕ} {s : List ℕ} (w : Written d at new i s) where
+  pub written-more : {v : ℕ} → i < length d - at → i < length new → v ≡ new ! i
+      → Written d at new (i + 1) (set s (at + i) v)
+  written-more {v} h k q = record {
+    within = omega arith;
+    few = omega arith;
+    sized = length-set s (at + i) v ∙ w .sized;
+    holds = rw (w .holds, q, add-one i) (paste-suc d at new i 0 (omega arith) k);
   }
 
-  pub alike-stop : i < length k → (k ! i ≡ l ! i → ⊥) → false ≡ same k l
-  unfolding same
-  alike-stop h n =
-      sym (a .rest
-      ∙ rw (drop-cons k i 0 h, drop-cons l i 0 (omega (arith, a .sized)), ne-eqb (k ! i) (l ! i) n))
+  -- there are no more words, or all are written
+  pub written-short : length d - at ≤ i → s ≡ overwritten d at new
+  unfolding overwritten
+  written-short h =
+      let all : length d - at ≡ i = omega (arith, w .within) in
+      let none : drop (at + i) d ≡ [] = drop-of-length-le d {i = at + i} (omega arith) in
+      let after : drop (at + length new) d ≡ [] =
+      drop-of-length-le d {i = at + length new} (omega (arith, w .few)) in
+      w .holds ∙ rw (all, none, after)
 
-  pub alike-end : length k ≤ i → true ≡ same k l
-  unfolding same
-  alike-end h =
-      sym (a .rest
-      ∙ rw (drop-of-length-le k {i = i} h, drop-of-length-le l {i = i} (omega (arith, a .sized))))
+  pub written-full : length new ≤ i → 0 < length new → s ≡ overwritten d at new
+  written-full h k =
+      let all : length new ≡ i = omega (arith, w .few) in
+      w .holds
+      ∙ sym (overwritten-there d at new all (omega (arith, w .within))
+      ∙ ap (λ (l : List ℕ). take at d ++ l ++ drop (at + i) d) (sym (take-all i new (omega arith))))

@@ -10,24 +10,26 @@ use native.Mathlib.Numerals.{add-one}
 use native.Mathlib.Omega.{arith}
 use lib.Dec.{T, eqb}
 use lib.Bits.{bitAnd}
-use lib.ListN.{length, set, take, drop, getD, length-append, length-take, take-append-drop}
+use lib.ListN.{length, take, drop, getD, length-append, length-take, take-append-drop}
 use lib.Seq.{take-append-le, length-take-le, take-suc, take-add, take-all, getD-take, getD-drop, take-suc-set}
 use lib.Seq.{set-split, drop-append-add, append-snoc}
 use borrow.Author.Tests.{eqb-true}
 use Rattle.definitions.specs.Lists.{every, concatMap, cleared, padded}
-use Rattle.definitions.specs.Matrices.{Matrix, matrixSize, matrixWords, valid, meet}
+use Rattle.definitions.specs.Matrices.{Matrix, valid, meet}
 use Rattle.definitions.specs.Combinations.{Leaf, Combination, choose, combinationRoom}
 use Rattle.definitions.specs.laws.Tests.{by-test, if-true}
 use Rattle.definitions.specs.laws.Lists.{concatMap-append, concatMap-snoc, drop-cleared}
+use Rattle.definitions.specs.laws.Members.{in-at}
 use Rattle.definitions.specs.laws.Matrices.{meet-length}
+use Rattle.matrix.specs.laws.Widths.{width-taken, met-matrix, met-width}
 use Rattle.metastates.specs.declared.Choice.{Choice}
 use Rattle.metastates.specs.Leaves.{leavesIn, IsList}
 use Rattle.metastates.specs.Choices.{Holding, Grown, Chosen, FirstFit, leavesTaken, matrixMet, treesIn}
-use Rattle.metastates.specs.Choices.{chosenFrom, noLeaf}
+use Rattle.metastates.specs.Choices.{chosenFrom, noLeaf, fitsAt, WithLeaf}
 use Rattle.metastates.specs.laws.Grown.{Sized, choose-sized, grown-none, grown-over, grown-holding}
 use Rattle.metastates.specs.laws.Grown.{grown-then}
 use Rattle.metastates.specs.laws.Adding.{combinationOf}
-use Rattle.metastates.specs.laws.LeafLists.{leaves-length, leaf-width, met-words, met-matrix}
+use Rattle.metastates.specs.laws.LeafLists.{leaves-length, leaf-width, Wide, list-wide}
 
 -- ---- a matrix that is not valid gives none
 
@@ -40,10 +42,7 @@ meet-empty (x ∷ a) (y ∷ b) e h = by-test (eqb x 0)
     (λ t. rw (eqb-true x 0 t))
     (λ t. rw (meet-empty a b (suc-inj e) (rw t at h)) (and-false (not (eqb (bitAnd x y) 0))))
 
--- leaves, and trees of leaves, whose matrices have one width
-abbrev Wide : (width : ℕ) → List Leaf → Type 0
-Wide width tree = (i : ℕ) → i < length tree → length (getD tree i noLeaf .matrix) ≡ width
-
+-- trees of leaves whose matrices have one width
 unfoldable AllWide : (width : ℕ) → List (List Leaf) → Type 0
 AllWide width [] = T true
 AllWide width (tree ∷ trees) = Wide width tree × AllWide width trees
@@ -66,27 +65,27 @@ unfolding choose AllWide
 choose-none width phone leaves m [] w e h = rw h
 choose-none width phone leaves m (tree ∷ trees) w e h = none-given _ tree λ i k.
     let n : Matrix = getD tree i noLeaf .matrix in
-    let same : length m ≡ length n = e ∙ sym (w .0 i k) in
+    let same : length m ≡ length n = e ∙ sym (w .0 _ (in-at tree i noLeaf k)) in
     choose-none width phone _ (meet m n) trees (w .1) (meet-length m n same ∙ e) (meet-empty m n same h)
 
 -- ---- leaves that do not fit are passed over
 
-module _ {m : Matrix} {leaves : List Leaf} (f : Leaf → List Combination)
-    (none : (i : ℕ) → i < length leaves → valid (meet m (getD leaves i noLeaf .matrix)) ≡ false
+module _ (m : Matrix) (leaves : List Leaf) (f : Leaf → List Combination)
+    (none : (i : ℕ) → i < length leaves → fitsAt m leaves i ≡ false
     → f (getD leaves i noLeaf) ≡ []) where
   passed-over : {from place : ℕ} → FirstFit m leaves from place
       → concatMap f (take place leaves) ≡ concatMap f (take from leaves)
   passed-over {from} {place} fit =
       let between : List Leaf = take (place - from) (drop from leaves) in
-      let whole : place ≡ from + (place - from) = omega (arith, fit .after) in
+      let whole : place ≡ from + (place - from) = omega (arith, fit .none .after) in
       let nothing : concatMap f between ≡ [] =
       none-given f between λ i k.
       let short : i < place - from = omega (arith, rw length-take at k) in
       let leaf : getD between i noLeaf ≡ getD leaves (from + i) noLeaf =
       getD-take (place - from) (drop from leaves) i noLeaf short ∙ getD-drop from leaves i noLeaf in
       ap f leaf
-      ∙ none (from + i) (omega (arith, fit .within))
-      (fit .passed (from + i) (omega arith) (omega arith)) in
+      ∙ none (from + i) (omega (arith, fit .none .within))
+      (fit .none .passed (from + i) (omega arith) (omega arith)) in
       ap (λ (k : ℕ). concatMap f (take k leaves)) whole
       ∙ ap (concatMap f) (take-add from (place - from) leaves)
       ∙ concatMap-append f (take from leaves) between
@@ -100,16 +99,8 @@ taken-one f leaves place h =
 
 -- ---- the choice with one leaf more
 
-abbrev pub WithLeaf : (width : ℕ) → Choice → (words : List ℕ) → (place : ℕ) → Choice → Type 0
-WithLeaf width choice words place next =
-    (next .phone ≡ choice .phone) × (next .taken ≡ choice .taken + 1)
-    × (next .leaves ≡ set (choice .leaves) (choice .taken) (getD (leavesIn width words) place noLeaf .node))
-    × (next .matrix .columns
-    ≡ meet (choice .matrix .columns) (matrixWords (getD (leavesIn width words) place noLeaf .matrix)))
-
 module _ {width : ℕ} {choice : Choice} (chosen : Chosen width choice) (three : length (choice .leaves) ≡ 3)
-    (seven : length (choice .matrix .columns) ≡ matrixSize) (more : choice .taken < 3)
-    {words : List ℕ} (is : IsList width words) {place : ℕ} (inside : place < length (leavesIn width words))
+    (more : choice .taken < 3) (words : List ℕ) {place : ℕ} (inside : place < length (leavesIn width words))
     {next : Choice} (w : WithLeaf width choice words place next) where
   abbrev leaf : Leaf
   leaf = getD (leavesIn width words) place noLeaf
@@ -119,10 +110,11 @@ module _ {width : ℕ} {choice : Choice} (chosen : Chosen width choice) (three :
       rw (w .1, w .2, add-one)
       (take-suc-set (choice .leaves) (choice .taken) (leaf .node) (omega arith))
 
+  own-width : length (leaf .matrix) ≡ width
+  own-width = leaf-width width words place inside (chosen .narrow)
+
   next-matrix : matrixMet width next ≡ meet (matrixMet width choice) (leaf .matrix)
-  next-matrix =
-      met-matrix width words place inside (chosen .narrow) is (choice .matrix .columns) (chosen .matrix) seven
-      (w .3)
+  next-matrix = met-matrix (chosen .narrow) (chosen .matrix) (leaf .matrix) own-width (w .3)
 
   -- the leaves after it are still 0
   next-padded : next .leaves ≡ padded 3 (leavesTaken next)
@@ -139,14 +131,11 @@ module _ {width : ℕ} {choice : Choice} (chosen : Chosen width choice) (three :
       w .2 ∙ set-split (choice .leaves) (choice .taken) node (omega arith)
       ∙ rw (zeros, next-leaves) (sym (append-snoc used node _))
 
-  pub next-chosen : valid (meet (matrixMet width choice) (leaf .matrix)) ≡ true → Chosen width next
+  pub next-chosen : fitsAt (matrixMet width choice) (leavesIn width words) place ≡ true → Chosen width next
   next-chosen fits = record {
     narrow = chosen .narrow;
     leaves = next-padded;
-    matrix =
-        met-words width words place inside (chosen .narrow) is (choice .matrix .columns) (chosen .matrix) seven
-        (w .3)
-        ∙ ap matrixWords (sym next-matrix);
+    matrix = met-width (chosen .narrow) (chosen .matrix) (leaf .matrix) own-width (w .3);
     holds = rw next-matrix (subst T (sym fits) tt);
   }
 
@@ -167,7 +156,6 @@ choosing-last {width} {trees} first second third {choice} chosen e g =
 pub record Beginning (width trees : ℕ) (first second third : List ℕ) (choice : Choice) : Type 0 where
   pub chosen : Chosen width choice
   pub three : length (choice .leaves) ≡ 3
-  pub seven : length (choice .matrix .columns) ≡ matrixSize
   pub some : trees ≡ 0 → ⊥
   pub few : choice .taken + trees ≤ 3
   pub first-is : IsList width first
@@ -205,20 +193,17 @@ module _ {width trees : ℕ} {first second third : List ℕ} {choice : Choice}
   taken-length = length-take-le (choice .taken) (choice .leaves) (omega (arith, b .three, b .few))
 
   met-length : length (matrixMet width choice) ≡ width
-  met-length = length-take-le width (choice .matrix .columns) (omega (arith, b .seven, b .chosen .narrow))
+  met-length = width-taken (b .chosen .narrow) (b .chosen .matrix)
 
   rest-wide : AllWide width rest
   unfolding AllWide
   rest-wide =
-      let second-wide : Wide width (leavesIn width second) =
-      λ i h. leaf-width width second i h (b .chosen .narrow) in
-      let third-wide : Wide width (leavesIn width third) =
-      λ i h. leaf-width width third i h (b .chosen .narrow) in
+      let second-wide = list-wide width second (b .chosen .narrow) in
+      let third-wide = list-wide width third (b .chosen .narrow) in
       take-wide width (trees - 1) _ (second-wide, (third-wide, (third-wide, tt)))
 
   -- none for a leaf that does not fit
-  gives-none : (i : ℕ) → i < length tree
-      → valid (meet (matrixMet width choice) (getD tree i noLeaf .matrix)) ≡ false
+  gives-none : (i : ℕ) → i < length tree → fitsAt (matrixMet width choice) tree i ≡ false
       → gives (getD tree i noLeaf) ≡ []
   gives-none i h e =
       let m : Matrix = matrixMet width choice in
@@ -250,7 +235,7 @@ pub record Choosing (width trees : ℕ) (first second third : List ℕ) (choice 
   pub holding : Holding before count
   pub within : place ≤ length (leavesIn width first)
   pub found : place < length (leavesIn width first)
-      → valid (meet (matrixMet width choice) (getD (leavesIn width first) place noLeaf .matrix)) ≡ true
+      → fitsAt (matrixMet width choice) (leavesIn width first) place ≡ true
   pub roomy : total ≤ combinationRoom (length before)
   pub grown : Grown before count
       (concatMap (leafGives width trees second third choice) (take place (leavesIn width first))) space total
@@ -263,10 +248,11 @@ module _ {width trees : ℕ} {first second third : List ℕ} {choice : Choice} {
   choosing-start b h fit = record {
     begins = b;
     holding = h;
-    within = fit .within;
+    within = fit .none .within;
     found = fit .found;
     roomy = h .roomy;
-    grown = rw (passed-over (leafGives width trees second third choice) (gives-none b) fit) (grown-none h);
+    grown =
+        rw (passed-over _ _ (leafGives width trees second third choice) (gives-none b) fit) (grown-none h);
   }
 
   module _ {space : List ℕ} {total place : ℕ}
@@ -295,15 +281,15 @@ module _ {width trees : ℕ} {first second third : List ℕ} {choice : Choice} {
       pub choosing-chosen : Chosen width next
       choosing-chosen =
           let b = inv .begins in
-          next-chosen (b .chosen) (b .three) (b .seven) more (b .first-is) inside w (inv .found inside)
+          next-chosen (b .chosen) (b .three) more first inside w (inv .found inside)
 
       -- what the next choice begins is what the leaf gives
       leaf-given : chosenFrom width (trees - 1) second third third next
           ≡ leafGives width trees second third choice (getD all place noLeaf)
       leaf-given =
           let b = inv .begins in
-          let leaves = next-leaves (b .chosen) (b .three) (b .seven) more (b .first-is) inside w in
-          let matrix = next-matrix (b .chosen) (b .three) (b .seven) more (b .first-is) inside w in
+          let leaves = next-leaves (b .chosen) (b .three) more first inside w in
+          let matrix = next-matrix (b .chosen) (b .three) more first inside w in
           rw (w .0, leaves, matrix)
 
       module _ {after : List ℕ} {sum : ℕ}
@@ -333,9 +319,9 @@ module _ {width trees : ℕ} {first second third : List ℕ} {choice : Choice} {
         choosing-again fits fit = record {
           begins = inv .begins;
           holding = inv .holding;
-          within = fit .within;
+          within = fit .none .within;
           found = fit .found;
           roomy = rw (← one-more .sized) fits;
           grown =
-              rw (passed-over (leafGives width trees second third choice) (gives-none (inv .begins)) fit) one-more;
+              rw (passed-over _ _ (leafGives width trees second third choice) (gives-none (inv .begins)) fit) one-more;
         }

@@ -8,15 +8,13 @@ use native.Mathlib.Omega.{arith}
 use lib.ListN.{length, take, drop, length-append, length-drop}
 use lib.Seq.{length-take-le, take-at}
 use borrow.Author.Tests.{eq-eqb, ne-eqb}
-use borrow.Rule.Slice.PartMut.{putMid}
-use Rattle.definitions.specs.Lists.{_!_, concatMap, upFrom, select, padded}
+use Rattle.definitions.specs.Lists.{_!_, concatMap, upFrom, select}
 use Rattle.definitions.specs.Matrices.{matrixSize}
 use Rattle.definitions.specs.laws.Lists.{concatMap-append, upFrom-snoc}
 use Rattle.definitions.specs.laws.Selected.{select-here, select-past, select-append}
 use Rattle.matrix.specs.Words.{overwritten}
-use Rattle.matrix.specs.laws.Words.{matrix-words}
+use Rattle.matrix.specs.laws.Words.{firstSeven, seven-there, overwritten-there}
 use Rattle.metastates.specs.Leaves.{leafSize, isMarked, listedAt, listed}
-use Rattle.metastates.specs.laws.PuttingLeaves.{record-written}
 
 -- ---- a record copied
 
@@ -30,19 +28,15 @@ module _ (table : List ℕ) (node : ℕ) (inside : leafSize * node + leafSize �
   unfolding listedAt
   listed-sized = omega (arith, words-sized)
 
-  pub leaf-copied : (list part columns : List ℕ) (place : ℕ) → leafSize * place + leafSize ≤ length list
-      → columns ≡ take matrixSize (padded matrixSize
-      (take (leafSize * node + leafSize - (leafSize * node + 1)) (drop (leafSize * node + 1) table)))
-      → part ≡ overwritten
-      (take (leafSize * place + leafSize - leafSize * place) (drop (leafSize * place) list)) (node ∷ columns)
-      → putMid (leafSize * place) (leafSize * place + leafSize - leafSize * place) list part
+  pub leaf-copied : (list : List ℕ) (place : ℕ) {columns : List ℕ} → leafSize * place + leafSize ≤ length list
+      → columns ≡ firstSeven (drop (leafSize * node + 1) table)
+      → overwritten list (leafSize * place) (node ∷ columns)
       ≡ take (leafSize * place) list ++ listedAt table node ++ drop (leafSize * place + leafSize) list
   unfolding listedAt
-  leaf-copied list part columns place room e q =
-      let words : List ℕ = take matrixSize (drop (leafSize * node + 1) table) in
-      let count : leafSize * node + leafSize - (leafSize * node + 1) ≡ matrixSize = omega arith in
-      let own : columns ≡ words = rw count at e ∙ matrix-words words words-sized in
-      record-written list part (node ∷ words) place (leafSize * place) refl room listed-sized (rw own at q)
+  leaf-copied list place room e =
+      ap (λ (l : List ℕ). overwritten list (leafSize * place) (node ∷ l))
+      (e ∙ seven-there table (leafSize * node + 1) (omega arith))
+      ∙ overwritten-there list (leafSize * place) (listedAt table node) listed-sized room
 
 -- ---- one more record seen
 

@@ -1,31 +1,23 @@
 -- Laws about a list of leaves read back from its words: how many leaves there are, where the node and the
--- matrix of each stand, and how its matrix meets another in seven words.
+-- matrix of each stand, how wide it is, and how it meets another in seven words.
 use mathlib.Core.Path.{_≡_, sym, ap, _∙_}
 use mathlib.Core.List.{List, []}
 use Prim.Native.Nat.{ℕ, suc, _+_, _-_, _*_, _/_, _≤_, _<_}
 use native.Mathlib.Omega.{arith}
 use lib.Dec.{lit<}
 use lib.ListN.{length, take, drop, getD, length-map, length-take, length-drop}
-use lib.Seq.{drop-drop, getD-drop, getD-take, length-take-le}
+use lib.Seq.{drop-drop, getD-drop, getD-take}
 use Rattle.definitions.specs.Lists.{_!_, concatMap, records}
 use Rattle.definitions.specs.Matrices.{Matrix, matrixSize, matrixWords, valid, meet}
 use Rattle.definitions.specs.Combinations.{Leaf}
 use Rattle.definitions.specs.laws.Lists.{concatMap-map, map-at, drop-take}
 use Rattle.definitions.specs.laws.Records.{records-length, record-at, record-again}
-use Rattle.definitions.specs.laws.Matrices.{meet-length}
-use Rattle.definitions.specs.laws.SevenWords.{words-length, words-meet, words-take}
-use Rattle.matrix.specs.laws.Words.{firstSeven, matrix-words}
+use Rattle.definitions.specs.laws.Members.{isIn, place-of}
+use Rattle.definitions.specs.laws.SevenWords.{words-length}
+use Rattle.matrix.specs.Shapes.{HasWidth}
+use Rattle.matrix.specs.laws.Widths.{met-matrix}
 use Rattle.metastates.specs.Leaves.{leafSize, leafWords, leafIn, leavesIn, IsList}
-use Rattle.metastates.specs.Choices.{noLeaf}
-
--- the seven words after a node, taken as a part
-pub part-columns : (words : List ℕ) (place : ℕ) → leafSize * place + leafSize ≤ length words
-    → firstSeven (take (leafSize * place + 8 - (leafSize * place + 1)) (drop (leafSize * place + 1) words))
-    ≡ take matrixSize (drop (leafSize * place + 1) words)
-part-columns words place h =
-    let seven : leafSize * place + 8 - (leafSize * place + 1) ≡ matrixSize = omega arith in
-    let from : List ℕ = drop (leafSize * place + 1) words in
-    rw seven (matrix-words (take matrixSize from) (length-take-le matrixSize from (rw length-drop (omega arith))))
+use Rattle.metastates.specs.Choices.{noLeaf, fitsAt}
 
 module _ (width : ℕ) (words : List ℕ) where
   abbrev parts : List (List ℕ)
@@ -90,27 +82,19 @@ module _ (width : ℕ) (words : List ℕ) where
           ∙ ap (drop 1) (sym (record-again again leafSize (lit< tt) again-length words flat place listed))
           ∙ ap (λ (l : Leaf). matrixWords (l .matrix)) (sym leaf-is)
 
-      -- met with seven words of a matrix of that width
-      module _ (columns : List ℕ) (e : columns ≡ matrixWords (take width columns))
-          (seven : length columns ≡ matrixSize) where
-        widths : length (take width columns) ≡ length (leafAt .matrix)
-        widths = length-take-le width columns (omega (arith, seven)) ∙ sym (leaf-width narrow)
+      -- the test of what it and seven words of a matrix of that width meet in
+      pub met-valid : {columns leaf met : List ℕ} → HasWidth width columns
+          → leaf ≡ take matrixSize (drop (leafSize * place + 1) words) → met ≡ meet columns leaf
+          → valid (take width met) ≡ fitsAt (take width columns) (leavesIn width words) place
+      met-valid {columns} w l q =
+          ap valid
+          (met-matrix narrow w (leafAt .matrix) (leaf-width narrow) (q ∙ ap (meet columns) (l ∙ leaf-columns)))
 
-        pub met-words : {met : List ℕ} → met ≡ meet columns (matrixWords (leafAt .matrix))
-            → met ≡ matrixWords (meet (take width columns) (leafAt .matrix))
-        met-words q =
-            q ∙ ap (λ (m : Matrix). meet m (matrixWords (leafAt .matrix))) e
-            ∙ sym (words-meet (take width columns) (leafAt .matrix) widths)
+-- leaves whose matrices have so many columns
+abbrev pub Wide : (width : ℕ) → List Leaf → Type 0
+Wide width leaves = (l : Leaf) → isIn l leaves → length (l .matrix) ≡ width
 
-        pub met-matrix : {met : List ℕ} → met ≡ meet columns (matrixWords (leafAt .matrix))
-            → take width met ≡ meet (take width columns) (leafAt .matrix)
-        met-matrix {met} q =
-            let m : Matrix = meet (take width columns) (leafAt .matrix) in
-            let wide : length m ≡ width = meet-length _ (leafAt .matrix) widths ∙ widths ∙ leaf-width narrow in
-            ap (take width) (met-words q) ∙ ap (λ (k : ℕ). take k (matrixWords m)) (sym wide) ∙ words-take m
-
-        -- the test of what they meet in
-        pub met-valid : {leaf met : List ℕ} → leaf ≡ take matrixSize (drop (leafSize * place + 1) words)
-            → met ≡ meet columns leaf
-            → valid (take width met) ≡ valid (meet (take width columns) (leafAt .matrix))
-        met-valid l q = ap valid (met-matrix (q ∙ ap (meet columns) (l ∙ leaf-columns)))
+pub list-wide : (width : ℕ) (words : List ℕ) → width ≤ matrixSize → Wide width (leavesIn width words)
+list-wide width words narrow l i =
+    let (place, h, e) = place-of l (leavesIn width words) noLeaf i in
+    ap (λ (k : Leaf). length (k .matrix)) (sym e) ∙ leaf-width width words place h narrow

@@ -1,5 +1,5 @@
--- Laws about leaves put into the table: eight words written over others, what stands in the record of each
--- node afterwards, and leaves put one after the other.
+-- Laws about leaves put into the table: what stands in the record of each node afterwards, and leaves put one
+-- after the other.
 use mathlib.Core.Path.{_≡_, refl, sym, ap, _∙_}
 use mathlib.Core.Logic.{_≢_, inl, inr}
 use mathlib.Core.List.{List, [], _∷_, _++_, append-assoc}
@@ -9,30 +9,13 @@ use lib.Dec.{ltb}
 use lib.ListN.{length, take, drop, length-append, length-drop, take-append-drop}
 use lib.Seq.{length-take-le, take-at, drop-at, drop-drop, take-append-le, drop-append-le}
 use borrow.Author.Tests.{ltb-true, ltb-false}
-use borrow.Rule.Slice.PartMut.{putMid}
 use Rattle.definitions.specs.Matrices.{matrixWords}
 use Rattle.definitions.specs.Combinations.{Leaf}
 use Rattle.definitions.specs.laws.Tests.{by-test}
 use Rattle.definitions.specs.laws.Members.{isIn, distinct}
 use Rattle.definitions.specs.laws.Ascending.{leafNodes}
 use Rattle.definitions.specs.laws.SevenWords.{words-length}
-use Rattle.matrix.specs.Words.{overwritten}
-use Rattle.matrix.specs.laws.Words.{overwritten-all}
 use Rattle.metastates.specs.Leaves.{leafSize, putLeaf, putLeaves}
-
--- a record of a table, written over
-pub record-written : (table part new : List ℕ) (place at : ℕ) → at ≡ leafSize * place
-    → leafSize * place + leafSize ≤ length table → length new ≡ leafSize
-    → part ≡ overwritten (take (at + leafSize - at) (drop at table)) new
-    → putMid at (at + leafSize - at) table part
-    ≡ take (leafSize * place) table ++ new ++ drop (leafSize * place + leafSize) table
-record-written table part new place at e h k q =
-    let count : at + leafSize - at ≡ leafSize = omega arith in
-    let lent : List ℕ = take leafSize (drop at table) in
-    let room : leafSize ≤ length (drop at table) = omega (arith, length-drop at table) in
-    let sized : length lent ≡ length new = length-take-le leafSize (drop at table) room ∙ sym k in
-    let own : part ≡ new = rw count at q ∙ overwritten-all lent new sized in
-    rw (count, own, drop-drop leafSize at table, e) (sym (append-assoc (take (leafSize * place) table) new _))
 
 -- ---- the record of a node
 

@@ -8,31 +8,24 @@ use lib.Dec.{leb, lit<}
 use lib.ListN.{length, take}
 use borrow.Author.Tests.{le-leb}
 use Rattle.definitions.specs.Lists.{concatMap, upFrom}
-use Rattle.definitions.specs.Matrices.{matrixWords}
 use Rattle.definitions.specs.Tables.{Book}
 use Rattle.definitions.specs.Combinations.{Leaf, leavesOf}
 use Rattle.definitions.specs.laws.Tests.{by-test}
-use Rattle.definitions.specs.laws.Members.{isIn, map-back}
+use Rattle.definitions.specs.laws.Members.{map-back}
 use Rattle.definitions.specs.laws.Matrices.{root-length}
 use Rattle.definitions.specs.laws.SevenWords.{words-length, words-take}
 use Rattle.definitions.specs.laws.Records.{written-all}
 use Rattle.definitions.specs.laws.Leaves.{leaf-inside}
 use Rattle.matrix.specs.Shapes.{widthOf}
 use Rattle.metastates.specs.Leaves.{leafSize, leafWords, leavesFor, leafIn, leavesIn, IsList}
+use Rattle.metastates.specs.laws.LeafLists.{Wide}
 
 -- ---- leaves of one width
-
--- leaves whose matrices have so many columns
-abbrev pub Wide : (width : ℕ) → List Leaf → Type 0
-Wide width leaves = (l : Leaf) → isIn l leaves → length (l .matrix) ≡ width
 
 module _ (width : ℕ) where
   leaf-back : (l : Leaf) → length (l .matrix) ≡ width → leafIn width (leafWords l) ≡ l
   unfolding leafIn leafWords
-  leaf-back l e =
-      let own : take width (matrixWords (l .matrix)) ≡ l .matrix =
-      ap (λ (n : ℕ). take n (matrixWords (l .matrix))) (sym e) ∙ words-take (l .matrix) in
-      rw own
+  leaf-back l e = rw (words-take (l .matrix) e)
 
   module _ (narrow : width ≤ 7) where
     leaf-sized : (l : Leaf) → length (l .matrix) ≡ width → length (leafWords l) ≡ leafSize

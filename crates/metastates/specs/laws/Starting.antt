@@ -1,6 +1,6 @@
 -- Laws about the choice that a phone starts with: no leaf, and the matrix that its roots carry. It may be made,
 -- and the combinations that begin with it are the phone's.
-use mathlib.Core.Path.{_≡_, refl, sym, ap, _∙_, subst}
+use mathlib.Core.Path.{_≡_, refl, subst}
 use mathlib.Core.List.{List, [], _∷_}
 use Prim.Native.Nat.{ℕ, _≤_, _<_}
 use native.Mathlib.Omega.{arith}
@@ -15,7 +15,7 @@ use Rattle.definitions.specs.Combinations.{Leaf, Combination, combinationsOf}
 use Rattle.definitions.specs.laws.Tests.{by-test}
 use Rattle.definitions.specs.laws.PhoneSets.{has-alone, has-all}
 use Rattle.definitions.specs.laws.Matrices.{root-column, root-other, root-length, valid-columns}
-use Rattle.definitions.specs.laws.SevenWords.{words-take}
+use Rattle.matrix.specs.laws.Widths.{matrix-back, has-width}
 use Rattle.matrix.specs.declared.Matrix as shaped
 use Rattle.metastates.specs.declared.Choice.{Choice}
 use Rattle.metastates.specs.Choices.{Grown, Chosen, chosenFrom}
@@ -63,18 +63,18 @@ module _ (book : Book) (phone width : ℕ) (e : width ≡ widthOf (book .half)) 
 
   module _ (top : shaped.Matrix) (t : top .columns ≡ matrixWords (rootMatrix (book .half) (book .phones) phone))
     where
+      top-width : length (rootMatrix (book .half) (book .phones) phone) ≡ width
+      top-width = omega (arith, e, root-length (book .half) (book .phones) phone)
+
       top-met : take width (top .columns) ≡ rootMatrix (book .half) (book .phones) phone
-      top-met =
-          let root : Matrix = rootMatrix (book .half) (book .phones) phone in
-          let wide : width ≡ length root = omega (arith, e, root-length (book .half) (book .phones) phone) in
-          rw (t, wide) (words-take root)
+      top-met = matrix-back _ top-width t
 
       pub start-chosen : 1 ≤ phone → phone ≤ book .phones → Chosen width (startOf phone top)
       unfolding padded
       start-chosen low high = record {
         narrow = omega arith;
         leaves = refl;
-        matrix = t ∙ ap matrixWords (sym top-met);
+        matrix = has-width _ top-width t;
         holds = rw top-met (root-valid (book .half) (book .phones) phone low high);
       }
 

@@ -14,23 +14,23 @@ use Rattle.definitions.specs.BookLines.{rootCount}
 use Rattle.definitions.specs.Tables.{Book, Tables, tablesBook}
 use Rattle.definitions.specs.PhoneSets.{alone, allPhones}
 use Rattle.definitions.specs.Matrices.{Matrix, matrixSize, matrixWords, rootMatrix, yesSide, noSide}
-use Rattle.definitions.specs.Combinations.{Leaf, leavesBelow, ascending, rootOf, leavesOf}
+use Rattle.definitions.specs.Tables.{rootOf}
+use Rattle.definitions.specs.Combinations.{Leaf, leavesBelow, ascending, leavesOf}
 use Rattle.definitions.specs.laws.Members.{distinct, of-append, of-single}
 use Rattle.definitions.specs.laws.Walks.{Forward, by-node}
 use Rattle.definitions.specs.laws.Leaves.{below-leaf, below-question}
 use Rattle.definitions.specs.laws.Matrices.{yes-length, no-length, root-length}
-use Rattle.definitions.specs.laws.SevenWords.{words-take}
 use Rattle.definitions.specs.laws.Tables.{tree-nodes-length}
 use Rattle.definitions.specs.laws.NamedOnce.{leaves-once}
 use Rattle.definitions.specs.laws.Ascending.{leafNodes, nodes-below}
-use Rattle.matrix.specs.Shapes.{widthOf, columnsAround}
+use Rattle.matrix.specs.Shapes.{widthOf, matrixIn, HasWidth, columnsAround}
 use Rattle.matrix.specs.laws.Shapes.{root-shaped}
 use Rattle.tables.specs.Lending.{lentTables}
 use Rattle.tables.specs.laws.Records.{treeNodes}
 use Rattle.tables.specs.laws.KnownTables.{Fit, known-forward}
 use Rattle.metastates.specs.Leaves.{leafSize, putLeaves, listed, leafWords, leavesFor}
 use Rattle.metastates.specs.laws.PuttingLeaves.{InTable, AllInTable}
-use Rattle.metastates.specs.laws.WalkingLeaves.{Words}
+use Rattle.matrix.specs.laws.Widths.{matrix-back, has-width}
 use Rattle.metastates.specs.laws.ListingLeaves.{all-listed}
 
 -- ---- the leaves below a node
@@ -80,8 +80,8 @@ below-same a b e f (suc levels) m node =
 
 -- seven words that are the matrix of a phone's roots
 pub record Top (header : Header) (phone : ℕ) (columns : List ℕ) : Type 0 where
-  pub words : Words (widthOf (header .half)) columns
-  pub taken : take (widthOf (header .half)) columns ≡ rootMatrix (header .half) (header .phones) phone
+  pub words : HasWidth (widthOf (header .half)) columns
+  pub taken : matrixIn (header .half) columns ≡ rootMatrix (header .half) (header .phones) phone
 
 pub top-words : (header : Header) (tables : Tables) → Fit header tables → (phone : ℕ) → phone ≤ header .phones
     → (all one : ℕ) (columns : List ℕ) → all ≡ allPhones (min (header .phones) 64)
@@ -95,9 +95,7 @@ top-words header tables fit phone h all one columns e f g =
     root-shaped half (header .phones) phone (fit .ranges .half-range .high) (fit .ranges .phones-range .high) h
     e f g in
     let width : length top ≡ widthOf half = root-length half (header .phones) phone ∙ omega arith in
-    let taken : take (widthOf half) columns ≡ top =
-    ap (take (widthOf half)) own ∙ ap (λ (n : ℕ). take n (matrixWords top)) (sym width) ∙ words-take top in
-    record { words = own ∙ ap matrixWords (sym taken); taken = taken }
+    record { words = has-width top width own; taken = matrix-back top width own }
 
 -- ---- the leaves of a phone's tree for a state
 
@@ -119,7 +117,7 @@ module _ (header : Header) (nodes classes roots : List ℕ)
     bare = tablesBook header (lentTables nodes classes [])
 
     abbrev matrix : Matrix
-    matrix = take (widthOf (header .half)) columns
+    matrix = matrixIn (header .half) columns
 
     abbrev found : List Leaf
     found = leavesBelow (header .nodes) bare matrix root
@@ -154,7 +152,7 @@ module _ (header : Header) (nodes classes roots : List ℕ)
 
     pub leaves-listed : (empty table : List ℕ) → empty ≡ cleared (leafSize * header .nodes)
         → table ≡ putLeaves empty (leavesBelow (header .nodes)
-        (tablesBook header (lentTables nodes classes [])) (take (widthOf (header .half)) columns) root)
+        (tablesBook header (lentTables nodes classes [])) (matrixIn (header .half) columns) root)
         → listed table ≡ concatMap leafWords
         (leavesFor (tablesBook header (lentTables nodes classes roots)) phone state)
     leaves-listed empty table e f =

@@ -6,12 +6,12 @@ use mathlib.Core.List.{List, [], _∷_, _++_}
 use Prim.Native.Nat.{ℕ, zero, suc, _+_, _-_, _*_, _≤_, _<_}
 use native.Mathlib.Omega.{arith}
 use lib.Dec.{T}
-use lib.ListN.{length, take, drop, length-append, length-take, length-replicate}
+use lib.ListN.{length, take, drop}
 use lib.Seq.{getD-take}
 use borrow.Author.Tests.{eq-eqb, ne-eqb}
 use Rattle.definitions.specs.declared.Header.{Header}
 use Rattle.definitions.specs.declared.Node.{Node}
-use Rattle.definitions.specs.Lists.{_!_, padded}
+use Rattle.definitions.specs.Lists.{_!_}
 use Rattle.definitions.specs.BookReading.{nodeSize}
 use Rattle.definitions.specs.Tables.{Book, nodeOf, treeNode, nodeRecords, tablesBook}
 use Rattle.definitions.specs.ForeignTables.{headerKnown, nodesKnown}
@@ -20,12 +20,13 @@ use Rattle.definitions.specs.Combinations.{Leaf, leavesBelow}
 use Rattle.definitions.specs.laws.Walks.{Forward, by-node}
 use Rattle.definitions.specs.laws.Leaves.{below-leaf, below-question}
 use Rattle.definitions.specs.laws.Matrices.{yes-length, no-length}
-use Rattle.definitions.specs.laws.SevenWords.{words-yes, words-no, words-take}
+use Rattle.definitions.specs.laws.SevenWords.{words-yes, words-no}
 use Rattle.definitions.specs.laws.Tables.{tree-nodes-length}
+use Rattle.definitions.specs.laws.Known.{header-ranges}
 use Rattle.tables.specs.Lending.{lentTables}
-use Rattle.tables.specs.laws.Known.{header-ranges}
 use Rattle.tables.specs.laws.KnownTables.{node-is, question-fits, known-forward}
-use Rattle.matrix.specs.Shapes.{widthOf}
+use Rattle.matrix.specs.Shapes.{widthOf, matrixIn, HasWidth}
+use Rattle.matrix.specs.laws.Widths.{matrix-back, has-width, width-taken}
 use Rattle.metastates.specs.Leaves.{leafSize, putLeaf, putLeaves}
 use Rattle.metastates.specs.laws.PuttingLeaves.{put-append}
 
@@ -53,21 +54,9 @@ module _ (book : Book) (forward : Forward (book .nodes)) where
 
 -- ---- the seven words of a matrix of so many columns, and of one of its sides
 
--- seven words that are a matrix of so many columns
-abbrev pub Words : (width : ℕ) → (columns : List ℕ) → Type 0
-Words width columns = columns ≡ matrixWords (take width columns)
-
-module _ (width : ℕ) (narrow : width ≤ 7) (columns : List ℕ) (w : Words width columns) where
-  words-width : length (take width columns) ≡ width
-  unfolding matrixWords padded
-  words-width =
-      let m : Matrix = take width columns in
-      let all : length columns ≡ length m + (7 - length m) =
-      ap length w ∙ length-append m _ ∙ ap (λ (n : ℕ). length m + n) (length-replicate (7 - length m) 0) in
-      omega (arith, length-take width columns)
-
+module _ (width : ℕ) (narrow : width ≤ 7) (columns : List ℕ) (w : HasWidth width columns) where
   pub record Side (side : Matrix → Matrix) (result : List ℕ) : Type 0 where
-    pub words : Words width result
+    pub words : HasWidth width result
     pub taken : take width result ≡ side (take width columns)
 
   side-words : (side : Matrix → Matrix) → ((m : Matrix) → matrixWords (side m) ≡ side (matrixWords m))
@@ -76,10 +65,8 @@ module _ (width : ℕ) (narrow : width ≤ 7) (columns : List ℕ) (w : Words wi
   side-words side passes keeps result e =
       let m : Matrix = take width columns in
       let own : result ≡ matrixWords (side m) = e ∙ ap side w ∙ sym (passes m) in
-      let sized : length (side m) ≡ width = keeps m ∙ words-width in
-      let taken : take width result ≡ side m =
-      ap (take width) own ∙ ap (λ (n : ℕ). take n (matrixWords (side m))) (sym sized) ∙ words-take (side m) in
-      record { words = own ∙ ap matrixWords (sym taken); taken = taken }
+      let sized : length (side m) ≡ width = keeps m ∙ width-taken narrow w in
+      record { words = has-width (side m) sized own; taken = matrix-back (side m) sized own }
 
   pub yes-words : (position s : ℕ) (result : List ℕ) → result ≡ yesSide position s columns
       → Side (yesSide position s) result
@@ -142,26 +129,26 @@ module _ (header : Header) (nodes classes : List ℕ) where
 
       -- a leaf is put into its own record
       pub walk-leaf : (x .kind ≡ 1 → ⊥) → (columns table after : List ℕ)
-          → Words (widthOf (header .half)) columns
+          → HasWidth (widthOf (header .half)) columns
           → after
           ≡ take (leafSize * node) table ++ (1 ∷ columns) ++ drop (leafSize * node + leafSize) table
-          → after ≡ putLeaves table (leaves (take (widthOf (header .half)) columns) node)
+          → after ≡ putLeaves table (leaves (matrixIn (header .half) columns) node)
       unfolding putLeaves putLeaf
       walk-leaf other columns table after w e =
-          let m : Matrix = take (widthOf (header .half)) columns in
+          let m : Matrix = matrixIn (header .half) columns in
           e ∙ ap (λ (z : List ℕ).
           take (leafSize * node) table ++ (1 ∷ z) ++ drop (leafSize * node + leafSize) table) w
           ∙ ap (putLeaves table) (sym (leaf-below m other))
 
       -- a question's sides are put one after the other
       pub walk-sides : T (headerKnown header) → x .kind ≡ 1 → (columns onYes onNo table between after : List ℕ)
-          → Words (widthOf (header .half)) columns
+          → HasWidth (widthOf (header .half)) columns
           → (class : ℕ) → class ≡ x .value
           → onYes ≡ yesSide (x .position) (classes ! (class - 1)) columns
           → onNo ≡ noSide (x .position) (classes ! (class - 1)) columns
-          → between ≡ putLeaves table (leaves (take (widthOf (header .half)) onYes) (x .yes))
-          → after ≡ putLeaves between (leaves (take (widthOf (header .half)) onNo) (x .no))
-          → after ≡ putLeaves table (leaves (take (widthOf (header .half)) columns) node)
+          → between ≡ putLeaves table (leaves (matrixIn (header .half) onYes) (x .yes))
+          → after ≡ putLeaves between (leaves (matrixIn (header .half) onNo) (x .no))
+          → after ≡ putLeaves table (leaves (matrixIn (header .half) columns) node)
       walk-sides headed kind columns onYes onNo table between after w class e y n f g =
           let width : ℕ = widthOf (header .half) in
           let narrow = half-narrow header headed in

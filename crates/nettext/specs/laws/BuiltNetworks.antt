@@ -1,7 +1,7 @@
 -- Every network that is built from lent tables, finished or stopped, is one that network text can hold: a build
 -- judges first whether the tables are known, and known tables hold a sound book in range. So the test for
--- foreign arcs passes on the counts and the arc buffer of every build that answers, the arcs decoded from that
--- buffer are those of the network, and they have room in the lent space.
+-- foreign arcs passes on the counts and the arc buffer of every build that answers, and the arcs decoded from
+-- that buffer are those of the network.
 use mathlib.Core.Path.{_≡_}
 use Prim.Native.Nat.{ℕ, _<_}
 use lib.Dec.{T}
@@ -13,18 +13,16 @@ use Rattle.definitions.specs.BookLines.{leaf}
 use Rattle.definitions.specs.Tables.{Tables, nodeRecords, tablesBook}
 use Rattle.definitions.specs.ForeignTables.{tablesKnown}
 use Rattle.definitions.specs.Lookup.{nodeAt}
-use Rattle.definitions.specs.Combinations.{combinations}
 use Rattle.definitions.specs.Arcs.{arcsIn}
 use Rattle.definitions.specs.Connecting.{Built}
-use Rattle.definitions.specs.Building.{Space, roomIn, build, networkIn, countsIn, buffersLeft}
+use Rattle.definitions.specs.Building.{Space, build, networkIn, countsIn, buffersLeft}
 use Rattle.definitions.specs.NetworkText.{networkKnown}
 use Rattle.definitions.specs.laws.Ranges.{Within}
 use Rattle.definitions.specs.laws.Accepted.{leaf-fitting}
-use Rattle.definitions.specs.construction.Turns.{HasRoom, connected-room}
 use Rattle.definitions.specs.demand.Assembly.{built-tables-known, build-connects, arcs-decoded}
 use Rattle.definitions.specs.demand.KnownNetwork.{connected-known}
-use Rattle.tables.specs.laws.KnownTables.{known-nodes, tables-fit}
-use Rattle.tables.specs.laws.KnownSound.{known-sound}
+use Rattle.definitions.specs.laws.KnownBooks.{known-nodes}
+use Rattle.tables.specs.laws.KnownTables.{tables-fit, known-sound}
 
 -- the leaves of known tables have models in range
 known-leaf : (header : Header) (tables : Tables) → T (tablesKnown header tables)
@@ -57,9 +55,3 @@ module _ (header : Header) (tables : Tables) (space : Space) (limit : ℕ) (buil
         (buffersLeft (tablesBook header tables) space (build header tables space limit) .arcs)
         ≡ networkIn built .arcs
     built-arcs = arcs-decoded (tablesBook header tables) space (header .states) built _ answers
-
-    -- its metastates and its arcs are at most as many as there is room for
-    pub built-room : HasRoom (roomIn space) (networkIn built)
-    built-room =
-        connected-room (roomIn space) (tablesBook header tables) (combinations (tablesBook header tables)) limit
-        built (build-connects header tables space limit built answers)

@@ -103,10 +103,10 @@ module _ (text arcs arcs′ : List ℕ) (read : Reading) (counts : Counts)
 module _ (header : Header) (tables : Tables) (space : Space) (limit : ℕ) (built : Built)
     (answer : build header tables space limit ≡ answered built)
   where
-    abbrev pub countsBuilt : Counts
+    abbrev countsBuilt : Counts
     countsBuilt = countsIn (header .states) (networkIn built)
 
-    abbrev pub wordsBuilt : List ℕ
+    abbrev wordsBuilt : List ℕ
     wordsBuilt = buffersLeft (tablesBook header tables) space (build header tables space limit) .arcs
 
     -- it is written, where its text has room

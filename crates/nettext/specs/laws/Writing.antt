@@ -9,7 +9,7 @@ use Prim.Native.Char.{code}
 use native.Mathlib.Omega.{arith}
 use lib.Dec.{T, leb, ltb, ltb→lt, lit<, lit≤}
 use lib.ListN.{length, take, drop, getD, length-drop, length-replicate, drop-of-length-le}
-use lib.Seq.{take-at, drop-at, take-all, length-take-le, getD-take, getD-drop}
+use lib.Seq.{take-at, drop-at, take-all, length-take-le}
 use borrow.Author.Tests.{le-leb, lt-leb, leb-true, leb-false}
 use borrow.Rule.Slice.PartMut.{putMid}
 use Rattle.definitions.specs.declared.Counts.{Counts}
@@ -22,7 +22,7 @@ use Rattle.definitions.specs.Arcs.{Arc, arcSize, arcWords, arcOf, arcsIn}
 use Rattle.definitions.specs.NetworkText.{arcKnown, networkKnown, lineOfCounts, lineOfArc}
 use Rattle.definitions.specs.NetworkText.{networkText, writeNetwork}
 use Rattle.definitions.specs.laws.Tests.{T-and, by-test, every-at}
-use Rattle.definitions.specs.laws.Lists.{map-at, drop-cleared}
+use Rattle.definitions.specs.laws.Lists.{map-at, part-at, drop-cleared}
 use Rattle.definitions.specs.laws.Members.{isIn, in-every, every-weaker}
 use Rattle.definitions.specs.laws.Records.{record-at, written-length, written-records}
 use Rattle.definitions.specs.laws.LineFields.{allFit}
@@ -83,7 +83,7 @@ row-writable row line five e f =
     rw (le-leb (row .used) 5 used, e) (fit-small (line .numbers) (f .room))
 
 -- what writing a row into bytes answers and leaves
-abbrev pub LineLeft : Row → (bytes : List ℕ) → (done : Bool) → (after : List ℕ) → Type 0
+abbrev LineLeft : Row → (bytes : List ℕ) → (done : Bool) → (after : List ℕ) → Type 0
 LineLeft row bytes done after =
     (done ≡ (leb 32 (length bytes) && writable row)) × (after ≡ (if done then written row bytes else bytes))
 
@@ -97,10 +97,6 @@ line-written row line bytes after five e f room (answer, leaves) =
 
 -- ---- the A line of an arc
 
-word-at : (words : List ℕ) (i k : ℕ) → k < arcSize
-    → take arcSize (drop (arcSize * i) words) ! k ≡ words ! (arcSize * i + k)
-word-at words i k h = getD-take arcSize (drop (arcSize * i) words) k 0 h ∙ getD-drop (arcSize * i) words k 0
-
 pub arc-line : (words : List ℕ) (i : ℕ)
     → record {
       letter = code "A";
@@ -113,9 +109,9 @@ unfolding lineOfArc arcWords arcOf
 arc-line words i =
     rw (
       source-at words i,
-      word-at words i 1 (lit< tt),
-      word-at words i 2 (lit< tt),
-      word-at words i 3 (lit< tt),
+      part-at arcSize (arcSize * i) words 1 0 (lit< tt),
+      part-at arcSize (arcSize * i) words 2 0 (lit< tt),
+      part-at arcSize (arcSize * i) words 3 0 (lit< tt),
     )
 
 -- ---- the A lines of arcs
@@ -213,12 +209,12 @@ module _ (counts : Counts) (words : List ℕ) (known : networkKnown counts words
 
 -- ---- what writing answers and leaves
 
-abbrev pub TextLeft : Counts → (words : List ℕ) → (size : ℕ) → Written → (after : List ℕ) → Type 0
+abbrev TextLeft : Counts → (words : List ℕ) → (size : ℕ) → Written → (after : List ℕ) → Type 0
 TextLeft counts words size answer after =
     (answer ≡ writtenOf (writeNetwork counts words size))
     × (after ≡ answerLeft size (writeNetwork counts words size))
 
-abbrev pub refusal : Fault → Written
+abbrev refusal : Fault → Written
 refusal fault = Refused (record { fault = fault; line = 0 })
 
 module _ (counts : Counts) (words : List ℕ) (size : ℕ) where

@@ -2,14 +2,13 @@
 use mathlib.Core.Path.{_≡_, refl, ap, _∙_}
 use mathlib.Core.List.{List, [], _∷_, _++_, append-nil}
 use mathlib.Core.Bool.{Bool, true, false, not}
-use Prim.Native.Nat.{ℕ, _+_, _*_, _≤_, _<_}
-use native.Mathlib.Nat.{mul-le-mul-left}
+use Prim.Native.Nat.{ℕ, _+_, _*_, _<_}
 use native.Mathlib.Omega.{arith}
 use lib.Dec.{leb, ltb}
 use lib.ListN.{length, take, drop}
 use borrow.Author.Tests.{leb-true, leb-false, lt-ltb, le-ltb, not-true, not-false}
 use Rattle.definitions.specs.declared.Header.{Header}
-use Rattle.definitions.specs.Lists.{if_then_else_, _!_, concatMap}
+use Rattle.definitions.specs.Lists.{_!_, concatMap}
 use Rattle.definitions.specs.BookReading.{nodeSize}
 use Rattle.definitions.specs.Tables.{nodeOf, tablesBook}
 use Rattle.definitions.specs.Combinations.{combinationSize}
@@ -17,20 +16,13 @@ use Rattle.definitions.specs.Metastates.{Metastate, phoneOf, combinationOf, mod
 use Rattle.definitions.specs.Arcs.{Arc, arcSize, arcWords, firstState}
 use Rattle.definitions.specs.Connecting.{arcInto}
 use Rattle.definitions.specs.laws.Tests.{held, failed}
-use Rattle.tables.specs.laws.Known.{header-ranges}
+use Rattle.definitions.specs.laws.Known.{header-ranges}
 use Rattle.network.specs.declared.Arcs.{Arcs}
 use Rattle.network.specs.Combinations.{combinationsIn, nodesBook, Usable, Modelled}
-use Rattle.network.specs.Steps.{AreArcs}
+use Rattle.network.specs.Steps.{AreArcs, ArcsAppended, intoArc}
 use Rattle.network.specs.laws.RecordWords.{phone-word, leaf-word, model-word}
 
 -- ---- its words
-
--- a place below 65535, of at most three states each
-pub into-fits : (header : Header) (words : List ℕ) → Usable header words → (place : ℕ) {states : ℕ}
-    → place < 65535 → states ≡ header .states → place * states < 196605
-into-fits header words usable place {states} h e =
-    let few : states ≤ 3 = omega (arith, header-ranges header (usable .header-known) .states-range .high) in
-    omega (arith, mul-le-mul-left place few)
 
 module _ (header : Header) (words : List ℕ) (usable : Usable header words) (number : ℕ)
     (h : number < length (combinationsIn header words)) (nodes : List ℕ)
@@ -45,8 +37,7 @@ module _ (header : Header) (words : List ℕ) (usable : Usable header words) (nu
       → model ≡ nodeOf (drop (nodeSize * (words ! (combinationSize * number + 1 + 0))) nodes) .value
       → phone ≡ words ! (combinationSize * number) → (rest : List ℕ)
       → AreArcs (record { count = 1; words = from ∷ (2 + place * states) ∷ model ∷ phone ∷ rest })
-      (arcInto (nodesBook header nodes) (combinationsIn header words) from place
-      (record { number = number; matrix = [] }) ∷ [])
+      (intoArc header nodes words from number place ∷ [])
   unfolding arcInto arcWords concatMap firstState tablesBook phoneOf combinationOf
   into-words from place {states} {model} {phone} e f g rest =
       let first : model ≡ modelsOf (nodesBook header nodes) (combinationsIn header words) itself ! 0 =
@@ -60,11 +51,7 @@ module _ (header : Header) (words : List ℕ) (usable : Usable header words) (nu
 -- ---- appended
 
 module _ (arcs : List ℕ) (n room : ℕ) {new : Arcs} {a : Arc} (one : AreArcs new (a ∷ [])) {arcs′ : List ℕ}
-    {answer : Bool} (r : answer ≡ leb (n + new .count) room)
-    (w : arcs′ ≡ (if answer
-    then take (arcSize * n) arcs ++ take (arcSize * new .count) (new .words)
-    ++ drop (arcSize * n + arcSize * new .count) arcs
-    else arcs)) where
+    {answer : Bool} (r : answer ≡ leb (n + new .count) room) (w : ArcsAppended n new answer arcs arcs′) where
   pub arc-kept : not answer ≡ true → (ltb n room ≡ false) × (arcs′ ≡ arcs)
   arc-kept h =
       let beyond = leb-false (n + new .count) room (failed r h) in

@@ -1,12 +1,11 @@
 -- Laws about the start of a build: nothing is held yet, and the start metastates are entered as followers of
 -- silence with silence to its left.
-use mathlib.Core.Path.{_≡_, refl, sym, ap, ap₂, _∙_, subst}
-use mathlib.Core.List.{List, map}
+use mathlib.Core.Path.{_≡_, refl, sym, ap, _∙_, subst}
+use mathlib.Core.List.{List}
 use Prim.Native.Nat.{ℕ, min}
 use native.Mathlib.Omega.{arith}
 use lib.ListN.{length, take}
 use Rattle.definitions.specs.declared.Header.{Header}
-use Rattle.definitions.specs.Faults.{Outcome}
 use Rattle.definitions.specs.Lists.{records}
 use Rattle.definitions.specs.PhoneSets.{allPhones}
 use Rattle.definitions.specs.Arcs.{arcsIn}
@@ -14,17 +13,16 @@ use Rattle.definitions.specs.Matrices.{Matrix, matrixSize, matrixWords}
 use Rattle.definitions.specs.Tables.{tablesBook}
 use Rattle.definitions.specs.Combinations.{Combination}
 use Rattle.definitions.specs.Metastates.{Metastate, starts, followersFrom}
-use Rattle.definitions.specs.Connecting.{Network, enter, startEvents, noNetwork, performAll}
-use Rattle.definitions.specs.laws.SevenWords.{words-take}
-use Rattle.matrix.specs.Shapes.{columnsAround}
+use Rattle.definitions.specs.Connecting.{Network, startEvents, noNetwork, performAll}
+use Rattle.definitions.specs.laws.Known.{header-ranges}
 use Rattle.matrix.specs.laws.Shapes.{around-length, around-words}
-use Rattle.tables.specs.laws.Known.{header-ranges}
 use Rattle.network.specs.declared.Sizes.{Sizes}
 use Rattle.network.specs.declared.Step.{Step}
-use Rattle.matrix.specs.Shapes.{widthOf}
+use Rattle.matrix.specs.Shapes.{widthOf, matrixIn, HasWidth, columnsAround}
+use Rattle.matrix.specs.laws.Widths.{matrix-back, has-width}
 use Rattle.network.specs.Combinations.{combinationsIn, nodesBook, Usable}
 use Rattle.network.specs.Networks.{metastatesIn, networkHeld, roomOf, Holds}
-use Rattle.network.specs.Steps.{AfterStep}
+use Rattle.network.specs.Steps.{AfterStep, enteringAll}
 use Rattle.network.specs.laws.Starting.{beforeStart, starts-follow}
 
 -- no records hold no network
@@ -53,23 +51,22 @@ module _ {header : Header} {combinations : List ℕ} (usable : Usable header com
         e ∙ around-words (header .half) 1 1 all (ranges .half-range .high)
         ∙ ap (λ (n : ℕ). matrixWords (columnsAround (header .half) 1 1 n)) (a ∙ ap allPhones phones)
 
-    columns-is : take (widthOf (header .half)) columns ≡ beforeStart header
-    columns-is =
-        let width : widthOf (header .half) ≡ length (beforeStart header) =
-        omega (arith, around-length (header .half) 1 1 (allPhones (header .phones))) in
-        ap₂ take width columns-are ∙ words-take (beforeStart header)
+    before-length : length (beforeStart header) ≡ widthOf (header .half)
+    before-length = omega (arith, around-length (header .half) 1 1 (allPhones (header .phones)))
 
-    pub before-wide : columns ≡ matrixWords (take (widthOf (header .half)) columns)
-    before-wide = columns-are ∙ ap matrixWords (sym columns-is)
+    columns-is : matrixIn (header .half) columns ≡ beforeStart header
+    columns-is = matrix-back (beforeStart header) before-length columns-are
+
+    pub before-wide : HasWidth (widthOf (header .half)) columns
+    before-wide = has-width (beforeStart header) before-length columns-are
 
     abbrev cs : List Combination
     cs = combinationsIn header combinations
 
     pub started : (nodes : List ℕ) {metastates arcs metastates′ arcs′ chains′ : List ℕ} {answer : Step}
         → AfterStep (header .half) (length cs) metastates arcs
-        (performAll (nodesBook header nodes) cs (roomOf metastates arcs)
-        (networkHeld (header .half) none metastates arcs)
-        (map (enter 0) (followersFrom (take (widthOf (header .half)) columns) 0 cs)))
+        (enteringAll header nodes combinations 0 metastates arcs (networkHeld (header .half) none metastates arcs)
+        (followersFrom (matrixIn (header .half) columns) 0 cs))
         answer metastates′ arcs′ chains′
         → AfterStep (header .half) (length cs) metastates arcs
         (performAll (nodesBook header nodes) cs (roomOf metastates arcs) noNetwork
@@ -77,9 +74,8 @@ module _ {header : Header} {combinations : List ℕ} (usable : Usable header com
         answer metastates′ arcs′ chains′
     unfolding startEvents starts tablesBook metastatesIn arcsIn records
     started nodes {metastates} {arcs} {metastates′} {arcs′} {chains′} {answer} left =
-        let entering : (List Metastate → Outcome Network) =
-        λ l. performAll (nodesBook header nodes) cs (roomOf metastates arcs) noNetwork (map (enter 0) l) in
         subst (λ (l : List Metastate).
-        AfterStep (header .half) (length cs) metastates arcs (entering l) answer metastates′ arcs′ chains′)
+        AfterStep (header .half) (length cs) metastates arcs
+        (enteringAll header nodes combinations 0 metastates arcs noNetwork l) answer metastates′ arcs′ chains′)
         (ap (λ (m : Matrix). followersFrom m 0 cs) columns-is
         ∙ sym (starts-follow header cs (usable .each))) left

@@ -4,23 +4,21 @@ use mathlib.Core.Path.{_≡_, refl, sym, ap, _∙_, subst}
 use mathlib.Core.List.{List, [], _∷_, _++_, map}
 use mathlib.Core.Bool.{true, false}
 use mathlib.Core.Option.{Option, none, some}
-use Prim.Native.Nat.{ℕ, _+_, _-_, _*_, _/_, _≤_, _<_, min}
+use Prim.Native.Nat.{ℕ, _+_, _-_, _*_, _≤_, _<_}
 use native.Mathlib.Omega.{arith}
 use lib.Dec.{ltb}
-use lib.ListN.{length, take, drop, getD, length-append, length-map, length-take}
-use lib.Seq.{length-take-le}
+use lib.ListN.{length, take, drop, getD, length-append, length-map}
 use borrow.Author.Tests.{ltb-true, lt-ltb}
 use Rattle.definitions.specs.declared.Fault.{Fault}
 use Rattle.definitions.specs.declared.Fault.the-variants.{Crowd, Tangle}
 use Rattle.definitions.specs.declared.Header.{Header}
 use Rattle.definitions.specs.Faults.{Outcome, answered, refuse, andThen}
-use Rattle.definitions.specs.Lists.{if_then_else_, _!_}
+use Rattle.definitions.specs.Lists.{_!_}
 use Rattle.definitions.specs.Tables.{Book}
-use Rattle.definitions.specs.Matrices.{matrixWords}
 use Rattle.definitions.specs.Combinations.{Combination}
 use Rattle.definitions.specs.Metastates.{Metastate, metastateSize, metastateWords}
 use Rattle.definitions.specs.Metastates.{phoneOf, combinationOf, modelsOf}
-use Rattle.definitions.specs.Arcs.{Arc, arcSize, arcWords}
+use Rattle.definitions.specs.Arcs.{Arc}
 use Rattle.definitions.specs.Building.{roomIn}
 use Rattle.definitions.specs.Connecting.{Network, Room, enter, perform, placeFrom, arcInto, noMetastate}
 use Rattle.definitions.specs.Connecting.{addArc, addMetastate, addBoth}
@@ -29,18 +27,19 @@ use Rattle.definitions.specs.laws.Tests.{by-test}
 use Rattle.definitions.specs.laws.Judging.{refused-not-answered}
 use Rattle.definitions.specs.laws.Members.{isIn, in-at, place-of}
 use Rattle.definitions.specs.laws.Metastates.{metastates-equal}
-use Rattle.definitions.specs.laws.SevenWords.{words-length, words-same}
+use Rattle.definitions.specs.laws.SevenWords.{words-same}
 use Rattle.definitions.specs.laws.Limits.{withArc, withMetastate, metastate-first}
-use Rattle.tables.specs.laws.Known.{header-ranges}
 use Rattle.definitions.specs.laws.Lists.{map-at}
+use Rattle.definitions.specs.laws.Known.{header-ranges}
 use Rattle.network.specs.declared.Sizes.{Sizes}
 use Rattle.network.specs.declared.Step.{Step}
 use Rattle.network.specs.declared.Step.the-variants as step
 use Rattle.network.specs.Chains.{rowsIn, Linked, Found}
-use Rattle.matrix.specs.Shapes.{widthOf}
+use Rattle.matrix.specs.Shapes.{widthOf, matrixIn, HasWidth}
+use Rattle.matrix.specs.laws.Widths.{width-taken}
 use Rattle.network.specs.Combinations.{combinationsIn, nodesBook, Usable, Modelled}
-use Rattle.network.specs.Networks.{networkHeld, sizesOf, roomOf, Holds}
-use Rattle.network.specs.Steps.{stepOf, AfterStep}
+use Rattle.network.specs.Networks.{networkHeld, sizesOf, arcRoom, metastateRoom, roomOf, Holds}
+use Rattle.network.specs.Steps.{stepOf, AfterStep, ArcAppended, ArcAnswered, intoArc, entered}
 use Rattle.network.specs.laws.Linking.{linkedTo}
 use Rattle.network.specs.laws.HoldsMore.{held-sizes, arc-within, holds-arc, used-within, used-rows}
 use Rattle.network.specs.laws.HoldsMore.{holds-metastate}
@@ -149,26 +148,10 @@ module _ {half count : ℕ} {metastates arcs : List ℕ} {outcome : Outcome Netw
     arcs-sized = a;
   }
 
--- what the code answers and leaves where it appends an arc to so many: Tangle where it has no room
-abbrev pub Answered : Sizes → (arcs : List ℕ) → (answer : Step) → Type 0
-Answered sizes arcs answer =
-    answer ≡ (if ltb (sizes .arcs) (min (length arcs / arcSize) 999999)
-    then step.Next (record { metastates = sizes .metastates; arcs = sizes .arcs + 1 })
-    else step.Stop Tangle)
-
-abbrev pub Appended : Sizes → Arc → (arcs arcs′ : List ℕ) → Type 0
-Appended sizes a arcs arcs′ =
-    arcs′ ≡ (if ltb (sizes .arcs) (min (length arcs / arcSize) 999999)
-    then take (arcSize * sizes .arcs) arcs ++ arcWords a ++ drop (arcSize * sizes .arcs + arcSize) arcs
-    else arcs)
-
--- it is appended as the definition appends it
+-- an arc is appended as the definition appends it
 module _ (metastates₀ : List ℕ) {half count : ℕ} {net : Network} {metastates arcs chains : List ℕ}
     (held : Holds half count net metastates arcs chains) (m : length metastates ≡ length metastates₀) (a : Arc)
     (sizes : Sizes) (e : sizes ≡ sizesOf net) where
-  abbrev room : ℕ
-  room = min (length arcs / arcSize) 999999
-
   counted : sizes .arcs ≡ length (net .arcs)
   counted = ap (λ (s : Sizes). s .arcs) e
 
@@ -181,16 +164,16 @@ module _ (metastates₀ : List ℕ) {half count : ℕ} {net : Network} {metastat
 
   arc-entered : {outcome : Outcome Network} {answer : Step} {arcs′ : List ℕ}
       → outcome ≡ addArc (roomOf metastates₀ arcs) a net
-      → Answered sizes arcs answer → Appended sizes a arcs arcs′
+      → ArcAnswered sizes arcs answer → ArcAppended sizes a arcs arcs′
       → AfterStep half count metastates₀ arcs outcome answer metastates arcs′ chains
   unfolding roomIn addArc
-  arc-entered {outcome} {answer} {arcs′} o f g = by-test (ltb (sizes .arcs) room)
+  arc-entered {outcome} {answer} {arcs′} o f g = by-test (ltb (sizes .arcs) (arcRoom arcs))
       (λ t.
-      let test : ltb (length (net .arcs)) room ≡ true = rw counted at t in
-      let (size, grown) = holds-arc held a counted (ltb-true (sizes .arcs) room t) (rw t at g) in
+      let test : ltb (length (net .arcs)) (arcRoom arcs) ≡ true = rw counted at t in
+      let (size, grown) = holds-arc held a counted (ltb-true (sizes .arcs) (arcRoom arcs) t) (rw t at g) in
       leaves-answered m size (withArc net a) (o ∙ rw test) ((rw t at f) ∙ ap step.Next more) grown)
       (λ t.
-      let test : ltb (length (net .arcs)) room ≡ false = rw counted at t in
+      let test : ltb (length (net .arcs)) (arcRoom arcs) ≡ false = rw counted at t in
       leaves-refused m (ap length (rw t at g)) Tangle (o ∙ rw test) (rw t at f))
 
 -- ---- each answer
@@ -198,33 +181,19 @@ module _ (metastates₀ : List ℕ) {half count : ℕ} {net : Network} {metastat
 abbrev pub withOne : Sizes → Sizes
 withOne sizes = record { metastates = sizes .metastates + 1; arcs = sizes .arcs }
 
--- the arc into the metastate of a combination, which does not depend on the matrix
-abbrev pub intoArc : Header → (nodes words : List ℕ) → (from number place : ℕ) → Arc
-intoArc header nodes words from number place =
-    arcInto (nodesBook header nodes) (combinationsIn header words) from place
-    (record { number = number; matrix = [] })
-
--- what is performed
-abbrev pub entered : Header → (nodes words metastates arcs : List ℕ) → Sizes → (from number : ℕ)
-    → (columns : List ℕ) → Outcome Network
-entered header nodes words metastates arcs sizes from number columns =
-    perform (nodesBook header nodes) (combinationsIn header words) (roomOf metastates arcs)
-    (networkHeld (header .half) sizes metastates arcs)
-    (enter from (record { number = number; matrix = take (widthOf (header .half)) columns }))
-
 -- what is known before
 pub record Entering (header : Header) (words : List ℕ) (sizes : Sizes) (number : ℕ)
     (columns metastates arcs chains : List ℕ) : Type 0 where
   pub usable : Usable header words
   pub listed : number < length (combinationsIn header words)
-  pub shaped : columns ≡ matrixWords (take (widthOf (header .half)) columns)
+  pub shaped : HasWidth (widthOf (header .half)) columns
   pub held : Holds (header .half) (length (combinationsIn header words))
       (networkHeld (header .half) sizes metastates arcs) metastates arcs chains
 
 pub entering : {header : Header} (nodes : List ℕ) {words : List ℕ} (sizes : Sizes) (number : ℕ)
     {columns metastates arcs chains : List ℕ}
     → Usable header words × Modelled header nodes words × (number < length (combinationsIn header words))
-    × (columns ≡ matrixWords (take (widthOf (header .half)) columns))
+    × HasWidth (widthOf (header .half)) columns
     × Holds (header .half) (length (combinationsIn header words))
     (networkHeld (header .half) sizes metastates arcs) metastates arcs chains
     → Entering header words sizes number columns metastates arcs chains
@@ -244,18 +213,13 @@ module _ {header : Header} {words : List ℕ} {sizes : Sizes} {number : ℕ}
   net = networkHeld half sizes metastates arcs
 
   abbrev x : Metastate
-  x = record { number = number; matrix = take (widthOf half) columns }
+  x = record { number = number; matrix = matrixIn half columns }
 
   few : half ≤ 3
   few = header-ranges header (s .usable .header-known) .half-range .high
 
-  seven : length columns ≡ 7
-  seven =
-      ap length (s .shaped)
-      ∙ words-length (take (widthOf half) columns) (simp length-take (omega (arith, few)))
-
   width : length (x .matrix) ≡ widthOf half
-  width = length-take-le (widthOf half) columns (omega (arith, few, seven))
+  width = width-taken (omega (arith, few)) (s .shaped)
 
   row : number ∷ columns ≡ metastateWords x
   unfolding metastateWords
@@ -278,7 +242,7 @@ module _ {header : Header} {words : List ℕ} {sizes : Sizes} {number : ℕ}
   pub enter-linked : Linked chains (rowsIn (take (metastateSize * sizes .metastates) metastates))
   enter-linked = subst (Linked chains) (sym rows) (s .held .linked)
 
-  pub enter-arcs : sizes .arcs ≤ min (length arcs / arcSize) 999999
+  pub enter-arcs : sizes .arcs ≤ arcRoom arcs
   enter-arcs = arc-within (s .held) (ap (λ (k : Sizes). k .arcs) same-sizes)
 
   module _ {found : ℕ}
@@ -302,8 +266,8 @@ module _ {header : Header} {words : List ℕ} {sizes : Sizes} {number : ℕ}
 
       -- it stands in the table
       pub enter-known : (found ≡ 0 → ⊥) → {answer : Step} {arcs′ : List ℕ}
-          → Answered sizes arcs answer
-          → Appended sizes (intoArc header nodes words from number (found - 1)) arcs arcs′
+          → ArcAnswered sizes arcs answer
+          → ArcAppended sizes (intoArc header nodes words from number (found - 1)) arcs arcs′
           → AfterStep (header .half) (length (combinationsIn header words)) metastates arcs
           (entered header nodes words metastates arcs sizes from number columns)
           answer metastates arcs′ chains
@@ -315,7 +279,7 @@ module _ {header : Header} {words : List ℕ} {sizes : Sizes} {number : ℕ}
           g h
 
       -- there is no room for it
-      pub enter-crowded : found ≡ 0 → min (length metastates / metastateSize) 65535 ≤ sizes .metastates
+      pub enter-crowded : found ≡ 0 → metastateRoom metastates ≤ sizes .metastates
           → AfterStep (header .half) (length (combinationsIn header words)) metastates arcs
           (entered header nodes words metastates arcs sizes from number columns)
           (step.Stop Crowd) metastates arcs chains
@@ -329,13 +293,13 @@ module _ {header : Header} {words : List ℕ} {sizes : Sizes} {number : ℕ}
           refl
 
       -- it is added, and the arc into it
-      pub enter-new : found ≡ 0 → sizes .metastates < min (length metastates / metastateSize) 65535
+      pub enter-new : found ≡ 0 → sizes .metastates < metastateRoom metastates
           → {answer : Step} {metastates′ arcs′ chains′ : List ℕ}
           → metastates′ ≡ take (metastateSize * sizes .metastates) metastates ++ (number ∷ columns)
           ++ drop (metastateSize * sizes .metastates + metastateSize) metastates
           → chains′ ≡ linkedTo chains (sizes .metastates) (number ∷ columns)
-          → Answered (withOne sizes) arcs answer
-          → Appended (withOne sizes) (intoArc header nodes words from number (sizes .metastates)) arcs arcs′
+          → ArcAnswered (withOne sizes) arcs answer
+          → ArcAppended (withOne sizes) (intoArc header nodes words from number (sizes .metastates)) arcs arcs′
           → AfterStep (header .half) (length (combinationsIn header words)) metastates arcs
           (entered header nodes words metastates arcs sizes from number columns)
           answer metastates′ arcs′ chains′
@@ -346,7 +310,7 @@ module _ {header : Header} {words : List ℕ} {sizes : Sizes} {number : ℕ}
           let (size, held) =
           holds-metastate (s .held) few x places h fresh (s .listed) width (rw row at p) (rw row at q) in
           let a : Arc = arcInto book combinations from (length (net .metastates)) x in
-          let inside : length (net .metastates) < min (length metastates / metastateSize) 65535 =
+          let inside : length (net .metastates) < metastateRoom metastates =
           omega (arith, h, places) in
           arc-entered metastates held size a (withOne sizes) grown
           (perform-new book combinations (roomOf metastates arcs) net from x new

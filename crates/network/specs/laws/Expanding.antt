@@ -1,9 +1,9 @@
 -- Laws about a turn: the metastate at a place read from its record, its own arcs and the arc to FINAL
 -- appended, then the arcs to its followers; one law for each answer.
-use mathlib.Core.Path.{_≡_, refl, sym, ap, ap₂, _∙_, subst}
+use mathlib.Core.Path.{_≡_, refl, sym, ap, _∙_, subst}
 use mathlib.Core.List.{List, _++_, map, map-append}
 use mathlib.Core.Bool.{Bool, true, false, not}
-use Prim.Native.Nat.{ℕ, _+_, _*_, _/_, _≤_, _<_, min}
+use Prim.Native.Nat.{ℕ, _+_, _*_, _≤_, _<_, min}
 use native.Mathlib.Omega.{arith}
 use lib.Dec.{leb}
 use lib.ListN.{length, take, drop, getD, length-append}
@@ -11,41 +11,39 @@ use borrow.Author.Tests.{not-true, not-false, leb-true, leb-false}
 use Rattle.definitions.specs.declared.Header.{Header}
 use Rattle.definitions.specs.declared.Fault.the-variants.{Tangle}
 use Rattle.definitions.specs.Faults.{Outcome, refuse, andThen}
-use Rattle.definitions.specs.Lists.{_!_, if_then_else_, padded}
+use Rattle.definitions.specs.Lists.{_!_}
 use Rattle.definitions.specs.PhoneSets.{allPhones}
 use Rattle.definitions.specs.Arcs.{Arc, arcSize, lastState}
-use Rattle.definitions.specs.Matrices.{matrixSize, matrixWords, shift}
+use Rattle.definitions.specs.Matrices.{matrixWords, shift}
 use Rattle.definitions.specs.Tables.{Book, tablesBook}
 use Rattle.definitions.specs.Combinations.{Combination}
 use Rattle.definitions.specs.Metastates.{Metastate, metastateSize, followersFrom, followers}
 use Rattle.definitions.specs.Building.{roomIn}
 use Rattle.definitions.specs.Connecting.{Network, Room, Event, plain, enter, noMetastate, turnEvents}
-use Rattle.definitions.specs.Connecting.{performAll, expand}
+use Rattle.definitions.specs.Connecting.{finalArcs, performAll, expand}
 use Rattle.definitions.specs.laws.Tests.{held, failed}
 use Rattle.definitions.specs.laws.Judging.{refused-not-answered}
 use Rattle.definitions.specs.laws.Books.{InRange}
-use Rattle.definitions.specs.laws.SevenWords.{words-length, words-take}
 use Rattle.definitions.specs.laws.Matrices.{shift-length}
 use Rattle.definitions.specs.laws.Metastates.{metastates-equal}
-use Rattle.matrix.specs.Shapes.{shiftedWords}
-use Rattle.matrix.specs.laws.Words.{matrix-words}
+use Rattle.matrix.specs.Shapes.{widthOf, matrixIn, HasWidth, shiftedWords}
+use Rattle.matrix.specs.laws.Words.{firstSeven, seven-there}
 use Rattle.matrix.specs.laws.Shapes.{shift-words}
-use Rattle.tables.specs.laws.Known.{header-ranges}
+use Rattle.matrix.specs.laws.Widths.{matrix-back, has-width}
+use Rattle.definitions.specs.laws.Known.{header-ranges}
 use Rattle.network.specs.declared.Sizes.{Sizes}
 use Rattle.network.specs.declared.Arcs.{Arcs}
 use Rattle.network.specs.declared.Step.{Step}
 use Rattle.network.specs.declared.Step.the-variants as step
-use Rattle.matrix.specs.Shapes.{widthOf}
 use Rattle.network.specs.Combinations.{combinationsIn, nodesBook, Usable, Modelled}
-use Rattle.network.specs.Networks.{networkHeld, roomOf, sizesOf, Holds}
-use Rattle.network.specs.Steps.{AreArcs, AfterStep, stepOf}
+use Rattle.network.specs.Networks.{networkHeld, arcRoom, roomOf, sizesOf, Holds}
+use Rattle.network.specs.Steps.{AreArcs, AfterStep, stepOf, ArcsAppended, ownOf, plainOf, enteringAll}
 use Rattle.network.specs.laws.HeldBack.{held-back}
 use Rattle.network.specs.laws.HoldsMore.{held-sizes}
-use Rattle.network.specs.laws.OwnArcs.{last-state}
-use Rattle.network.specs.laws.PlainArcs.{ownOf, finalOf, plain-count-few}
+use Rattle.network.specs.laws.PlainArcs.{plain-count-few}
 use Rattle.network.specs.laws.PerformedArcs.{withArcs, performs-append, performs-arcs, performs-over}
-use Rattle.network.specs.laws.HeldRows.{matrixPart, metastates-few, metastates-within}
-use Rattle.network.specs.laws.HeldRows.{arcs-within, held-in, held-number, held-matrix, held-width}
+use Rattle.network.specs.laws.HeldRows.{metastates-few, metastates-within}
+use Rattle.network.specs.laws.HeldRows.{arcs-within, held-in, held-number, held-matrix}
 use Rattle.network.specs.laws.HeldRows.{appended-length, holds-appended}
 
 -- what a turn starts from
@@ -104,25 +102,24 @@ module _ {header : Header} {nodes combinations metastates arcs chains : List ℕ
     pub number-listed : (metastates ! (metastateSize * place)) < length cs
     number-listed = rw (held-number thin (s .holds) place inside) number-known
 
-    pub arcs-fit : sizes .arcs ≤ min (length arcs / arcSize) 999999
+    pub arcs-fit : sizes .arcs ≤ arcRoom arcs
     arcs-fit = omega (arith, arcs-asked, arcs-within thin (s .holds))
 
     -- ---- its matrix
 
     module _ {columns : List ℕ}
-        (c : columns ≡ take matrixSize (padded matrixSize (matrixPart place metastates)))
+        (c : columns ≡ firstSeven (drop (metastateSize * place + 1) metastates))
       where
         columns-are : columns ≡ matrixWords (x .matrix)
         columns-are =
-            let row : List ℕ = matrixPart place metastates in
-            let is : row ≡ matrixWords (x .matrix) = held-matrix thin (s .holds) place inside in
-            c ∙ matrix-words row (ap length is ∙ words-length (x .matrix) (omega (arith, thin, x-width))) ∙ is
+            c ∙ seven-there metastates (metastateSize * place + 1) (omega (arith, place-within))
+            ∙ held-matrix thin (s .holds) place inside
 
-        matrix-is : take (widthOf (header .half)) columns ≡ x .matrix
-        matrix-is = ap (take (widthOf (header .half))) columns-are ∙ held-width thin (s .holds) place inside
+        matrix-is : matrixIn (header .half) columns ≡ x .matrix
+        matrix-is = matrix-back (x .matrix) x-width columns-are
 
-        pub columns-wide : columns ≡ matrixWords (take (widthOf (header .half)) columns)
-        columns-wide = columns-are ∙ ap matrixWords (sym matrix-is)
+        pub columns-wide : HasWidth (widthOf (header .half)) columns
+        columns-wide = has-width (x .matrix) x-width columns-are
 
         -- ---- and shifted
 
@@ -137,173 +134,159 @@ module _ {header : Header} {nodes combinations metastates arcs chains : List ℕ
                 (shift-words (header .phones) (2 * header .half) (x .matrix) (omega (arith, thin))
                 (omega (arith, x-width)))
 
-            shifted-is : take (widthOf (header .half)) shifted ≡ shift (header .phones) (x .matrix)
-            shifted-is =
-                let width : widthOf (header .half) ≡ length (shift (header .phones) (x .matrix)) =
-                sym (shift-length (header .phones) (x .matrix) (omega (arith, x-width)) ∙ x-width) in
-                ap₂ take width shifted-are ∙ words-take (shift (header .phones) (x .matrix))
+            shifted-length : length (shift (header .phones) (x .matrix)) ≡ widthOf (header .half)
+            shifted-length = shift-length (header .phones) (x .matrix) (omega (arith, x-width)) ∙ x-width
 
-            pub shifted-wide : shifted ≡ matrixWords (take (widthOf (header .half)) shifted)
-            shifted-wide = shifted-are ∙ ap matrixWords (sym shifted-is)
+            shifted-is : matrixIn (header .half) shifted ≡ shift (header .phones) (x .matrix)
+            shifted-is = matrix-back (shift (header .phones) (x .matrix)) shifted-length shifted-are
+
+            pub shifted-wide : HasWidth (widthOf (header .half)) shifted
+            shifted-wide = has-width (shift (header .phones) (x .matrix)) shifted-length shifted-are
 
         -- ---- its arcs
 
         abbrev read : Metastate
         read = record {
           number = metastates ! (metastateSize * place);
-          matrix = take (widthOf (header .half)) columns;
+          matrix = matrixIn (header .half) columns;
         }
 
-        module _ {new : Arcs}
-            (n : AreArcs new (ownOf header nodes combinations place read
-            ++ finalOf header nodes combinations place read))
-          where
-            abbrev added : List Arc
-            added = ownOf header nodes combinations place x ++ finalOf header nodes combinations place x
+        module _ {new : Arcs} (n : AreArcs new (plainOf header nodes combinations place read)) where
+          abbrev added : List Arc
+          added = plainOf header nodes combinations place x
 
-            are : AreArcs new added
-            are =
-                subst (λ (y : Metastate). AreArcs new
-                (ownOf header nodes combinations place y ++ finalOf header nodes combinations place y))
-                (metastates-equal read x (held-number thin (s .holds) place inside) matrix-is) n
+          are : AreArcs new added
+          are =
+              subst (λ (y : Metastate). AreArcs new (plainOf header nodes combinations place y))
+              (metastates-equal read x (held-number thin (s .holds) place inside) matrix-is) n
 
-            pub new-few : new .count ≤ 3
-            new-few =
-                plain-count-few header nodes combinations (s .usable) place x number-known (s .modelled) are
+          pub new-few : new .count ≤ 3
+          new-few =
+              plain-count-few header nodes combinations (s .usable) place x number-known (s .modelled) are
 
-            -- a turn is its arcs, then the arcs to its followers
-            abbrev onward : List Event
-            onward =
-                map (enter (lastState (header .states) place))
-                (followersFrom (shift (header .phones) (x .matrix)) 0 cs)
+          -- a turn is its arcs, then the arcs to its followers
+          abbrev onward : List Event
+          onward =
+              map (enter (lastState (header .states) place))
+              (followersFrom (shift (header .phones) (x .matrix)) 0 cs)
 
-            turn-is : (room : Room)
-                → expand book cs room place net
-                ≡ andThen (performAll book cs room net (map plain added))
-                (λ next. performAll book cs room next onward)
-            unfolding expand turnEvents followers tablesBook
-            turn-is room =
-                let own : List Arc = ownOf header nodes combinations place x in
-                let final : List Arc = finalOf header nodes combinations place x in
-                ap (λ (l : List Event). performAll book cs room net (l ++ onward))
-                (sym (map-append plain own final))
-                ∙ performs-append book cs room net (map plain added) onward
+          turn-is : (room : Room)
+              → expand book cs room place net
+              ≡ andThen (performAll book cs room net (map plain added))
+              (λ next. performAll book cs room next onward)
+          unfolding expand turnEvents followers tablesBook
+          turn-is room =
+              ap (λ (l : List Event). performAll book cs room net (l ++ onward))
+              (sym (map-append plain (ownOf header nodes combinations place x) (finalArcs book cs place x)))
+              ∙ performs-append book cs room net (map plain added) onward
 
-            abbrev room : Room
-            room = roomOf metastates arcs
+          abbrev room : Room
+          room = roomOf metastates arcs
 
-            module _ {roomy : Bool} {arcs′ : List ℕ}
-                (r : roomy ≡ leb (sizes .arcs + new .count) (min (length arcs / arcSize) 999999))
-                (w : arcs′ ≡ (if roomy
-                then take (arcSize * sizes .arcs) arcs ++ take (arcSize * new .count) (new .words)
-                ++ drop (arcSize * sizes .arcs + arcSize * new .count) arcs
-                else arcs))
-              where
-                -- ---- no room for all of them
+          module _ {roomy : Bool} {arcs′ : List ℕ}
+              (r : roomy ≡ leb (sizes .arcs + new .count) (arcRoom arcs))
+              (w : ArcsAppended (sizes .arcs) new roomy arcs arcs′)
+            where
+              -- ---- no room for all of them
 
-                pub turn-stops : not roomy ≡ true
-                    → AfterStep (header .half) (length cs) metastates arcs (expand book cs room place net)
-                    (step.Stop Tangle) metastates arcs′ chains
-                unfolding roomIn andThen stepOf
-                turn-stops t =
-                    let over : min (length arcs / arcSize) 999999 < sizes .arcs + new .count =
-                    leb-false (sizes .arcs + new .count) (min (length arcs / arcSize) 999999) (failed r t) in
-                    let none : expand book cs room place net ≡ refuse Tangle 0 =
-                    turn-is room
+              pub turn-stops : not roomy ≡ true
+                  → AfterStep (header .half) (length cs) metastates arcs (expand book cs room place net)
+                  (step.Stop Tangle) metastates arcs′ chains
+              unfolding roomIn andThen stepOf
+              turn-stops t =
+                  let over : arcRoom arcs < sizes .arcs + new .count =
+                  leb-false (sizes .arcs + new .count) (arcRoom arcs) (failed r t) in
+                  let none : expand book cs room place net ≡ refuse Tangle 0 =
+                  turn-is room
+                  ∙ ap (λ (o : Outcome Network). andThen o (λ next. performAll book cs room next onward))
+                  (performs-over book cs room net added (s .holds .arc-room)
+                  (omega (arith, over, arcs-asked, are .counted))) in
+                  let same : arcs′ ≡ arcs = w ∙ rw (not-true roomy t) in
+                  record {
+                    answers = sym (ap stepOf none);
+                    holds = λ next e. absurd
+                        (refused-not-answered (expand book cs room place net) Tangle 0 next none e);
+                    metastates-sized = refl;
+                    arcs-sized = ap length same;
+                  }
+
+              -- ---- room
+
+              module _ (t : not roomy ≡ false) where
+                abbrev next : Sizes
+                next = record { metastates = sizes .metastates; arcs = sizes .arcs + new .count }
+
+                fits : length (net .arcs) + length added ≤ arcRoom arcs
+                fits =
+                    omega (
+                      arith,
+                      arcs-asked,
+                      are .counted,
+                      leb-true (sizes .arcs + new .count) (arcRoom arcs) (held r t),
+                    )
+
+                arcs-are : arcs′
+                    ≡ take (arcSize * length (net .arcs)) arcs ++ take (arcSize * new .count) (new .words)
+                    ++ drop (arcSize * length (net .arcs) + arcSize * new .count) arcs
+                arcs-are = w ∙ rw (not-false roomy t, arcs-asked)
+
+                held-next : Holds (header .half) (length cs) (withArcs net added) metastates arcs′ chains
+                held-next =
+                    subst (λ (l : List ℕ).
+                    Holds (header .half) (length cs) (withArcs net added) metastates l chains)
+                    (sym arcs-are) (holds-appended thin (s .holds) new added are fits)
+
+                as-long : length arcs′ ≡ length arcs
+                as-long = ap length arcs-are ∙ appended-length thin (s .holds) new added are fits
+
+                sizes-are : next ≡ sizesOf (withArcs net added)
+                sizes-are =
+                    let more : sizes .arcs + new .count ≡ length (net .arcs ++ added) =
+                    omega (arith, arcs-asked, are .counted, length-append (net .arcs) added) in
+                    λ i. record { metastates = sym asked i .metastates; arcs = more i }
+
+                net-is : networkHeld (header .half) next metastates arcs′ ≡ withArcs net added
+                net-is =
+                    ap (λ (z : Sizes). networkHeld (header .half) z metastates arcs′) sizes-are
+                    ∙ held-back thin held-next
+
+                pub next-holds : Holds (header .half) (length cs)
+                    (networkHeld (header .half) next metastates arcs′) metastates arcs′ chains
+                next-holds =
+                    subst (λ (z : Network). Holds (header .half) (length cs) z metastates arcs′ chains)
+                    (sym net-is) held-next
+
+                -- ---- the followers
+
+                abbrev following : (last : ℕ) → (shifted : List ℕ) → Outcome Network
+                following last shifted =
+                    enteringAll header nodes combinations last metastates arcs′
+                    (networkHeld (header .half) next metastates arcs′)
+                    (followersFrom (matrixIn (header .half) shifted) 0 cs)
+
+                followed : {last : ℕ} (shifted : List ℕ) → last ≡ lastState (header .states) place
+                    → matrixIn (header .half) shifted ≡ shift (header .phones) (x .matrix)
+                    → following last shifted ≡ expand book cs room place net
+                unfolding andThen roomIn
+                followed shifted e is =
+                    rw (as-long, net-is, e, is)
+                    (sym (turn-is room
                     ∙ ap (λ (o : Outcome Network). andThen o (λ next. performAll book cs room next onward))
-                    (performs-over book cs room net added (s .holds .arc-room)
-                    (omega (arith, over, arcs-asked, are .counted))) in
-                    let same : arcs′ ≡ arcs = w ∙ rw (not-true roomy t) in
+                    (performs-arcs book cs room net added fits)))
+
+                pub turn-goes : {last half all : ℕ} {shifted : List ℕ} {answer : Step}
+                    {metastates″ arcs″ chains″ : List ℕ} → last ≡ lastState (header .states) place
+                    → half ≡ header .half → all ≡ allPhones (min (header .phones) 64)
+                    → shifted ≡ shiftedWords (2 * half) all columns
+                    → AfterStep (header .half) (length cs) metastates arcs′ (following last shifted)
+                    answer metastates″ arcs″ chains″
+                    → AfterStep (header .half) (length cs) metastates arcs (expand book cs room place net)
+                    answer metastates″ arcs″ chains″
+                turn-goes {shifted = shifted} e l a f left =
+                    let same = followed shifted e (shifted-is l a f) in
                     record {
-                      answers = sym (ap stepOf none);
-                      holds = λ next e. absurd
-                          (refused-not-answered (expand book cs room place net) Tangle 0 next none e);
-                      metastates-sized = refl;
-                      arcs-sized = ap length same;
+                      answers = left .answers ∙ ap stepOf same;
+                      holds = λ n k. left .holds n (same ∙ k);
+                      metastates-sized = left .metastates-sized;
+                      arcs-sized = left .arcs-sized ∙ as-long;
                     }
-
-                -- ---- room
-
-                module _ (t : not roomy ≡ false) where
-                  abbrev next : Sizes
-                  next = record { metastates = sizes .metastates; arcs = sizes .arcs + new .count }
-
-                  fits : length (net .arcs) + length added ≤ min (length arcs / arcSize) 999999
-                  fits =
-                      omega (
-                        arith,
-                        arcs-asked,
-                        are .counted,
-                        leb-true (sizes .arcs + new .count) (min (length arcs / arcSize) 999999) (held r t),
-                      )
-
-                  arcs-are : arcs′
-                      ≡ take (arcSize * length (net .arcs)) arcs ++ take (arcSize * new .count) (new .words)
-                      ++ drop (arcSize * length (net .arcs) + arcSize * new .count) arcs
-                  arcs-are = w ∙ rw (not-false roomy t, arcs-asked)
-
-                  held-next : Holds (header .half) (length cs) (withArcs net added) metastates arcs′ chains
-                  held-next =
-                      subst (λ (l : List ℕ).
-                      Holds (header .half) (length cs) (withArcs net added) metastates l chains)
-                      (sym arcs-are) (holds-appended thin (s .holds) new added are fits)
-
-                  as-long : length arcs′ ≡ length arcs
-                  as-long = ap length arcs-are ∙ appended-length thin (s .holds) new added are fits
-
-                  sizes-are : next ≡ sizesOf (withArcs net added)
-                  sizes-are =
-                      let more : sizes .arcs + new .count ≡ length (net .arcs ++ added) =
-                      omega (arith, arcs-asked, are .counted, length-append (net .arcs) added) in
-                      λ i. record { metastates = sym asked i .metastates; arcs = more i }
-
-                  net-is : networkHeld (header .half) next metastates arcs′ ≡ withArcs net added
-                  net-is =
-                      ap (λ (z : Sizes). networkHeld (header .half) z metastates arcs′) sizes-are
-                      ∙ held-back thin held-next
-
-                  pub next-holds : Holds (header .half) (length cs)
-                      (networkHeld (header .half) next metastates arcs′) metastates arcs′ chains
-                  next-holds =
-                      subst (λ (z : Network). Holds (header .half) (length cs) z metastates arcs′ chains)
-                      (sym net-is) held-next
-
-                  -- ---- the followers
-
-                  followed : {states : ℕ} (shifted : List ℕ) → states ≡ header .states
-                      → take (widthOf (header .half)) shifted ≡ shift (header .phones) (x .matrix)
-                      → performAll book cs (roomOf metastates arcs′)
-                      (networkHeld (header .half) next metastates arcs′)
-                      (map (enter (1 + (place + 1) * states))
-                      (followersFrom (take (widthOf (header .half)) shifted) 0 cs))
-                      ≡ expand book cs room place net
-                  unfolding andThen roomIn
-                  followed {states} shifted e is =
-                      let some : 1 ≤ states = omega (arith, e, ranges .states-range .low) in
-                      let last : 1 + (place + 1) * states ≡ lastState (header .states) place =
-                      last-state place states some ∙ ap (λ (k : ℕ). lastState k place) e in
-                      rw (as-long, net-is, last, is)
-                      (sym (turn-is room
-                      ∙ ap (λ (o : Outcome Network). andThen o (λ next. performAll book cs room next onward))
-                      (performs-arcs book cs room net added fits)))
-
-                  pub turn-goes : {states half all : ℕ} {shifted : List ℕ} {answer : Step}
-                      {metastates″ arcs″ chains″ : List ℕ} → states ≡ header .states
-                      → half ≡ header .half → all ≡ allPhones (min (header .phones) 64)
-                      → shifted ≡ shiftedWords (2 * half) all columns
-                      → AfterStep (header .half) (length cs) metastates arcs′
-                      (performAll book cs (roomOf metastates arcs′)
-                      (networkHeld (header .half) next metastates arcs′)
-                      (map (enter (1 + (place + 1) * states))
-                      (followersFrom (take (widthOf (header .half)) shifted) 0 cs)))
-                      answer metastates″ arcs″ chains″
-                      → AfterStep (header .half) (length cs) metastates arcs (expand book cs room place net)
-                      answer metastates″ arcs″ chains″
-                  turn-goes {shifted = shifted} e l a f left =
-                      let same = followed shifted e (shifted-is l a f) in
-                      record {
-                        answers = left .answers ∙ ap stepOf same;
-                        holds = λ n k. left .holds n (same ∙ k);
-                        metastates-sized = left .metastates-sized;
-                        arcs-sized = left .arcs-sized ∙ as-long;
-                      }

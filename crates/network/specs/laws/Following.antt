@@ -1,50 +1,38 @@
 -- Laws about appending the arcs to followers: what holds before each, and what a refusal or the last leaves.
 -- The idea: what is still to be performed, from the network so far, leads to the same as all from the first.
 use mathlib.Core.Path.{_≡_, refl, sym, ap, _∙_, subst}
-use mathlib.Core.List.{List, map}
+use mathlib.Core.List.{List}
 use mathlib.Core.Bool.{true}
 use Prim.Native.Nat.{ℕ, suc, _+_, _≤_, _<_}
 use native.Mathlib.Numerals.{add-one}
-use lib.ListN.{length, take}
+use lib.ListN.{length}
 use Rattle.definitions.specs.declared.Fault.{Fault}
 use Rattle.definitions.specs.declared.Header.{Header}
 use Rattle.definitions.specs.Faults.{Outcome, answered, refused, andThen}
-use Rattle.definitions.specs.Matrices.{Matrix, valid, meet}
+use Rattle.definitions.specs.Matrices.{Matrix, meet}
 use Rattle.definitions.specs.Combinations.{Combination}
-use Rattle.definitions.specs.Metastates.{Metastate}
 use Rattle.definitions.specs.Connecting.{Network, enter, perform, performAll}
 use Rattle.definitions.specs.laws.Judging.{refused-not-answered}
 use Rattle.network.specs.declared.Sizes.{Sizes}
 use Rattle.network.specs.declared.Step.{Step}
 use Rattle.network.specs.declared.Step.the-variants as step
-use Rattle.matrix.specs.Shapes.{widthOf}
+use Rattle.matrix.specs.Shapes.{matrixIn}
 use Rattle.definitions.specs.laws.Metastates.{numbered}
 use Rattle.network.specs.Combinations.{combinationsIn, nodesBook}
 use Rattle.network.specs.Networks.{networkHeld, roomOf, Holds}
-use Rattle.network.specs.Following.{NextFollower}
-use Rattle.network.specs.Steps.{stepOf, AfterStep}
+use Rattle.network.specs.Following.{followsAt, NextFollower}
+use Rattle.network.specs.Steps.{stepOf, AfterStep, enteringAll}
 use Rattle.network.specs.laws.HoldsMore.{held-sizes}
 use Rattle.network.specs.laws.Followers.{followersAt, metAt, followers-skip, followers-found, followers-out}
 use Rattle.network.specs.laws.HeldBack.{held-back}
 use Rattle.network.specs.laws.Steps.{step-next, step-stop}
 
--- the matrix in seven columns
-abbrev pub cut : Header → (columns : List ℕ) → Matrix
-cut header columns = take (widthOf (header .half)) columns
-
--- what entering metastates leads to, in the room of the lent words
-abbrev pub entering : Header → (nodes words : List ℕ) (from : ℕ) (metastates arcs : List ℕ)
-    → Network → List Metastate → Outcome Network
-entering header nodes words from metastates arcs net xs =
-    performAll (nodesBook header nodes) (combinationsIn header words) (roomOf metastates arcs) net
-    (map (enter from) xs)
-
--- the same for the followers from a combination on
+-- what entering the followers from a combination on leads to
 abbrev pub enteringFrom : Header → (nodes words columns : List ℕ) (from : ℕ) (metastates arcs : List ℕ)
     → Network → (number : ℕ) → Outcome Network
 enteringFrom header nodes words columns from metastates arcs net number =
-    entering header nodes words from metastates arcs net
-    (followersAt (cut header columns) (combinationsIn header words) number)
+    enteringAll header nodes words from metastates arcs net
+    (followersAt (matrixIn (header .half) columns) (combinationsIn header words) number)
 
 -- before the arc to combination `number`, which is the next follower or past the last: the network so far is
 -- held, and what is still to be performed leads to the same as all
@@ -52,7 +40,7 @@ pub record Followed (header : Header) (nodes words columns : List ℕ) (from : �
     (metastates₀ arcs₀ chains₀ : List ℕ) (sizes₀ : Sizes) (metastates arcs chains : List ℕ) (sizes : Sizes)
     (number : ℕ) : Type 0 where
   pub found : number < length (combinationsIn header words)
-      → valid (meet (cut header columns) (numbered (combinationsIn header words) number .matrix)) ≡ true
+      → followsAt (matrixIn (header .half) columns) (combinationsIn header words) number ≡ true
   pub holds : Holds (header .half) (length (combinationsIn header words))
       (networkHeld (header .half) sizes metastates arcs) metastates arcs chains
   pub metastates-sized : length metastates ≡ length metastates₀
@@ -69,7 +57,7 @@ pub followed-start : {header : Header} {words columns metastates arcs chains : L
     {number : ℕ} (nodes : List ℕ) (from : ℕ)
     → Holds (header .half) (length (combinationsIn header words))
     (networkHeld (header .half) sizes metastates arcs) metastates arcs chains
-    → NextFollower (cut header columns) (combinationsIn header words) 0 number
+    → NextFollower (matrixIn (header .half) columns) (combinationsIn header words) 0 number
     → Followed header nodes words columns from metastates arcs chains sizes metastates arcs chains sizes number
 followed-start {header} {words} {columns} {metastates} {arcs} {chains} {sizes} nodes from h next = record {
   found = next .found;
@@ -78,8 +66,8 @@ followed-start {header} {words} {columns} {metastates} {arcs} {chains} {sizes} n
   arcs-sized = refl;
   chains-sized = refl;
   rest =
-      ap (entering header nodes words from metastates arcs (networkHeld (header .half) sizes metastates arcs))
-      (followers-skip (cut header columns) (combinationsIn header words) next);
+      ap (enteringAll header nodes words from metastates arcs (networkHeld (header .half) sizes metastates arcs))
+      (followers-skip (matrixIn (header .half) columns) (combinationsIn header words) next);
 }
 
 module _ {header : Header} {nodes words columns : List ℕ} {from : ℕ} {metastates₀ arcs₀ chains₀ : List ℕ}
@@ -122,13 +110,13 @@ module _ {header : Header} {nodes words columns : List ℕ} {from : ℕ} {metast
         done : all ≡ answered now
         done =
             t .rest
-            ∙ ap (entering header nodes words from metastates₀ arcs₀ now)
-            (followers-out (cut header columns) cs number h)
+            ∙ ap (enteringAll header nodes words from metastates₀ arcs₀ now)
+            (followers-out (matrixIn (header .half) columns) cs number h)
 
     -- ---- a follower, and what entering it answers and leaves
 
     module _ (h : number < length cs) {met : Matrix}
-        (m : met ≡ meet (cut header columns) (numbered cs number .matrix)) where
+        (m : met ≡ meet (matrixIn (header .half) columns) (numbered cs number .matrix)) where
       abbrev entered : Outcome Network
       entered =
           perform (nodesBook header nodes) cs (roomOf metastates arcs) now
@@ -139,15 +127,15 @@ module _ {header : Header} {nodes words columns : List ℕ} {from : ℕ} {metast
       unfolding performAll
       first-then =
           t .rest
-          ∙ ap (entering header nodes words from metastates₀ arcs₀ now)
-          (followers-found (cut header columns) cs number (t .found) h)
+          ∙ ap (enteringAll header nodes words from metastates₀ arcs₀ now)
+          (followers-found (matrixIn (header .half) columns) cs number (t .found) h)
           ∙ ap (λ (o : Outcome Network). andThen o (onward (suc number))) same
         where
           same-room : roomOf metastates₀ arcs₀ ≡ roomOf metastates arcs
           same-room = rw (← t .metastates-sized, ← t .arcs-sized)
 
           same : perform (nodesBook header nodes) cs (roomOf metastates₀ arcs₀) now
-              (enter from (metAt (cut header columns) cs number)) ≡ entered
+              (enter from (metAt (matrixIn (header .half) columns) cs number)) ≡ entered
           same = rw (same-room, ← m)
 
       module _ {answer : Step} {metastates′ arcs′ chains′ : List ℕ}
@@ -169,7 +157,7 @@ module _ {header : Header} {nodes words columns : List ℕ} {from : ℕ} {metast
 
           -- it is entered, and the next is looked for
           pub followed-next : {next : Sizes} {number′ : ℕ} → header .half ≤ 3 → answer ≡ step.Next next
-              → NextFollower (cut header columns) cs (number + 1) number′
+              → NextFollower (matrixIn (header .half) columns) cs (number + 1) number′
               → Followed header nodes words columns from metastates₀ arcs₀ chains₀ sizes₀
               metastates′ arcs′ chains′ next number′
           unfolding andThen
@@ -178,8 +166,8 @@ module _ {header : Header} {nodes words columns : List ℕ} {from : ℕ} {metast
               let held = leaves .holds net o in
               let same : networkHeld (header .half) next metastates′ arcs′ ≡ net =
               ap (λ (k : Sizes). networkHeld (header .half) k metastates′ arcs′) (sym s) ∙ held-back few held in
-              let after : NextFollower (cut header columns) cs (suc number) number′ =
-              subst (λ (k : ℕ). NextFollower (cut header columns) cs k number′) (add-one number) further in record {
+              let after : NextFollower (matrixIn (header .half) columns) cs (suc number) number′ =
+              subst (λ (k : ℕ). NextFollower (matrixIn (header .half) columns) cs k number′) (add-one number) further in record {
                 found = further .found;
                 holds =
                     subst (λ (n : Network). Holds (header .half) (length cs) n metastates′ arcs′ chains′)
@@ -190,7 +178,7 @@ module _ {header : Header} {nodes words columns : List ℕ} {from : ℕ} {metast
                 rest =
                     first-then
                     ∙ ap (λ (o : Outcome Network). andThen o (onward (suc number))) o
-                    ∙ ap (entering header nodes words from metastates₀ arcs₀ net)
-                    (followers-skip (cut header columns) cs after)
+                    ∙ ap (enteringAll header nodes words from metastates₀ arcs₀ net)
+                    (followers-skip (matrixIn (header .half) columns) cs after)
                     ∙ ap (onward number′) (sym same);
               }

@@ -1,13 +1,12 @@
 -- Laws about a network held in lent words: read back, it is the same network; and cleared words hold none.
-use mathlib.Core.Path.{_≡_, refl, sym, ap, _∙_}
+use mathlib.Core.Path.{_≡_, refl, ap, _∙_}
 use mathlib.Core.List.{List, [], _++_, map}
 use Prim.Native.Nat.{ℕ, suc, _-_, _*_, _/_, _≤_}
 use native.Mathlib.Omega.{arith}
 use lib.Dec.{lit<}
-use lib.ListN.{length, take, length-replicate, getD-replicate}
+use lib.ListN.{length, length-replicate, getD-replicate}
 use Rattle.definitions.specs.Lists.{_!_, concatMap, records, cleared, padded}
 use Rattle.definitions.specs.Arcs.{arcsIn}
-use Rattle.definitions.specs.Matrices.{matrixWords}
 use Rattle.definitions.specs.Metastates.{Metastate, metastateSize, metastateWords}
 use Rattle.definitions.specs.Building.{roomIn}
 use Rattle.definitions.specs.Connecting.{Network, noNetwork}
@@ -33,8 +32,7 @@ row-length x h = ap suc (words-length (x .matrix) h)
 row-back : (width : ℕ) (x : Metastate) → length (x .matrix) ≡ width → metastateIn width (metastateWords x) ≡ x
 unfolding metastateIn metastateWords
 row-back width x e =
-    metastates-equal _ x refl
-    (ap (λ (n : ℕ). take n (matrixWords (x .matrix))) (sym e) ∙ words-take (x .matrix))
+    metastates-equal _ x refl (words-take (x .matrix) e)
 
 module _ (half : ℕ) (few : half ≤ 3) (xs : List Metastate) (w : AllWide half xs) where
   rows-sized : (x : Metastate) → isIn x xs → length (metastateWords x) ≡ metastateSize

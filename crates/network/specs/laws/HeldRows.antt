@@ -1,7 +1,7 @@
 -- Laws about a network held in lent words: the record of the metastate at a place, and arcs appended.
 use mathlib.Core.Path.{_≡_, refl, sym, ap, ap₂, _∙_}
 use mathlib.Core.List.{List, [], _∷_, _++_, map}
-use Prim.Native.Nat.{ℕ, suc, _+_, _-_, _*_, _/_, _≤_, _<_, min}
+use Prim.Native.Nat.{ℕ, suc, _+_, _-_, _*_, _≤_, _<_}
 use native.Mathlib.Omega.{arith}
 use lib.ListN.{length, take, drop, getD, length-append}
 use lib.Seq.{take-nil, drop-drop, getD-drop, getD-take}
@@ -13,11 +13,9 @@ use Rattle.definitions.specs.Building.{roomIn}
 use Rattle.definitions.specs.Connecting.{Network, noMetastate}
 use Rattle.definitions.specs.laws.Lists.{concatMap-append, map-at}
 use Rattle.definitions.specs.laws.Members.{isIn, in-at}
-use Rattle.definitions.specs.laws.SevenWords.{words-take}
 use Rattle.definitions.specs.laws.Records.{record-at, flat-length, arc-sized}
 use Rattle.network.specs.declared.Arcs.{Arcs}
-use Rattle.matrix.specs.Shapes.{widthOf}
-use Rattle.network.specs.Networks.{Holds}
+use Rattle.network.specs.Networks.{arcRoom, Holds}
 use Rattle.network.specs.Steps.{AreArcs}
 use Rattle.network.specs.laws.HeldBack.{rows-read}
 use Rattle.network.specs.laws.HoldsMore.{put-size, put-used}
@@ -26,12 +24,6 @@ use Rattle.network.specs.laws.PerformedArcs.{withArcs}
 take-rest : (n : ℕ) (l : List ℕ) → take n (drop 1 l) ≡ drop 1 (take (suc n) l)
 take-rest n [] = take-nil n
 take-rest n (y ∷ l) = refl
-
--- the words of the matrix at a place
-abbrev pub matrixPart : (place : ℕ) → (metastates : List ℕ) → List ℕ
-matrixPart place metastates =
-    take (metastateSize * place + metastateSize - (metastateSize * place + 1))
-    (drop (metastateSize * place + 1) metastates)
 
 module _ {half count : ℕ} {net : Network} {metastates arcs chains : List ℕ} (few : half ≤ 3)
     (holds : Holds half count net metastates arcs chains)
@@ -46,7 +38,7 @@ module _ {half count : ℕ} {net : Network} {metastates arcs chains : List ℕ} 
     unfolding roomIn
     metastates-within = omega (arith, holds .metastate-room)
 
-    pub arcs-within : length (net .arcs) ≤ min (length arcs / arcSize) 999999
+    pub arcs-within : length (net .arcs) ≤ arcRoom arcs
     unfolding roomIn
     arcs-within = holds .arc-room
 
@@ -79,24 +71,17 @@ module _ {half count : ℕ} {net : Network} {metastates arcs chains : List ℕ} 
           ∙ sym (getD-take metastateSize (drop (metastateSize * place) metastates) 0 0 (omega arith))
           ∙ ap (λ (l : List ℕ). l ! 0) held-row
 
-      pub held-matrix : matrixPart place metastates ≡ matrixWords (x .matrix)
+      pub held-matrix : take matrixSize (drop (metastateSize * place + 1) metastates) ≡ matrixWords (x .matrix)
       unfolding metastateWords
       held-matrix =
           let at : ℕ = metastateSize * place in
-          let seven : at + metastateSize - (at + 1) ≡ matrixSize = omega arith in
-          ap (λ (n : ℕ). take n (drop (at + 1) metastates)) seven
-          ∙ ap (take matrixSize) (sym (drop-drop 1 at metastates)) ∙ take-rest matrixSize (drop at metastates)
+          ap (take matrixSize) (sym (drop-drop 1 at metastates)) ∙ take-rest matrixSize (drop at metastates)
           ∙ ap (drop 1) held-row
-
-      pub held-width : take (widthOf half) (matrixWords (x .matrix)) ≡ x .matrix
-      held-width =
-          ap (λ (n : ℕ). take n (matrixWords (x .matrix))) (sym (holds .widths x held-in))
-          ∙ words-take (x .matrix)
 
     -- ---- arcs appended
 
     module _ (new : Arcs) (added : List Arc) (are : AreArcs new added)
-        (room : length (net .arcs) + length added ≤ min (length arcs / arcSize) 999999)
+        (room : length (net .arcs) + length added ≤ arcRoom arcs)
       where
         abbrev used : List ℕ
         used = concatMap arcWords (net .arcs)

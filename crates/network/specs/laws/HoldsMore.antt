@@ -3,7 +3,7 @@
 use mathlib.Core.Path.{_≡_, refl, sym, ap, ap₂, _∙_, subst}
 use mathlib.Core.Logic.{⊎-elim}
 use mathlib.Core.List.{List, [], _∷_, _++_, map, map-append}
-use Prim.Native.Nat.{ℕ, _+_, _-_, _*_, _/_, _≤_, _<_, min}
+use Prim.Native.Nat.{ℕ, _+_, _-_, _*_, _≤_, _<_}
 use native.Mathlib.Omega.{arith}
 use lib.ListN.{length, take, drop, length-append, length-replicate, length-map}
 use lib.Seq.{drop-append-add}
@@ -20,7 +20,8 @@ use Rattle.definitions.specs.laws.NetworkKnown.{arcs-length}
 use Rattle.network.specs.declared.Sizes.{Sizes}
 use Rattle.network.specs.Chains.{rowsIn, Linked}
 use Rattle.matrix.specs.Shapes.{widthOf}
-use Rattle.network.specs.Networks.{metastateIn, metastatesIn, networkHeld, sizesOf, Holds}
+use Rattle.network.specs.Networks.{metastateIn, metastatesIn, networkHeld, sizesOf}
+use Rattle.network.specs.Networks.{arcRoom, metastateRoom, Holds}
 use Rattle.network.specs.laws.HeldBack.{row-length, rows-words, rows-all}
 use Rattle.network.specs.laws.Linking.{linkedTo, linked-more}
 
@@ -80,12 +81,12 @@ held-sizes half sizes metastates arcs = λ i. record {
 
 module _ {half count : ℕ} {net : Network} {metastates arcs chains : List ℕ}
     (held : Holds half count net metastates arcs chains) where
-  pub arc-within : {n : ℕ} → n ≡ length (net .arcs) → n ≤ min (length arcs / arcSize) 999999
+  pub arc-within : {n : ℕ} → n ≡ length (net .arcs) → n ≤ arcRoom arcs
   unfolding roomIn
   arc-within e = omega (arith, e, held .arc-room)
 
   pub holds-arc : (a : Arc) {n : ℕ} {arcs′ : List ℕ} → n ≡ length (net .arcs)
-      → n < min (length arcs / arcSize) 999999
+      → n < arcRoom arcs
       → arcs′ ≡ take (arcSize * n) arcs ++ arcWords a ++ drop (arcSize * n + arcSize) arcs
       → (length arcs′ ≡ length arcs) × Holds half count (withArc net a) metastates arcs′ chains
   unfolding roomIn arcWords
@@ -138,7 +139,7 @@ module _ {half count : ℕ} {net : Network} {metastates arcs chains : List ℕ}
         ap rowsIn used ∙ rows-all half few xs (held .widths)
 
     pub holds-metastate : (x : Metastate) {n : ℕ} {metastates′ chains′ : List ℕ} → n ≡ length xs
-        → n < min (length metastates / metastateSize) 65535
+        → n < metastateRoom metastates
         → (isIn x xs → ⊥) → x .number < count → length (x .matrix) ≡ widthOf half
         → metastates′ ≡ take (metastateSize * n) metastates ++ metastateWords x
         ++ drop (metastateSize * n + metastateSize) metastates

@@ -5,6 +5,7 @@ use Prim.Native.Nat.{ℕ, suc, _+_, _-_, _*_, _≤_, _<_}
 use native.Mathlib.Nat.{add-zero, add-mul, mul-le-mul}
 use native.Mathlib.Numerals.{add-one}
 use native.Mathlib.Omega.{arith}
+use lib.Dec.{T}
 use lib.ListN.{length, set, take, drop, length-append, length-drop}
 use lib.Seq.{length-take-le, take-at, sets-eq, getD-drop, ext-getD}
 use Rattle.definitions.specs.declared.Header.{Header}
@@ -13,10 +14,11 @@ use Rattle.definitions.specs.Arcs.{Arc, arc, arcWords, firstState, lastState}
 use Rattle.definitions.specs.BookReading.{nodeSize}
 use Rattle.definitions.specs.Combinations.{combinationSize}
 use Rattle.definitions.specs.Connecting.{ownArcs}
+use Rattle.definitions.specs.ForeignTables.{headerKnown}
 use Rattle.definitions.specs.Metastates.{Metastate, modelsOf}
 use Rattle.definitions.specs.Tables.{nodeOf}
 use Rattle.definitions.specs.laws.Lists.{concatMap-snoc, upFrom-snoc, map-upFrom-length, map-upFrom-at}
-use Rattle.tables.specs.laws.Known.{header-ranges}
+use Rattle.definitions.specs.laws.Known.{header-ranges}
 use Rattle.network.specs.declared.Arcs.{Arcs}
 use Rattle.network.specs.Combinations.{combinationsIn, nodesBook, Usable, Modelled}
 use Rattle.network.specs.Steps.{AreArcs}
@@ -24,13 +26,17 @@ use Rattle.network.specs.laws.RecordWords.{leaf-word, models-length, mod
 
 -- ---- states
 
--- a network's states are few, so that they are words
-pub states-few : (places states : ℕ) → places ≤ 65535 → states ≤ 3 → places * states ≤ 196605
-states-few places states h k = omega (arith, mul-le-mul {n₁ = places} {m₁ = states} {n₂ = 65535} {m₂ = 3} h k)
+module _ (header : Header) (known : T (headerKnown header)) {states : ℕ} (e : states ≡ header .states) where
+  -- a network's states are few, so that they are words
+  pub states-few : (places : ℕ) → places ≤ 65535 → places * states ≤ 196605
+  states-few places h =
+      let few : states ≤ 3 = omega (arith, e, header-ranges header known .states-range .high) in
+      omega (arith, mul-le-mul {n₁ = places} {m₁ = states} {n₂ = 65535} {m₂ = 3} h few)
 
-pub last-state : (place states : ℕ) → 1 ≤ states → 1 + (place + 1) * states ≡ lastState states place
-unfolding lastState firstState
-last-state place states h = omega (arith, add-mul place 1 states)
+  pub last-state : (place : ℕ) → 1 + (place + 1) * states ≡ lastState (header .states) place
+  unfolding lastState firstState
+  last-state place =
+      rw (← e) (omega (arith, e, header-ranges header known .states-range .low, add-mul place 1 states))
 
 -- ---- one arc more
 

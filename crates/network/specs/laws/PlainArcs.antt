@@ -1,6 +1,6 @@
 -- Laws about the arcs that a turn adds first: a metastate's own, and the arc to FINAL where it may end; and
 -- that they are at most three.
-use mathlib.Core.Path.{_≡_, refl, sym, ap, _∙_, subst}
+use mathlib.Core.Path.{_≡_, refl, sym, _∙_, subst}
 use mathlib.Core.List.{List, [], _∷_, _++_, append-nil}
 use mathlib.Core.Bool.{Bool, true, false, not, and-false}
 use Prim.Native.Nat.{ℕ, _+_, _*_, _≤_, _<_}
@@ -15,31 +15,20 @@ use Rattle.definitions.specs.Combinations.{combinationSize}
 use Rattle.definitions.specs.Matrices.{endsHere}
 use Rattle.definitions.specs.Tables.{tablesBook}
 use Rattle.definitions.specs.Metastates.{Metastate, combinationOf, phoneOf, modelsOf, mayEnd}
-use Rattle.definitions.specs.Connecting.{ownArcs, finalArcs}
+use Rattle.definitions.specs.Connecting.{finalArcs}
 use Rattle.definitions.specs.laws.Tests.{by-test, held, failed}
-use Rattle.tables.specs.laws.Known.{header-ranges}
+use Rattle.definitions.specs.laws.Known.{header-ranges}
 use Rattle.network.specs.declared.Arcs.{Arcs}
 use Rattle.network.specs.Combinations.{combinationsIn, nodesBook, Usable, Modelled}
-use Rattle.network.specs.Steps.{AreArcs}
+use Rattle.network.specs.Steps.{AreArcs, ownOf, plainOf}
 use Rattle.network.specs.laws.RecordWords.{phone-word, models-length}
-use Rattle.network.specs.laws.OwnArcs.{own-length, last-state}
-
--- what a turn adds before the arcs to followers
-abbrev pub ownOf : Header → (nodes combinations : List ℕ) → (place : ℕ) → Metastate → List Arc
-ownOf header nodes combinations place x =
-    ownArcs (firstState (header .states) place)
-    (drop 1 (modelsOf (nodesBook header nodes) (combinationsIn header combinations) x))
-
-abbrev pub finalOf : Header → (nodes combinations : List ℕ) → (place : ℕ) → Metastate → List Arc
-finalOf header nodes combinations place x =
-    finalArcs (nodesBook header nodes) (combinationsIn header combinations) place x
+use Rattle.network.specs.laws.OwnArcs.{own-length}
 
 module _ (header : Header) (nodes combinations : List ℕ) (usable : Usable header combinations) (place : ℕ)
     (x : Metastate) (h : x .number < length (combinationsIn header combinations))
   where
     abbrev Plain : Arcs → Type 0
-    Plain new =
-        AreArcs new (ownOf header nodes combinations place x ++ finalOf header nodes combinations place x)
+    Plain new = AreArcs new (plainOf header nodes combinations place x)
 
     -- a metastate's own arcs are those of its number
     abbrev Own : Arcs → Type 0
@@ -70,23 +59,17 @@ module _ (header : Header) (nodes combinations : List ℕ) (usable : Usable head
         no-final (rw (failed e n) (and-false silent)) own
 
     -- the arc to FINAL
-    pub plain-final : {phone states : ℕ} {answer : Bool} {new more : Arcs}
+    pub plain-final : {phone last : ℕ} {answer : Bool} {new more : Arcs}
         → phone ≡ combinations ! (combinationSize * x .number) → phone ≡ 1
         → answer ≡ endsHere (header .half) (x .matrix) → not answer ≡ false
-        → states ≡ header .states → Own new
-        → ((arcs : List Arc) → AreArcs new arcs
-        → AreArcs more (arcs ++ (arc (1 + (place + 1) * states) 1 0 0 ∷ [])))
-        → Plain more
+        → last ≡ lastState (header .states) place → Own new
+        → ((arcs : List Arc) → AreArcs new arcs → AreArcs more (arcs ++ (arc last 1 0 0 ∷ []))) → Plain more
     unfolding mayEnd tablesBook finalArcs modelsOf combinationOf
-    plain-final {phone} {states} {answer} {new} {more} e one a n s own grows =
-        let ranges = header-ranges header (usable .header-known) in
-        let some : 1 ≤ states = omega (arith, s, ranges .states-range .low) in
-        let last : 1 + (place + 1) * states ≡ lastState (header .states) place =
-        last-state place states some ∙ ap (λ (k : ℕ). lastState k place) s in
+    plain-final {more = more} e one a n s own grows =
         let ends : mayEnd (nodesBook header nodes) (combinationsIn header combinations) x ≡ true =
         rw (eq-eqb _ 1 (sym (phone-is e) ∙ one), held a n) in
         subst (λ (k : List Arc). AreArcs more (ownOf header nodes combinations place x ++ k))
-        (rw (ends, last)) (grows _ own)
+        (rw (ends, s)) (grows _ own)
 
     -- ---- there are few
 
@@ -108,7 +91,10 @@ module _ (header : Header) (nodes combinations : List ℕ) (usable : Usable head
       own-count-few own =
           omega (arith, own .counted, own-few (record { number = x .number; matrix = [] }) refl)
 
-      final-few : length (finalOf header nodes combinations place x) ≤ 1
+      abbrev final : List Arc
+      final = finalArcs (nodesBook header nodes) (combinationsIn header combinations) place x
+
+      final-few : length final ≤ 1
       unfolding finalArcs
       final-few =
           by-test (mayEnd (nodesBook header nodes) (combinationsIn header combinations) x)
@@ -121,5 +107,5 @@ module _ (header : Header) (nodes combinations : List ℕ) (usable : Usable head
             plain .counted,
             own-few x refl,
             final-few,
-            length-append (ownOf header nodes combinations place x) (finalOf header nodes combinations place x),
+            length-append (ownOf header nodes combinations place x) final,
           )

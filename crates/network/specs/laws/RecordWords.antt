@@ -6,7 +6,7 @@ use mathlib.Core.Bool.{Bool, true, false}
 use Prim.Native.Nat.{ℕ, suc, _+_, _*_, _/_, _≤_, _<_}
 use native.Mathlib.Omega.{arith}
 use lib.Dec.{eqb, lit<}
-use lib.ListN.{length, take, drop, length-append, length-map, length-take, length-drop}
+use lib.ListN.{length, take, drop, length-append, length-map, length-take}
 use lib.ListN.{List·getD-append}
 use lib.Seq.{drop-drop, drop-at, getD-drop, getD-take}
 use Rattle.definitions.specs.declared.Header.{Header}
@@ -20,25 +20,16 @@ use Rattle.definitions.specs.Lookup.{modelAt}
 use Rattle.definitions.specs.Combinations.{Combination, combinationSize, combinationWords}
 use Rattle.definitions.specs.Metastates.{Metastate, noCombination, combinationOf, modelsOf}
 use Rattle.definitions.specs.laws.Books.{InRange}
-use Rattle.definitions.specs.laws.Lists.{concatMap-map, padded-length, padded-take, map-at, drop-take}
+use Rattle.definitions.specs.laws.Lists.{concatMap-map, padded-length, map-at, drop-take}
 use Rattle.definitions.specs.laws.Records.{records-length, record-at, record-again}
 use Rattle.definitions.specs.laws.SevenWords.{padded-column, words-length}
-use Rattle.tables.specs.laws.Known.{header-ranges}
 use Rattle.tables.specs.laws.KnownTables.{node-is}
-use Rattle.matrix.specs.Shapes.{widthOf}
+use Rattle.matrix.specs.Shapes.{matrixIn}
 use Rattle.definitions.specs.laws.Walks.{model-at}
 use Rattle.definitions.specs.laws.Metastates.{numbered}
+use Rattle.definitions.specs.laws.Known.{header-ranges}
 use Rattle.network.specs.Combinations.{combinationIn, combinationsIn, nodesBook}
 use Rattle.network.specs.Combinations.{Usable, Modelled}
-
--- seven words that are there, read as a matrix
-pub seven-words : (words : List ℕ) (from count : ℕ) {columns : List ℕ} → from + matrixSize ≤ length words
-    → count ≡ matrixSize → columns ≡ take matrixSize (padded matrixSize (take count (drop from words)))
-    → columns ≡ take matrixSize (drop from words)
-seven-words words from count h e q =
-    let part : List ℕ = take count (drop from words) in
-    let sized : matrixSize ≡ length part = sym (simp (length-take, length-drop) (omega arith)) in
-    q ∙ padded-take matrixSize matrixSize part sized ∙ ap (λ (k : ℕ). take k (drop from words)) e
 
 -- the model of a node that is a leaf
 leaf-value : (node : Node) (model : ℕ) → treeNode node ≡ leaf model → node .value ≡ model
@@ -80,7 +71,7 @@ module _ (header : Header) (words : List ℕ) where
     unfolding again combinationWords combinationIn
     again-length part =
         let leaves : List ℕ = take (header .states) (drop 1 part) in
-        let matrix : List ℕ = take (widthOf (header .half)) (drop 4 part) in
+        let matrix : List ℕ = matrixIn (header .half) (drop 4 part) in
         let three : length (padded 3 leaves) ≡ 3 =
         padded-length 3 leaves (simp length-take (omega (arith, ranges .states-range .high))) in
         let seven : length (matrixWords matrix) ≡ 7 =

@@ -27,9 +27,9 @@ use Rattle.definitions.specs.laws.Tables.{tree-nodes-length}
 use Rattle.definitions.specs.demand.Chosen.{Chosen, chosen-at}
 use Rattle.metastates.specs.Answers.{endsOf}
 use Rattle.tables.specs.Lending.{lentTables}
-use Rattle.tables.specs.laws.Known.{header-ranges}
-use Rattle.matrix.specs.Shapes.{widthOf}
-use Rattle.tables.specs.laws.KnownSound.{known-header, known-sound}
+use Rattle.definitions.specs.laws.Known.{header-ranges}
+use Rattle.matrix.specs.Shapes.{matrixIn}
+use Rattle.tables.specs.laws.KnownTables.{known-header, known-sound}
 use Rattle.definitions.specs.laws.Metastates.{numbered}
 use Rattle.network.specs.Combinations.{combinationIn, combinationsIn, IsCombination}
 use Rattle.network.specs.Combinations.{nodesBook, Usable, Modelled, EndsAt, Ending}
@@ -61,13 +61,12 @@ module _ (header : Header) (ranged : InRange header) where
         (append-assoc (c .leaves) (cleared (3 - length (c .leaves))) (matrixWords (c .matrix)))
         ∙ take-at (c .leaves) _ (header .states) (choice .states)
 
-    matrix-back : take (widthOf (header .half)) (drop 3 (padded 3 (c .leaves) ++ matrixWords (c .matrix)))
+    matrix-back : matrixIn (header .half) (drop 3 (padded 3 (c .leaves) ++ matrixWords (c .matrix)))
         ≡ c .matrix
     matrix-back =
-        ap (take (widthOf (header .half)))
+        ap (matrixIn (header .half))
         (drop-at (padded 3 (c .leaves)) (matrixWords (c .matrix)) 3 (padded-length 3 (c .leaves) few-leaves))
-        ∙ ap (λ (n : ℕ). take n (matrixWords (c .matrix))) (sym (choice .width))
-        ∙ words-take (c .matrix)
+        ∙ words-take (c .matrix) (choice .width)
 
     choice-back : combinationIn header (combinationWords c) ≡ c
     unfolding combinationIn combinationWords

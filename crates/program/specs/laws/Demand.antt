@@ -30,7 +30,7 @@ use Rattle.definitions.specs.construction.Turns.{program-never-stopped}
 use Rattle.definitions.specs.demand.Demand.{Demand3, demand3}
 use Rattle.nettext.specs.laws.RoundTrips.{built-read}
 use Rattle.program.specs.Printing.{Prints}
-use Rattle.program.specs.Demand.{MeetsDemand3}
+use Rattle.program.specs.Demand.{PrintsDemand3}
 
 -- the line of a refusal begins with an X
 refusal-begins : (r : Refusal) → refusalText r ! 0 ≡ code "W" → ⊥
@@ -50,7 +50,7 @@ module _ (input : List ℕ) where
       → (built : Built)
       → build (headerOf lines) (tablesLeft programLent (answered lines)) programSpace programTurns
       ≡ answered built
-      → MeetsDemand3 input (textOfBuilt (headerOf lines .states) built)
+      → PrintsDemand3 input (textOfBuilt (headerOf lines .states) built)
   unfolding textOfBuilt networkIn
   built-demand lines accepted (stopped turns net) builds w =
       absurd (program-never-stopped (headerOf lines) (tablesLeft programLent (answered lines)) turns net builds)
@@ -70,7 +70,7 @@ module _ (input : List ℕ) where
       )
 
   book-demand : (b : BookBuilt) → buildBook programLent programSpace programTurns input ≡ answered b
-      → MeetsDemand3 input (textOfBuilt (headerOf (b .lines) .states) (b .built))
+      → PrintsDemand3 input (textOfBuilt (headerOf (b .lines) .states) (b .built))
   unfolding buildBook buildRead
   book-demand b e =
       let (lines, accepted, rest) =
@@ -79,16 +79,16 @@ module _ (input : List ℕ) where
       let (built, builds, same) =
       andThen-answered (build (headerOf lines) tables programSpace programTurns) _ b rest in
       let whole : record { lines = lines; built = built } ≡ b = cc in
-      subst (λ (b : BookBuilt). MeetsDemand3 input (textOfBuilt (headerOf (b .lines) .states) (b .built))) whole
+      subst (λ (b : BookBuilt). PrintsDemand3 input (textOfBuilt (headerOf (b .lines) .states) (b .built))) whole
       (built-demand lines accepted built builds)
 
   printed-demand : (o : Outcome BookBuilt) → buildBook programLent programSpace programTurns input ≡ o
-      → MeetsDemand3 input (printed (networkOf o))
+      → PrintsDemand3 input (printed (networkOf o))
   unfolding networkOf andThen printed
   printed-demand (answered b) e = book-demand b e
   printed-demand (refused r) e = λ w. absurd (refusal-begins r w)
 
-  program-demand : MeetsDemand3 input (program input)
+  program-demand : PrintsDemand3 input (program input)
   program-demand =
       by-test (ltb 65536 (length input))
       (λ e. rw (program-long input (ltb-true 65536 (length input) e))
@@ -98,7 +98,7 @@ module _ (input : List ℕ) where
 
   -- so it holds of the bytes that are printed
   pub prints-demand : (output : List ℕ) (count : ℕ) → Prints (program input) output count
-      → MeetsDemand3 input (take count output)
+      → PrintsDemand3 input (take count output)
   unfolding padded
   prints-demand output count (left, e) =
       let same : take count output ≡ program input =

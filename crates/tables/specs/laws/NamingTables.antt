@@ -18,10 +18,10 @@ use Rattle.definitions.specs.Tables.{nodeOf, treeNode, tablesBook}
 use Rattle.definitions.specs.ForeignTables.{headerKnown, namedOnce}
 use Rattle.definitions.specs.laws.Tables.{tree-nodes-length}
 use Rattle.definitions.specs.laws.Books.{roots-few}
+use Rattle.definitions.specs.laws.Known.{header-ranges}
 use Rattle.tables.specs.Lending.{lentTables}
 use Rattle.tables.specs.Naming.{allNames, countsOf, namedAgain, namedAll, firstMisnamed}
 use Rattle.tables.specs.laws.Records.{treeNodes, recordsFrom, records-start, records-next, records-end}
-use Rattle.tables.specs.laws.Known.{header-ranges}
 use Rattle.tables.specs.laws.Naming.{counts-none, counts-named, named-append, named-length}
 use Rattle.tables.specs.laws.Naming.{again-length, firstOrphan, orphans-test, children-length}
 

@@ -10,11 +10,12 @@ use lib.Dec.{T, ltb, ltb→lt}
 use lib.ListN.{take}
 use lib.Seq.{getD-take, length-take-le}
 use Rattle.definitions.specs.declared.Header.{Header}
-use Rattle.definitions.specs.Lists.{_!_, every}
+use Rattle.definitions.specs.Lists.{_!_}
 use Rattle.definitions.specs.BookLines.{rootCount}
-use Rattle.definitions.specs.ForeignTables.{holdsOnly, rootTableKnown}
-use Rattle.definitions.specs.laws.Tests.{T-and, every-at}
+use Rattle.definitions.specs.ForeignTables.{rootTableKnown}
+use Rattle.definitions.specs.laws.Tests.{every-at}
 use Rattle.definitions.specs.laws.Known.{holds-padded}
+use Rattle.definitions.specs.laws.KnownBooks.{root-table-parts}
 
 tree-place : (header : Header) (phone state : ℕ) → 1 ≤ phone → phone ≤ header .phones → 1 ≤ state
     → state ≤ header .states → (phone - 1) * header .states + (state - 1) < rootCount header
@@ -33,15 +34,14 @@ pub record TreeRoot (header : Header) (roots : List ℕ) (phone state root : ℕ
 pub root-fits : (header : Header) (roots : List ℕ) → T (rootTableKnown header roots)
     → {phone state root : ℕ} → 1 ≤ phone → phone ≤ header .phones → 1 ≤ state → state ≤ header .states
     → root ≡ roots ! ((phone - 1) * header .states + (state - 1)) → TreeRoot header roots phone state root
-unfolding rootTableKnown
 root-fits header roots h {phone} {state} {root} a b c d e =
     let test : (ℕ → Bool) = λ root. ltb root (header .nodes) in
     let count : ℕ = rootCount header in
     let place : ℕ = (phone - 1) * header .states + (state - 1) in
     let inside = tree-place header phone state a b c d in
-    let parts = T-and (holdsOnly count roots) (every test (take count roots)) .0 h in
-    let wide = holds-padded count roots (parts .0) .0 in
+    let (words-held, below-nodes) = root-table-parts header roots h in
+    let wide = holds-padded count roots words-held .0 in
     let own : root ≡ take count roots ! place = e ∙ sym (getD-take count roots place 0 inside) in
-    let below = every-at test (take count roots) 0 (parts .1) place
+    let below = every-at test (take count roots) 0 below-nodes place
     (rw (length-take-le count roots wide) inside) in
     record { own = own; listed = rw own (ltb→lt _ _ below) }

@@ -1,6 +1,6 @@
 -- Laws about the answers of the lookup and the transcription, one for each way that the code returns.
 use mathlib.Core.Path.{_≡_, refl, sym, ap, _∙_}
-use mathlib.Core.List.{List, _++_}
+use mathlib.Core.List.{List, _++_, map}
 use mathlib.Core.Bool.{Bool, true, false, _&&_, false≢true}
 use Prim.Native.Nat.{ℕ, _-_, _*_, _/_, _≤_, _<_}
 use native.Mathlib.Nat.{div-lt-iff-lt-mul}
@@ -9,6 +9,7 @@ use lib.Dec.{T, leb, ltb, eqb, ltb→lt}
 use lib.ListN.{length, drop}
 use borrow.Author.Tests.{le-leb, lt-leb, ltb-true, ltb-false}
 use Rattle.definitions.specs.declared.Header.{Header}
+use Rattle.definitions.specs.declared.Node.{Node}
 use Rattle.definitions.specs.declared.Fault.{Fault}
 use Rattle.definitions.specs.declared.Fault.the-variants.{Foreign, Range, Utterance, Short}
 use Rattle.definitions.specs.declared.Refusal.{Refusal}
@@ -16,7 +17,7 @@ use Rattle.definitions.specs.Faults.{refuse, judge, answerLeft}
 use Rattle.definitions.specs.Lists.{every, cleared, padded}
 use Rattle.definitions.specs.BookLines.{isPhone}
 use Rattle.definitions.specs.BookReading.{nodeSize}
-use Rattle.definitions.specs.Tables.{Tables, nodeRecords, tablesBook}
+use Rattle.definitions.specs.Tables.{Tables, treeNode, nodeRecords, tablesBook}
 use Rattle.definitions.specs.ForeignTables.{headerKnown, nodesKnown, holdsOnly, classTableKnown, tablesKnown}
 use Rattle.definitions.specs.Lookup.{leafReached, lookupKnown, isContext, leafLookup, leafLookupInTable}
 use Rattle.definitions.specs.TreesGive.{silentEnds}
@@ -28,7 +29,8 @@ use Rattle.trees.specs.declared.Transcript.{Transcript}
 use Rattle.trees.specs.declared.Transcript.the-variants as transcript
 use Rattle.trees.specs.Answers.{lookupOf, transcriptOf}
 use Rattle.tables.specs.laws.Records.{treeNodes}
-use Rattle.tables.specs.laws.KnownTables.{classes-wide, tables-fit}
+use Rattle.tables.specs.laws.KnownTables.{tables-fit}
+use Rattle.trees.specs.laws.Agreement.{tables-agree}
 use Rattle.trees.specs.laws.Models.{transcription-length}
 
 abbrev at-no-line : Fault → Refusal
@@ -38,45 +40,76 @@ both : (a b : Bool) → (a && b) ≡ true → (a ≡ true) × (b ≡ true)
 both true b e = (refl, e)
 both false b e = absurd (false≢true e)
 
--- ---- the lookup: 18, then 13
+-- ---- the lookup over records: 18, then 13
 
-module _ (header : Header) (nodes classes : List ℕ) (root : ℕ) (context : List ℕ) where
+module _ (header : Header) (classes : List ℕ) (nodes : List Node) (root : ℕ) (context : List ℕ) where
+  pub records-foreign : lookupKnown header classes nodes root ≡ false
+      → lookup.Refused (at-no-line Foreign) ≡ lookupOf (leafLookup header classes nodes root context)
+  unfolding leafLookup judge lookupOf
+  records-foreign h = rw h
+
+  module _ (h : lookupKnown header classes nodes root ≡ true) where
+    pub records-range : isContext header context ≡ false
+        → lookup.Refused (at-no-line Range) ≡ lookupOf (leafLookup header classes nodes root context)
+    unfolding leafLookup judge lookupOf
+    records-range e = rw (h, e)
+
+    pub records-leaf : isContext header context ≡ true → (leaf : ℕ)
+        → leaf ≡ leafReached (map treeNode nodes) classes context root
+        → lookup.Leaf leaf ≡ lookupOf (leafLookup header classes nodes root context)
+    unfolding leafLookup judge lookupOf
+    records-leaf e leaf own = rw (h, e, own)
+
+    -- what a walk asks of the records
+    pub records-fit : T (nodesKnown header 0 nodes) × (root < header .nodes)
+    unfolding lookupKnown
+    records-fit =
+        let all : T (lookupKnown header classes nodes root) = rw h tt in
+        let counted : Bool = eqb (length nodes) (header .nodes) in
+        let known : Bool = nodesKnown header 0 nodes in
+        let last = T-three (headerKnown header && counted && known) (classTableKnown header classes)
+        (ltb root (header .nodes)) .0 all in
+        (T-three (headerKnown header) counted known .0 (last .0) .2, ltb→lt _ _ (last .2))
+
+-- ---- the same over the table of their words
+
+module _ (header : Header) (words classes : List ℕ) (root : ℕ) (context : List ℕ) where
   abbrev held : Bool
-  held = holdsOnly (nodeSize * header .nodes) nodes
+  held = holdsOnly (nodeSize * header .nodes) words
 
   abbrev known : Bool
-  known = lookupKnown header classes (nodeRecords header nodes) root
+  known = lookupKnown header classes (nodeRecords header words) root
+
+  in-table : held ≡ true
+      → lookupOf (leafLookup header classes (nodeRecords header words) root context)
+      ≡ lookupOf (leafLookupInTable header classes words root context)
+  in-table e = ap lookupOf (sym (tables-agree header classes words root context (rw e tt)))
 
   pub lookup-foreign : (held && known) ≡ false
-      → lookup.Refused (at-no-line Foreign) ≡ lookupOf (leafLookupInTable header classes nodes root context)
-  unfolding leafLookupInTable leafLookup judge lookupOf
+      → lookup.Refused (at-no-line Foreign) ≡ lookupOf (leafLookupInTable header classes words root context)
+  unfolding leafLookupInTable judge lookupOf
   lookup-foreign h =
-      by-test held (λ e. let other : known ≡ false = rw e at h in rw (e, other)) (λ e. rw e)
+      by-test held
+      (λ e. let other : known ≡ false = rw e at h in
+      records-foreign header classes (nodeRecords header words) root context other ∙ in-table e)
+      (λ e. rw e)
 
   module _ (h : (held && known) ≡ true) where
     pub lookup-range : isContext header context ≡ false
-        → lookup.Refused (at-no-line Range) ≡ lookupOf (leafLookupInTable header classes nodes root context)
-    unfolding leafLookupInTable leafLookup judge lookupOf
-    lookup-range e = let parts = both held known h in rw (parts .0, parts .1, e)
+        → lookup.Refused (at-no-line Range) ≡ lookupOf (leafLookupInTable header classes words root context)
+    lookup-range e =
+        let (words-held, all) = both held known h in
+        records-range header classes (nodeRecords header words) root context all e ∙ in-table words-held
 
     pub lookup-leaf : isContext header context ≡ true → (leaf : ℕ)
-        → leaf ≡ leafReached (treeNodes header nodes) classes context root
-        → lookup.Leaf leaf ≡ lookupOf (leafLookupInTable header classes nodes root context)
-    unfolding leafLookupInTable leafLookup judge lookupOf
-    lookup-leaf e leaf own = let parts = both held known h in rw (parts .0, parts .1, e, own)
+        → leaf ≡ leafReached (treeNodes header words) classes context root
+        → lookup.Leaf leaf ≡ lookupOf (leafLookupInTable header classes words root context)
+    lookup-leaf e leaf own =
+        let (words-held, all) = both held known h in
+        records-leaf header classes (nodeRecords header words) root context all e leaf own ∙ in-table words-held
 
-    -- what a walk asks of the tables
-    pub lookup-fits : T (nodesKnown header 0 (nodeRecords header nodes)) × (header .classes ≤ length classes)
-        × (root < header .nodes)
-    unfolding lookupKnown
-    lookup-fits =
-        let all : T known = rw (both held known h .1) tt in
-        let counted : Bool = eqb (length (nodeRecords header nodes)) (header .nodes) in
-        let records : Bool = nodesKnown header 0 (nodeRecords header nodes) in
-        let last = T-three (headerKnown header && counted && records) (classTableKnown header classes)
-        (ltb root (header .nodes)) .0 all in
-        let first = T-three (headerKnown header) counted records .0 (last .0) in
-        (first .2, classes-wide header classes (last .1), ltb→lt _ _ (last .2))
+    pub lookup-fits : T (nodesKnown header 0 (nodeRecords header words)) × (root < header .nodes)
+    lookup-fits = records-fit header classes (nodeRecords header words) root context (both held known h .1)
 
 -- ---- the transcription: 18, then 41, then 33
 

@@ -16,7 +16,7 @@ use Rattle.definitions.specs.BookLines.{TreeNode, rootCount, isPhone}
 use Rattle.definitions.specs.BookReading.{nodeSize}
 use Rattle.definitions.specs.Tables.{Book, nodeOf, tablesBook}
 use Rattle.definitions.specs.Lookup.{leafReached, modelAt, isContext}
-use Rattle.definitions.specs.Combinations.{rootOf}
+use Rattle.definitions.specs.Tables.{rootOf}
 use Rattle.definitions.specs.TreesGive.{withSilence, contexts}
 use Rattle.definitions.specs.Transcription.{modelOf, transcription}
 use Rattle.definitions.specs.laws.Tests.{T-and, eq→eqb}

@@ -1,9 +1,13 @@
 -- `taking::finish` meets its contract, by what is missing or misnamed.
-use mathlib.Core.Path.{sym}
+use mathlib.Core.Path.{_≡_, sym}
+use mathlib.Core.Bool.{true}
 use native.Mathlib.Omega.{arith}
+use lib.ListN.{take}
 use lib.Seq.{length-take-le}
 use borrow.Author.Needs.{needs}
 use Rattle.definitions.specs.laws.Tests.{held, failed}
+use Rattle.tables.specs.Naming.{firstMisnamed}
+use Rattle.book.specs.States.{completeIn}
 use Rattle.book.specs.laws.Taking.{finish-early, finish-orphan, finish-fine}
 use Rattle.book.proofs.taking.finish.Statement.{statement}
 use Rattle.book.proofs.taking.finish.Tie as tie
@@ -31,21 +35,26 @@ add-t14 c =
     let start = c .before .before .before .before .before .before .before .before in
     omega (arith, start .pre .last-node (omega arith))
 
+-- where the counts were looked through: no line is missing, and which node is the first misnamed
+abbrev startOf : tie.After-first-misnamed → tie.Start
+startOf c = c .before .before .before .before .before .before
+
+all-there : (c : tie.After-first-misnamed) → completeIn (startOf c .args .s) ≡ true
+all-there c =
+    let whole = c .before .before .before in held (whole .before .complete .ensures) (whole .if1 .left)
+
+first-is : (c : tie.After-first-misnamed)
+    → c .first-misnamed .result
+    ≡ firstMisnamed (take (startOf c .args .s .nodes) (startOf c .args .counts .now))
+first-is c = rw (c .before .before .wide .ensures) at (c .first-misnamed .ensures)
+
 returns-2 : tie.Need-returns-2
 returns-2 c =
-    let found = c .before .before in
-    let whole = found .before .before .before in
-    let all = held (whole .before .complete .ensures) (whole .if1 .left) in
-    let node = rw (found .before .before .wide .ensures) at (found .first-misnamed .ensures) in
-    finish-orphan _ _ _ all node (omega arith)
+    let found = c .before .before in finish-orphan _ _ _ (all-there found) (first-is found) (omega arith)
 
 returns-3 : tie.Need-returns-3
 returns-3 c =
-    let found = c .before .before in
-    let whole = found .before .before .before in
-    let all = held (whole .before .complete .ensures) (whole .if1 .left) in
-    let node = rw (found .before .before .wide .ensures) at (found .first-misnamed .ensures) in
-    finish-fine _ _ _ all node (omega arith)
+    let found = c .before .before in finish-fine _ _ _ (all-there found) (first-is found) (omega arith)
 
 pub finish-spec : {M : Type 1} → statement M
 finish-spec =

@@ -59,11 +59,11 @@ returns c =
 enum-known-reading-2 : tie.Need-enum-known-reading-2
 enum-known-reading-2 c = search needs
 
-clear-sets-requires : tie.Need-clear-sets-requires
-clear-sets-requires c κs = search needs
+clear-wide-words-requires : tie.Need-clear-wide-words-requires
+clear-wide-words-requires c κs = search needs
 
-clear-sets-requires-2 : tie.Need-clear-sets-requires-2
-clear-sets-requires-2 c κs = search needs
+clear-wide-words-requires-2 : tie.Need-clear-wide-words-requires-2
+clear-wide-words-requires-2 c κs = search needs
 
 clear-words-requires : tie.Need-clear-words-requires
 clear-words-requires c κs = search needs
@@ -96,7 +96,7 @@ returns-2 c =
     let s = start read in
     refused-returns (lent s) (space s) (s .args .limit) (s .args .text .now)
     (read .read .ensures .0) (read .read .ensures .1) _ (refused .reading2 .given .1) _ _ _
-    (first .clear-sets .ensures) (second .clear-sets2 .ensures) (third .clear-words .ensures)
+    (first .clear-wide-words .ensures) (second .clear-wide-words2 .ensures) (third .clear-words .ensures)
 
 pub build-book-spec : {M : Type 1} → statement M
 build-book-spec =
@@ -113,8 +113,8 @@ build-book-spec =
     same-length-6
     returns
     enum-known-reading-2
-    clear-sets-requires
-    clear-sets-requires-2
+    clear-wide-words-requires
+    clear-wide-words-requires-2
     clear-words-requires
     same-length-7
     same-length-8

@@ -78,8 +78,8 @@ enum-known-answer-3 c = search needs
 clear-words-requires : tie.Need-clear-words-requires
 clear-words-requires c κs = search needs
 
-clear-sets-requires : tie.Need-clear-sets-requires
-clear-sets-requires c κs = search needs
+clear-wide-words-requires : tie.Need-clear-wide-words-requires
+clear-wide-words-requires c κs = search needs
 
 clear-words-requires-2 : tie.Need-clear-words-requires-2
 clear-words-requires-2 c κs = search needs
@@ -110,7 +110,7 @@ returns-3 c =
     let refused = first .before .before .before in
     let built = refused .before .before .before .before .before .before .before .before in
     let k = refused-kept _ _ (tables built) (built .build .ensures .0) _ (refused .answer3 .given .1) _ _ _
-    (first .clear-words .ensures) (second .clear-sets .ensures) (third .clear-words2 .ensures) in
+    (first .clear-words .ensures) (second .clear-wide-words .ensures) (third .clear-words2 .ensures) in
     (k .0, (k .1, built .build .ensures .1))
 
 pub build-read-spec : {M : Type 1} → statement M
@@ -136,7 +136,7 @@ build-read-spec =
     returns-2
     enum-known-answer-3
     clear-words-requires
-    clear-sets-requires
+    clear-wide-words-requires
     clear-words-requires-2
     same-length-13
     same-length-14

@@ -7,7 +7,8 @@ use lib.ListN.{length, take}
 use lib.Seq.{getD-take, length-take-le}
 use borrow.Author.Tests.{le-leb, lt-leb}
 use borrow.Author.Needs.{needs}
-use Rattle.definitions.specs.Lists.{every}
+use Rattle.definitions.specs.Lists.{_!_, every}
+use Rattle.lines.specs.declared.Row.{Row}
 use Rattle.lines.specs.laws.Passing.{Passed, passed-start, passed-more, passed-stop, passed-end}
 use Rattle.lines.specs.laws.Rows.{isSmall, writable-many, writable-few}
 use Rattle.lines.proofs.writing.is_writable.Statement.{statement}
@@ -18,6 +19,23 @@ Inv-loop used numbers i₀ i = Passed isSmall (take used numbers) (every isSmall
 
 abbrev μ-loop : tie.MeasureT-loop
 μ-loop used numbers i₀ i = used - i
+
+-- in a turn and after the last: as many numbers as are used
+abbrev rowAt : tie.At-loop Inv-loop μ-loop → Row
+rowAt c = c .before .before .before .args .row
+
+many : (c : tie.At-loop Inv-loop μ-loop) → length (take (rowAt c .used) (rowAt c .numbers)) ≡ rowAt c .used
+many c =
+    let five : length (rowAt c .numbers) ≡ 5 = search needs in
+    length-take-le (rowAt c .used) (rowAt c .numbers) (omega arith)
+
+-- in a turn: the number that it asks for
+number-at : (c : tie.In-loop Inv-loop μ-loop)
+    → take (rowAt (c .before) .used) (rowAt (c .before) .numbers) ! c .before .loop .i
+    ≡ rowAt (c .before) .numbers ! c .before .loop .i
+number-at c =
+    let row = rowAt (c .before) in
+    getD-take (row .used) (row .numbers) (c .before .loop .i) 0 (c .loop-test .taken)
 
 returns : tie.Need-returns Inv-loop μ-loop
 returns c = writable-many (c .before .args .row) (c .if1 .taken)
@@ -33,13 +51,10 @@ array-read-if2 c = search needs
 
 returns-2 : tie.Need-returns-2 Inv-loop μ-loop
 returns-2 c =
-    let row = c .before .before .before .before .before .args .row in
-    let five : length (row .numbers) ≡ 5 = search needs in
-    let at = c .before .before .loop in
-    let many = length-take-le (row .used) (row .numbers) (omega arith) in
-    passed-stop 0 (at .inv) (omega (arith, many))
-    (rw (getD-take (row .used) (row .numbers) (at .i) 0 (omega arith)) (lt-leb _ _ (c .if2 .taken)))
-    ∙ writable-few row (omega arith)
+    let turn = c .before .before in
+    passed-stop 0 (turn .loop .inv) (omega (arith, many turn))
+    (rw (number-at (c .before)) (lt-leb _ _ (c .if2 .taken)))
+    ∙ writable-few (rowAt turn) (omega arith)
 
 add-i : tie.Need-add-i Inv-loop μ-loop
 add-i c = search needs
@@ -49,20 +64,14 @@ loop-less c = search needs
 
 loop-again : tie.Need-loop-again Inv-loop μ-loop
 loop-again c =
-    let row = c .before .before .before .before .before .args .row in
-    let five : length (row .numbers) ≡ 5 = search needs in
-    let at = c .before .before .loop in
-    let many = length-take-le (row .used) (row .numbers) (omega arith) in
-    passed-more 0 (at .inv) (omega (arith, many))
-    (rw (getD-take (row .used) (row .numbers) (at .i) 0 (omega arith)) (le-leb _ _ (c .if2 .left)))
+    let turn = c .before .before in
+    passed-more 0 (turn .loop .inv) (omega (arith, many turn))
+    (rw (number-at (c .before)) (le-leb _ _ (c .if2 .left)))
 
 returns-3 : tie.Need-returns-3 Inv-loop μ-loop
 returns-3 c =
-    let row = c .before .before .before .before .args .row in
-    let five : length (row .numbers) ≡ 5 = search needs in
-    let at = c .before .loop in
-    let many = length-take-le (row .used) (row .numbers) (omega arith) in
-    passed-end (at .inv) (omega (arith, many)) ∙ writable-few row (omega arith)
+    let last = c .before in
+    passed-end (last .loop .inv) (omega (arith, many last)) ∙ writable-few (rowAt last) (omega arith)
 
 pub is-writable-spec : {M : Type 1} → statement M
 is-writable-spec =

@@ -5,7 +5,7 @@ use Prim.Native.Nat.{_-_}
 use native.Mathlib.Omega.{arith}
 use lib.ListN.{length}
 use borrow.Author.Needs.{needs}
-use Rattle.matrix.specs.laws.Words.{Alike, same-lengths, alike-start, alike-more, alike-stop, alike-end}
+use Rattle.definitions.specs.laws.Same.{Alike, same-lengths, alike-start, alike-more, alike-stop, alike-end}
 use Rattle.matrix.proofs.words.is_numbered.Statement.{statement}
 use Rattle.matrix.proofs.words.is_numbered.Tie as tie
 

@@ -80,12 +80,9 @@ choose-loop-holds t c =
     let pre = start .pre .1 in
     let choice = start .args .choice in
     let three : length (choice .leaves) ≡ 3 = search needs in
-    let fitting = start .good .1 .1 .1 .1 .1 .0 in
-    let seven : length (choice .matrix .columns) ≡ 7 = search needs in
     choosing-start (record {
       chosen = pre .1;
       three = three;
-      seven = seven;
       some = c .before .before .if1 .left;
       few = pre .2;
       first-is = pre .3;
@@ -158,7 +155,7 @@ choose-loop-less : (t : ℕ) → choose-lts.Need-loop-less (calls t) (choose-at 
     choose.Post choose-Inv-loop choose-μ-loop
 choose-loop-less t c =
     let turn = c .before .before .before .before .before .before .before .before in
-    omega (arith, c .next-fit2 .ensures .after, turn .loop-test .taken)
+    omega (arith, c .next-fit2 .ensures .none .after, turn .loop-test .taken)
 
 choose-loop-again : (t : ℕ) → choose-lts.Need-loop-again (calls t) (choose-at t)
     choose.Post choose-Inv-loop choose-μ-loop

@@ -3,25 +3,25 @@ use mathlib.Core.Path.{_≡_, sym, _∙_}
 use mathlib.Core.List.{List}
 use Prim.Native.Nat.{_-_, _<_}
 use native.Mathlib.Omega.{arith}
-use lib.ListN.{length, take, getD}
+use lib.ListN.{length, take}
 use borrow.Author.Needs.{needs}
-use Rattle.definitions.specs.Matrices.{valid, meet}
 use Rattle.definitions.specs.Combinations.{Leaf}
+use Rattle.definitions.specs.laws.Searching.{NoneFrom, none-start, none-one, none-more, none-found, none-all}
 use Rattle.metastates.specs.Leaves.{leavesIn}
-use Rattle.metastates.specs.Choices.{noLeaf}
+use Rattle.metastates.specs.Choices.{fitsAt}
 use Rattle.metastates.specs.laws.LeafLists.{leaves-length, met-valid}
-use Rattle.metastates.specs.laws.Fitting.{Passed, passed-start, passed-more, passed-found, passed-all}
 use Rattle.metastates.proofs.choosing.next_fit.Statement.{statement}
 use Rattle.metastates.proofs.choosing.next_fit.Tie as tie
 
 abbrev Inv-loop : tie.InvT-loop
-Inv-loop leaves from m width place₀ place = Passed (take width (m .columns)) (leavesIn width leaves) from place
+Inv-loop leaves from m width place₀ place =
+    NoneFrom (fitsAt (take width (m .columns)) (leavesIn width leaves)) (length (leavesIn width leaves)) from place
 
 abbrev μ-loop : tie.MeasureT-loop
 μ-loop leaves from m width place₀ place = length leaves - place
 
 loop-holds : tie.Need-loop-holds Inv-loop μ-loop
-loop-holds c = passed-start _ _ _ (c .before .pre .2)
+loop-holds c = none-start (c .before .pre .2)
 
 leaf-matrix-requires : tie.Need-leaf-matrix-requires Inv-loop μ-loop
 leaf-matrix-requires c κs = omega arith
@@ -48,18 +48,17 @@ leaves-of c = leavesIn (entry c .args .width) (entry c .args .leaves .now)
 inside : (c : Tested) → turn c .before .loop .place < length (leaves-of c)
 inside c = rw leaves-length (turn c .loop-test .taken)
 
-tested : (c : Tested) → valid (meet (take (entry c .args .width) (entry c .args .m .columns))
-    (getD (leaves-of c) (turn c .before .loop .place) noLeaf .matrix)) ≡ c .valid .result
+tested : (c : Tested) → fitsAt (take (entry c .args .width) (entry c .args .m .columns)) (leaves-of c)
+    (turn c .before .loop .place) ≡ c .valid .result
 tested c =
     let a = entry c .args in
     let pre = entry c .pre in
-    let seven : length (a .m .columns) ≡ 7 = search needs in
     sym (c .valid .ensures
-    ∙ met-valid (a .width) (a .leaves .now) _ (inside c) (pre .0) (pre .1) (a .m .columns) (pre .3) seven
+    ∙ met-valid (a .width) (a .leaves .now) _ (inside c) (pre .0) (pre .1) (pre .3)
     (c .before .before .leaf-matrix .ensures) (c .before .meet .ensures))
 
 returns : tie.Need-returns Inv-loop μ-loop
-returns c = passed-found (turn (c .before) .before .loop .inv) (tested (c .before) ∙ c .if1 .taken)
+returns c = none-found (turn (c .before) .before .loop .inv) (tested (c .before) ∙ c .if1 .taken)
 
 add-place : tie.Need-add-place Inv-loop μ-loop
 add-place c = search needs
@@ -69,10 +68,11 @@ loop-less c = search needs
 
 loop-again : tie.Need-loop-again Inv-loop μ-loop
 loop-again c =
-    passed-more (turn (c .before) .before .loop .inv) (inside (c .before)) (tested (c .before) ∙ c .if1 .left)
+    none-more (turn (c .before) .before .loop .inv)
+    (none-one (inside (c .before)) (tested (c .before) ∙ c .if1 .left))
 
 returns-2 : tie.Need-returns-2 Inv-loop μ-loop
-returns-2 c = passed-all (c .before .loop .inv) (rw leaves-length (c .loop-test .left))
+returns-2 c = none-all (c .before .loop .inv) (rw leaves-length (c .loop-test .left))
 
 pub next-fit-spec : {M : Type 1} → statement M
 next-fit-spec =

@@ -62,8 +62,8 @@ alone-requires c κs = search needs
 around-requires : tie.Need-around-requires
 around-requires c κs = search needs
 
-clear-sets-requires : tie.Need-clear-sets-requires
-clear-sets-requires c κs = search needs
+clear-wide-words-requires : tie.Need-clear-wide-words-requires
+clear-wide-words-requires c κs = search needs
 
 root-of-requires : tie.Need-root-of-requires
 root-of-requires c κs = search needs
@@ -78,7 +78,7 @@ walk-requires c κs =
       fit start .classes,
       root (c .before) .listed,
       top around .words,
-      cleared-table .clear-sets .kept .0 ∙ start .pre .4,
+      cleared-table .clear-wide-words .kept .0 ∙ start .pre .4,
     )
 
 collect-requires : tie.Need-collect-requires
@@ -102,13 +102,13 @@ returns-2 c =
     let a = start .args in (
       collect .ensures .0,
       collect .ensures .1,
-      walked .walk .kept .1 .1 .1 .1 .1 .0 ∙ cleared-table .clear-sets .kept .0,
+      walked .walk .kept .1 .1 .1 .1 .1 .0 ∙ cleared-table .clear-wide-words .kept .0,
       collect .ensures .2
           ∙ leaves-listed (a .header) (a .nodes .now) (a .classes .now) (a .roots .now) (fit start) (a .phone)
           (a .state) (asks .if1 .left) (rooted .root-of .result) (root rooted .own) (root rooted .listed)
-          (around .around .result .columns) (top around) (cleared-table .clear-sets .last .0)
+          (around .around .result .columns) (top around) (cleared-table .clear-wide-words .last .0)
           (walked .walk .last .1 .1 .1 .1 .1 .0)
-          (cleared-table .clear-sets .ensures ∙ ap cleared (start .pre .4)) (walked .walk .ensures),
+          (cleared-table .clear-wide-words .ensures ∙ ap cleared (start .pre .4)) (walked .walk .ensures),
     )
 
 pub list-leaves-spec : {M : Type 1} → statement M
@@ -119,7 +119,7 @@ list-leaves-spec =
     all-phones-requires
     alone-requires
     around-requires
-    clear-sets-requires
+    clear-wide-words-requires
     root-of-requires
     walk-requires
     collect-requires

@@ -19,7 +19,7 @@ abbrev entry : tie.After-tables-known → tie.Start
 entry c = c .before .before .before .before .before .before .before .before .before
 
 abbrev space : tie.After-tables-known → List ℕ
-space c = c .before .before .before .clear-sets .last .0
+space c = c .before .before .before .clear-wide-words .last .0
 
 abbrev tables : tie.Start → Tables
 tables c = lentTables (c .args .nodes .now) (c .args .classes .now) (c .args .roots .now)
@@ -35,13 +35,13 @@ known c = held (c .before .tables-known .ensures) (c .if1 .left)
 
 -- the space keeps its length, and is clear
 sized : (c : tie.After-tables-known) → length (space c) ≡ length (entry c .args .space .now)
-sized c = c .before .before .before .clear-sets .kept .0
+sized c = c .before .before .before .clear-wide-words .kept .0
 
 clear : (c : tie.After-tables-known) → space c ≡ cleared (length (space c))
-clear c = c .before .before .before .clear-sets .ensures ∙ ap cleared (sym (sized c))
+clear c = c .before .before .before .clear-wide-words .ensures ∙ ap cleared (sym (sized c))
 
-clear-sets-requires : tie.Need-clear-sets-requires
-clear-sets-requires c κs = search needs
+clear-wide-words-requires : tie.Need-clear-wide-words-requires
+clear-wide-words-requires c κs = search needs
 
 tables-known-requires : tie.Need-tables-known-requires
 tables-known-requires c κs = search needs
@@ -57,7 +57,7 @@ returns c =
     let q = c .before .before in
     ends-foreign (entry q .args .header) (tables (entry q)) (length (entry q .args .space .now)) _ _ _
     (failed (q .tables-known .ensures) (c .before .if1 .taken))
-    (c .refuse .ensures) (q .before .before .before .clear-sets .ensures)
+    (c .refuse .ensures) (q .before .before .before .clear-wide-words .ensures)
 
 slice-aggregate-choose-all : tie.Need-slice-aggregate-choose-all
 slice-aggregate-choose-all c = search needs
@@ -70,8 +70,8 @@ choose-all-requires c κs =
 room-in-requires : tie.Need-room-in-requires
 room-in-requires c κs = search needs
 
-clear-sets-requires-2 : tie.Need-clear-sets-requires-2
-clear-sets-requires-2 c κs = search needs
+clear-wide-words-requires-2 : tie.Need-clear-wide-words-requires-2
+clear-wide-words-requires-2 c κs = search needs
 
 refuse-requires-2 : tie.Need-refuse-requires-2
 refuse-requires-2 c κs = search needs
@@ -88,7 +88,7 @@ returns-2 c =
     ends-over (entry q .args .header) (tables (entry q)) (length (entry q .args .space .now)) _ _ _
     (known (passed (call room))) (sized q) (all .ensures .0) (room .room-in .ensures) (full .if2 .taken)
     (c .refuse2 .ensures)
-    (c .before .before .before .clear-sets2 .ensures ∙ ap cleared (all .ensures .0 .sized ∙ sized q))
+    (c .before .before .before .clear-wide-words2 .ensures ∙ ap cleared (all .ensures .0 .sized ∙ sized q))
 
 same-length-3 : tie.Need-same-length-3
 same-length-3 c = search needs
@@ -106,7 +106,7 @@ pub combine-spec : {M : Type 1} → statement M
 combine-spec =
     tie.close
     (tie.spec
-    clear-sets-requires
+    clear-wide-words-requires
     tables-known-requires
     refuse-requires
     same-length
@@ -114,7 +114,7 @@ combine-spec =
     slice-aggregate-choose-all
     choose-all-requires
     room-in-requires
-    clear-sets-requires-2
+    clear-wide-words-requires-2
     refuse-requires-2
     same-length-2
     returns-2

@@ -1,30 +1,28 @@
 -- `adding::arc_into` meets its contract: the words of a combination give the arc's model and phone.
+use Prim.Native.Nat.{_*_, _≤_}
+use native.Mathlib.Omega.{arith}
 use borrow.Author.Needs.{needs}
 use Rattle.network.specs.laws.RecordWords.{record-within, phone-word, phone-few, leaf-few}
-use Rattle.network.specs.laws.ArcInto.{into-fits, first-state, into-words}
+use Rattle.network.specs.laws.OwnArcs.{states-few}
+use Rattle.network.specs.laws.ArcInto.{first-state, into-words}
 use Rattle.network.proofs.adding.arc_into.Statement.{statement}
 use Rattle.network.proofs.adding.arc_into.Tie as tie
 
 wide-requires : tie.Need-wide-requires
 wide-requires c κs = search needs
 
-mul-to : tie.Need-mul-to
-mul-to c =
+-- the states before the metastate's first
+few : (c : tie.After-wide) → c .before .before .before .args .place * c .wide .result ≤ 196605
+few c =
     let start = c .before .before .before in
-    let a = start .args in
-    let few =
-    into-fits (a .header) (a .combinations .now) (start .pre .0) (a .place) (start .pre .3)
-    (c .wide .ensures) in
-    search needs
+    states-few (start .args .header) (start .pre .0 .header-known) (c .wide .ensures) (start .args .place)
+    (omega (arith, start .pre .3))
+
+mul-to : tie.Need-mul-to
+mul-to c = let states = few c in search needs
 
 add-to : tie.Need-add-to
-add-to c =
-    let start = c .before .before .before in
-    let a = start .args in
-    let few =
-    into-fits (a .header) (a .combinations .now) (start .pre .0) (a .place) (start .pre .3)
-    (c .wide .ensures) in
-    search needs
+add-to c = let states = few c in search needs
 
 model-of-requires : tie.Need-model-of-requires
 model-of-requires c κs =
@@ -48,13 +46,7 @@ phone-of-requires c κs =
     )
 
 cast-t12 : tie.Need-cast-t12
-cast-t12 c =
-    let start = c .before .before .before .before .before in
-    let a = start .args in
-    let few =
-    into-fits (a .header) (a .combinations .now) (start .pre .0) (a .place) (start .pre .3)
-    (c .before .before .wide .ensures) in
-    search needs
+cast-t12 c = let states = few (c .before .before) in search needs
 
 returns : tie.Need-returns
 returns c =

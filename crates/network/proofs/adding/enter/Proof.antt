@@ -1,11 +1,10 @@
 -- `adding::enter` meets its contract, by what the search along the chain found and by the room.
 use mathlib.Core.Path.{sym}
-use Prim.Native.Nat.{min, _/_, _*_, _≤_, _<_}
+use Prim.Native.Nat.{_*_, _≤_, _<_}
 use native.Mathlib.Omega.{arith}
-use lib.ListN.{length}
 use lib.Seq.{length-take-le}
 use borrow.Author.Needs.{needs}
-use Rattle.definitions.specs.Metastates.{metastateSize}
+use Rattle.network.specs.Networks.{metastateRoom}
 use Rattle.network.specs.laws.Entering.{entering, enter-used, enter-linked, enter-arcs, enter-place}
 use Rattle.network.specs.laws.Entering.{enter-known, enter-crowded, enter-new}
 use Rattle.network.proofs.adding.enter.Statement.{statement}
@@ -85,7 +84,7 @@ returns-2 c =
     let start = test .before .before .before .before .before .before .before .before .before .before in
     let a = start .args in
     let s = entering (a .nodes .now) (a .sizes) (a .number) (start .pre) in
-    let room : min (length (a .metastates .now) / metastateSize) 65535 ≤ a .sizes .metastates =
+    let room : metastateRoom (a .metastates .now) ≤ a .sizes .metastates =
     omega (arith, c .if2 .taken, c .before .metastate-room .ensures) in
     enter-crowded s (test .before .find .ensures) (a .nodes .now) (a .from) (test .if1 .left) room
 
@@ -123,7 +122,7 @@ returns-3 c =
     let start = found .before .before .before .before .before .before .before .before .before .before in
     let a = start .args in
     let s = entering (a .nodes .now) (a .sizes) (a .number) (start .pre) in
-    let room : a .sizes .metastates < min (length (a .metastates .now) / metastateSize) 65535 =
+    let room : a .sizes .metastates < metastateRoom (a .metastates .now) =
     omega (arith, test .if2 .left, test .before .metastate-room .ensures) in
     enter-new s (found .before .find .ensures) (a .nodes .now) (a .from) (found .if1 .left) room
     (add .add-metastate .ensures .0) (add .add-metastate .ensures .1)

@@ -1,8 +1,6 @@
 -- `adding::enter_at` meets its contract: with room, the arc's words stand after the others.
-use Prim.Native.Nat.{min, _/_}
-use lib.ListN.{length}
 use borrow.Author.Needs.{needs}
-use Rattle.definitions.specs.Arcs.{arcSize}
+use Rattle.network.specs.Networks.{arcRoom}
 use Rattle.network.specs.laws.ArcInto.{arc-kept, arc-put}
 use Rattle.network.proofs.adding.enter_at.Statement.{statement}
 use Rattle.network.proofs.adding.enter_at.Tie as tie
@@ -21,7 +19,7 @@ returns c =
     let call = c .before .before .before in
     let a = call .before .before .before .before .before .before .args in
     let (test, kept) =
-    arc-kept (a .arcs .now) (a .sizes .arcs) (min (length (a .arcs .now) / arcSize) 999999)
+    arc-kept (a .arcs .now) (a .sizes .arcs) (arcRoom (a .arcs .now))
     (call .before .before .arc-into .ensures) (call .add-arcs .ensures .0) (call .add-arcs .ensures .1)
     (c .if1 .taken) in
     (rw test, rw test kept)
@@ -37,7 +35,7 @@ returns-2 c =
     let call = c .before .before .before .before in
     let a = call .before .before .before .before .before .before .args in
     let (test, put) =
-    arc-put (a .arcs .now) (a .sizes .arcs) (min (length (a .arcs .now) / arcSize) 999999)
+    arc-put (a .arcs .now) (a .sizes .arcs) (arcRoom (a .arcs .now))
     (call .before .before .arc-into .ensures) (call .add-arcs .ensures .0) (call .add-arcs .ensures .1)
     (c .before .if1 .left) in
     (rw test, rw test put)

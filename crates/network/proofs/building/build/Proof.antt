@@ -4,8 +4,8 @@ use Rattle.network.specs.laws.Building.{connect-ready, connect-returns, 
 use Rattle.network.proofs.building.build.Statement.{statement}
 use Rattle.network.proofs.building.build.Tie as tie
 
-clear-sets-requires : tie.Need-clear-sets-requires
-clear-sets-requires c κs = search needs
+clear-wide-words-requires : tie.Need-clear-wide-words-requires
+clear-wide-words-requires c κs = search needs
 
 clear-words-requires : tie.Need-clear-words-requires
 clear-words-requires c κs = search needs
@@ -27,7 +27,7 @@ connect-in-requires c κs =
     let sets = words .before .before .before .before in
     let a = sets .before .before .before .before .before .before .before .before .args in
     connect-ready (a .header) (a .nodes .now) (a .classes .now) (a .roots .now) (a .combinations .now)
-    (a .metastates .now) (a .arcs .now) (sets .clear-sets .ensures) (words .clear-words .ensures)
+    (a .metastates .now) (a .arcs .now) (sets .clear-wide-words .ensures) (words .clear-words .ensures)
     (after .combine .ensures .0) (after .combine .ensures .1 .0) (after .combine .ensures .1 .1)
     _ (chosen .answer .given .1)
 
@@ -49,7 +49,7 @@ returns c =
     let sets = words .before .before .before .before in
     let a = sets .before .before .before .before .before .before .before .before .args in
     connect-returns (a .header) (a .nodes .now) (a .classes .now) (a .roots .now) (a .combinations .now)
-    (a .metastates .now) (a .arcs .now) (sets .clear-sets .ensures) (words .clear-words .ensures)
+    (a .metastates .now) (a .arcs .now) (sets .clear-wide-words .ensures) (words .clear-words .ensures)
     (after .combine .ensures .0) (after .combine .ensures .1 .0) (after .combine .ensures .1 .1)
     _ (chosen .answer .given .1) (a .limit) (connected .connect-in .ensures)
 
@@ -73,7 +73,7 @@ returns-2 c =
     let sets = words .before .before .before .before in
     let a = sets .before .before .before .before .before .before .before .before .args in
     combine-returns (a .header) (a .nodes .now) (a .classes .now) (a .roots .now) (a .combinations .now)
-    (a .metastates .now) (a .arcs .now) (sets .clear-sets .ensures) (words .clear-words .ensures)
+    (a .metastates .now) (a .arcs .now) (sets .clear-wide-words .ensures) (words .clear-words .ensures)
     (after .combine .ensures .0) (after .combine .ensures .1 .0) (after .combine .ensures .1 .1)
     (a .limit) _ (refused .answer2 .given .1)
 
@@ -81,7 +81,7 @@ pub build-spec : {M : Type 1} → statement M
 build-spec =
     tie.close
     (tie.spec
-    clear-sets-requires
+    clear-wide-words-requires
     clear-words-requires
     combine-requires
     enum-known-answer

@@ -57,11 +57,11 @@ returns-2 c =
 enum-known-answer-3 : tie.Need-enum-known-answer-3
 enum-known-answer-3 c = search needs
 
-clear-sets-requires : tie.Need-clear-sets-requires
-clear-sets-requires c κs = search needs
+clear-wide-words-requires : tie.Need-clear-wide-words-requires
+clear-wide-words-requires c κs = search needs
 
-clear-sets-requires-2 : tie.Need-clear-sets-requires-2
-clear-sets-requires-2 c κs = search needs
+clear-wide-words-requires-2 : tie.Need-clear-wide-words-requires-2
+clear-wide-words-requires-2 c κs = search needs
 
 clear-words-requires : tie.Need-clear-words-requires
 clear-words-requires c κs = search needs
@@ -83,7 +83,7 @@ returns-3 c =
     let refused = first .before .before .before in
     let connected = refused .before .before .before .before .before .before in
     refused-returns (connected .connect .ensures) _ (refused .answer3 .given .1)
-    (first .clear-sets .ensures) (second .clear-sets2 .ensures) (third .clear-words .ensures)
+    (first .clear-wide-words .ensures) (second .clear-wide-words2 .ensures) (third .clear-words .ensures)
 
 pub connect-in-spec : {M : Type 1} → statement M
 connect-in-spec =
@@ -104,8 +104,8 @@ connect-in-spec =
     same-length-6
     returns-2
     enum-known-answer-3
-    clear-sets-requires
-    clear-sets-requires-2
+    clear-wide-words-requires
+    clear-wide-words-requires-2
     clear-words-requires
     same-length-7
     same-length-8

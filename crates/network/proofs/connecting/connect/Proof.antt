@@ -1,7 +1,7 @@
 -- `connecting::connect` meets its contract.
 use Prim.Native.Nat.{_≤_}
 use borrow.Author.Needs.{needs}
-use Rattle.tables.specs.laws.Known.{header-ranges}
+use Rattle.definitions.specs.laws.Known.{header-ranges}
 use Rattle.network.specs.laws.Connecting.{cleared-hold, start-holds, connected, start-refused}
 use Rattle.network.proofs.connecting.connect.Statement.{statement}
 use Rattle.network.proofs.connecting.connect.Tie as tie
@@ -27,11 +27,11 @@ start-requires c κs =
 enum-known-step : tie.Need-enum-known-step
 enum-known-step c = search needs
 
-slice-aggregate-turn : tie.Need-slice-aggregate-turn
-slice-aggregate-turn c = search needs
+slice-aggregate-take-turns : tie.Need-slice-aggregate-take-turns
+slice-aggregate-take-turns c = search needs
 
-turn-requires : tie.Need-turn-requires
-turn-requires c κs =
+take-turns-requires : tie.Need-take-turns-requires
+take-turns-requires c κs =
     let arm = c .before .before .before .before in
     let call = called (arm .before .before) in
     let start = entry (call .before) in
@@ -58,7 +58,7 @@ returns c =
     let start = entry (call .before) in
     let a = start .args in
     connected (a .header) (a .nodes .now) (a .combinations .now) (thin start) (call .start .ensures)
-    (arm .step .given .1) (a .limit) (turned .turn .ensures)
+    (arm .step .given .1) (a .limit) (turned .take-turns .ensures)
 
 enum-known-step-2 : tie.Need-enum-known-step-2
 enum-known-step-2 c = search needs
@@ -84,8 +84,8 @@ connect-spec =
     slice-aggregate-start
     start-requires
     enum-known-step
-    slice-aggregate-turn
-    turn-requires
+    slice-aggregate-take-turns
+    take-turns-requires
     same-length
     same-length-2
     returns

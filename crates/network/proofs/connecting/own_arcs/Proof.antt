@@ -4,7 +4,7 @@ use Prim.Native.Nat.{_+_, _-_, _*_, _≤_, _<_}
 use native.Mathlib.Omega.{arith}
 use borrow.Author.Needs.{needs}
 use Rattle.definitions.specs.laws.Books.{InRange}
-use Rattle.tables.specs.laws.Known.{header-ranges}
+use Rattle.definitions.specs.laws.Known.{header-ranges}
 use Rattle.network.specs.laws.RecordWords.{record-within, leaf-few}
 use Rattle.network.specs.laws.OwnArcs.{OwnArcs, modelWord, own-none, own-count, own-more, own-are}
 use Rattle.network.specs.laws.OwnArcs.{states-few}
@@ -28,8 +28,8 @@ ranges c = header-ranges (c .args .header) (c .pre .0 .header-known)
 few : (c : tie.After-wide Inv-loop μ-loop) → c .before .before .before .args .place * c .wide .result ≤ 196605
 few c =
     let start = c .before .before .before in
-    states-few (start .args .place) (c .wide .result) (omega (arith, start .pre .3))
-    (omega (arith, c .wide .ensures, ranges start .states-range .high))
+    states-few (start .args .header) (start .pre .0 .header-known) (c .wide .ensures) (start .args .place)
+    (omega (arith, start .pre .3))
 
 wide-requires : tie.Need-wide-requires Inv-loop μ-loop
 wide-requires c κs = search needs

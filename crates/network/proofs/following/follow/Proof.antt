@@ -1,11 +1,16 @@
 -- `following::follow` meets its contract. The loop's invariant: the followers before `number` were entered.
-use Prim.Native.Nat.{_-_, _/_}
+use mathlib.Core.Path.{_≡_}
+use Prim.Native.Nat.{_-_, _/_, _<_}
 use native.Mathlib.Omega.{arith}
 use lib.ListN.{length}
 use borrow.Author.Needs.{needs}
 use Rattle.definitions.specs.Combinations.{combinationSize}
+use Rattle.definitions.specs.Matrices.{meet}
+use Rattle.definitions.specs.laws.Metastates.{numbered}
+use Rattle.matrix.specs.Shapes.{matrixIn}
+use Rattle.network.specs.Combinations.{combinationsIn}
 use Rattle.network.specs.laws.RecordWords.{record-within, number-in, number-out}
-use Rattle.network.specs.laws.Followers.{narrow, met-matrix, met-seven}
+use Rattle.network.specs.laws.Followers.{narrow, follower-matrix, follower-width}
 use Rattle.network.specs.laws.Following.{Followed, followed-start, followed-end, followed-stop}
 use Rattle.network.specs.laws.Following.{followed-next}
 use Rattle.network.proofs.following.follow.Statement.{statement}
@@ -32,6 +37,11 @@ inside c = c .before .before .before .before .before .before
 abbrev start : tie.In-loop Inv-loop μ-loop → tie.Start Inv-loop μ-loop
 start c = c .before .before .before .before .before .before .before .before .before
 
+-- a follower that was entered: its number is that of a combination, and what its words hold
+here : (c : tie.In-loop Inv-loop μ-loop)
+    → c .before .loop .number < length (combinationsIn (start c .args .header) (start c .args .combinations .now))
+here c = number-in _ _ (c .loop-test .taken)
+
 next-follower-requires : tie.Need-next-follower-requires Inv-loop μ-loop
 next-follower-requires c κs =
     let pre = c .before .before .before .before .before .before .pre in
@@ -44,7 +54,7 @@ loop-holds c =
 
 matrix-of-requires : tie.Need-matrix-of-requires Inv-loop μ-loop
 matrix-of-requires c κs =
-    record-within _ _ (start c .pre .0) _ (number-in _ _ (c .loop-test .taken))
+    record-within _ _ (start c .pre .0) _ (here c)
 
 meet-requires : tie.Need-meet-requires Inv-loop μ-loop
 meet-requires c κs = search needs
@@ -53,14 +63,25 @@ enter-requires : tie.Need-enter-requires Inv-loop μ-loop
 enter-requires c κs =
     let met = c .before .before .before in
     let turn = met .before .before in
-    let pre = start turn .pre in
-    let here = number-in _ _ (turn .loop-test .taken) in (
+    let pre = start turn .pre in (
       pre .0,
       pre .1,
-      here,
-      met-seven _ _ (pre .0) _ (pre .3) _ here (met .before .matrix-of .ensures) (met .meet .ensures),
+      here turn,
+      follower-width _ _ (pre .0) _ (pre .3) _ (here turn) (met .before .matrix-of .ensures) (met .meet .ensures),
       turn .before .loop .inv .holds,
     )
+
+-- the matrix that was entered
+matrix : (c : tie.After-enter Inv-loop μ-loop)
+    → matrixIn (start (inside c) .args .header .half) (c .before .before .before .before .meet .result .columns)
+    ≡ meet (matrixIn (start (inside c) .args .header .half) (start (inside c) .args .shifted .columns))
+    (numbered (combinationsIn (start (inside c) .args .header) (start (inside c) .args .combinations .now))
+    (inside c .before .loop .number) .matrix)
+matrix c =
+    let pre = start (inside c) .pre in
+    let met = c .before .before .before .before in
+    follower-matrix _ _ (pre .0) _ (pre .3) _ (here (inside c)) (met .before .matrix-of .ensures)
+    (met .meet .ensures)
 
 enum-known-step : tie.Need-enum-known-step Inv-loop μ-loop
 enum-known-step c = search needs
@@ -81,27 +102,18 @@ returns : tie.Need-returns Inv-loop μ-loop
 returns c =
     let call = called (c .before .before .before) in
     let turn = inside call in
-    let pre = start turn .pre in
-    let here = number-in _ _ (turn .loop-test .taken) in
-    let met = call .before .before .before .before in
-    let matrix =
-    met-matrix _ _ (pre .0) _ (pre .3) _ here (met .before .matrix-of .ensures) (met .meet .ensures) in
-    followed-stop (turn .before .loop .inv) here matrix (call .enter .ensures) (c .before .step2 .given .1)
+    followed-stop (turn .before .loop .inv) (here turn) (matrix call) (call .enter .ensures)
+    (c .before .step2 .given .1)
 
 add-next-follower : tie.Need-add-next-follower Inv-loop μ-loop
 add-next-follower c =
-    let turn = inside (called (c .before .before .before)) in
-    let args = start turn .args in
-    let here = number-in (args .header) (args .combinations .now) (turn .loop-test .taken) in
-    omega (arith, start turn .pre .0 .few)
+    let turn = inside (called (c .before .before .before)) in omega (arith, here turn, start turn .pre .0 .few)
 
 next-follower-requires-2 : tie.Need-next-follower-requires-2 Inv-loop μ-loop
 next-follower-requires-2 c κs =
     let turn = inside (called (c .before .before .before)) in
-    let args = start turn .args in
     let pre = start turn .pre in
-    let here = number-in (args .header) (args .combinations .now) (turn .loop-test .taken) in
-    (pre .0, pre .2, omega arith, pre .3)
+    (pre .0, pre .2, omega (arith, here turn), pre .3)
 
 loop-less : tie.Need-loop-less Inv-loop μ-loop
 loop-less c = search needs
@@ -110,13 +122,8 @@ loop-again : tie.Need-loop-again Inv-loop μ-loop
 loop-again c =
     let call = called (c .before .before .before .before) in
     let turn = inside call in
-    let pre = start turn .pre in
-    let here = number-in _ _ (turn .loop-test .taken) in
-    let met = call .before .before .before .before in
-    let matrix =
-    met-matrix _ _ (pre .0) _ (pre .3) _ here (met .before .matrix-of .ensures) (met .meet .ensures) in
-    followed-next (turn .before .loop .inv) here matrix (call .enter .ensures) (narrow _ _ (pre .0))
-    (c .before .before .step .given .1) (c .next-follower2 .ensures)
+    followed-next (turn .before .loop .inv) (here turn) (matrix call) (call .enter .ensures)
+    (narrow _ _ (start turn .pre .0)) (c .before .before .step .given .1) (c .next-follower2 .ensures)
 
 same-length-4 : tie.Need-same-length-4 Inv-loop μ-loop
 same-length-4 c = search needs

@@ -2,7 +2,7 @@
 use mathlib.Core.Path.{_∙_}
 use borrow.Author.Needs.{needs}
 use Rattle.definitions.specs.laws.Tests.{held, failed}
-use Rattle.tables.specs.laws.TablesKnown.{holds-taken}
+use Rattle.tables.specs.laws.TableTests.{holds-taken}
 use Rattle.network.specs.laws.KnownArcs.{network-miscounted, network-unheld, network-judged}
 use Rattle.network.proofs.known.network_known.Statement.{statement}
 use Rattle.network.proofs.known.network_known.Tie as tie

@@ -1,26 +1,22 @@
 -- `comparing::same_words` meets its contract. The loop's invariant: the words before `i` are the same.
-use mathlib.Core.Path.{_≡_, refl, sym, _∙_}
-use Prim.Native.Nat.{_-_, _≤_}
-use native.Mathlib.Omega.{arith}
-use lib.ListN.{length, drop}
+use Prim.Native.Nat.{_-_}
+use lib.ListN.{length}
 use borrow.Author.Needs.{needs}
-use Rattle.definitions.specs.Lists.{same}
-use Rattle.showing.specs.laws.Comparing.{same-lengths, same-passed, same-stops, same-ends}
+use Rattle.definitions.specs.laws.Same.{Alike, same-lengths, alike-start, alike-more, alike-stop, alike-end}
 use Rattle.showing.proofs.comparing.same_words.Statement.{statement}
 use Rattle.showing.proofs.comparing.same_words.Tie as tie
 
 abbrev Inv-loop : tie.InvT-loop
-Inv-loop left right i₀ i =
-    (i ≤ length left) × (length left ≡ length right) × (same left right ≡ same (drop i left) (drop i right))
+Inv-loop left right i₀ i = Alike left right i
 
 abbrev μ-loop : tie.MeasureT-loop
 μ-loop left right i₀ i = length left - i
 
 returns : tie.Need-returns Inv-loop μ-loop
-returns c = sym (same-lengths _ _ (c .if1 .taken))
+returns c = same-lengths _ _ (c .if1 .taken)
 
 loop-holds : tie.Need-loop-holds Inv-loop μ-loop
-loop-holds c = (omega arith, c .if1 .left, refl)
+loop-holds c = alike-start _ _ (c .if1 .left)
 
 mul-if2 : tie.Need-mul-if2 Inv-loop μ-loop
 mul-if2 c = search needs
@@ -36,9 +32,8 @@ shared-slice-read-if2-2 c = search needs
 
 returns-2 : tie.Need-returns-2 Inv-loop μ-loop
 returns-2 c =
-    let inv = c .before .before .before .before .loop .inv in
-    let turn = c .before .before .before .loop-test .taken in
-    sym (inv .2 ∙ same-stops _ _ _ turn (inv .1) (c .if2 .taken))
+    let turn = c .before .before .before in
+    alike-stop (turn .before .loop .inv) (turn .loop-test .taken) (c .if2 .taken)
 
 add-i : tie.Need-add-i Inv-loop μ-loop
 add-i c = search needs
@@ -48,13 +43,11 @@ loop-less c = search needs
 
 loop-again : tie.Need-loop-again Inv-loop μ-loop
 loop-again c =
-    let inv = c .before .before .before .before .loop .inv in
-    let turn = c .before .before .before .loop-test .taken in
-    (omega arith, inv .1, inv .2 ∙ same-passed _ _ _ turn (inv .1) (c .if2 .left))
+    let turn = c .before .before .before in
+    alike-more (turn .before .loop .inv) (turn .loop-test .taken) (c .if2 .left)
 
 returns-3 : tie.Need-returns-3 Inv-loop μ-loop
-returns-3 c =
-    let inv = c .before .loop .inv in sym (inv .2 ∙ same-ends _ _ _ (c .loop-test .left) (inv .1))
+returns-3 c = alike-end (c .before .loop .inv) (c .loop-test .left)
 
 pub same-words-spec : {M : Type 1} → statement M
 same-words-spec =

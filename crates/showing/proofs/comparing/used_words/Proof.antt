@@ -1,22 +1,17 @@
 -- `comparing::used_words` meets its contract. The loop's invariant: what is used lies before `used`.
-use mathlib.Core.Path.{_≡_, sym, _∙_}
-use Prim.Native.Nat.{_≤_}
-use native.Mathlib.Omega.{arith}
-use lib.ListN.{length, take}
 use borrow.Author.Needs.{needs}
-use Rattle.showing.specs.Used.{usedOf}
-use Rattle.showing.specs.laws.Comparing.{used-all, used-fewer, used-here, used-none}
+use Rattle.showing.specs.laws.Comparing.{UsedBefore, used-start, used-here, used-less, used-end}
 use Rattle.showing.proofs.comparing.used_words.Statement.{statement}
 use Rattle.showing.proofs.comparing.used_words.Tie as tie
 
 abbrev Inv-loop : tie.InvT-loop
-Inv-loop words used₀ used = (used ≤ length words) × (usedOf words ≡ usedOf (take used words))
+Inv-loop words used₀ used = UsedBefore words used
 
 abbrev μ-loop : tie.MeasureT-loop
 μ-loop words used₀ used = used
 
 loop-holds : tie.Need-loop-holds Inv-loop μ-loop
-loop-holds c = (omega arith, used-all _)
+loop-holds c = used-start _
 
 sub-if1 : tie.Need-sub-if1 Inv-loop μ-loop
 sub-if1 c = search needs
@@ -29,9 +24,8 @@ shared-slice-read-if1 c = search needs
 
 returns : tie.Need-returns Inv-loop μ-loop
 returns c =
-    let inv = c .before .before .before .loop .inv in
-    let turn = c .before .before .loop-test .taken in
-    (inv .0, used-here _ _ turn (inv .0) (c .if1 .taken) ∙ sym (inv .1))
+    let turn = c .before .before in
+    used-here (turn .before .loop .inv) (turn .loop-test .taken) (c .if1 .taken)
 
 sub-used : tie.Need-sub-used Inv-loop μ-loop
 sub-used c = search needs
@@ -41,14 +35,11 @@ loop-less c = search needs
 
 loop-again : tie.Need-loop-again Inv-loop μ-loop
 loop-again c =
-    let inv = c .before .before .before .loop .inv in
-    let turn = c .before .before .loop-test .taken in
-    (omega arith, inv .1 ∙ used-fewer _ _ turn (inv .0) (c .if1 .left))
+    let turn = c .before .before in
+    used-less (turn .before .loop .inv) (turn .loop-test .taken) (c .if1 .left)
 
 returns-2 : tie.Need-returns-2 Inv-loop μ-loop
-returns-2 c =
-    let inv = c .before .loop .inv in
-    (inv .0, used-none _ _ (c .loop-test .left) ∙ sym (inv .1))
+returns-2 c = used-end (c .before .loop .inv) (c .loop-test .left)
 
 pub used-words-spec : {M : Type 1} → statement M
 used-words-spec =

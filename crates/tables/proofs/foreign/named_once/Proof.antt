@@ -4,9 +4,9 @@ use native.Mathlib.Omega.{arith}
 use lib.Seq.{length-take-le}
 use borrow.Author.Needs.{needs}
 use Rattle.definitions.specs.laws.Books.{roots-few}
-use Rattle.tables.specs.laws.TablesKnown.{root-count, roots-taken}
+use Rattle.definitions.specs.laws.Known.{header-ranges}
+use Rattle.tables.specs.laws.TableTests.{root-count, roots-taken}
 use Rattle.tables.specs.laws.NamingTables.{once-counted}
-use Rattle.tables.specs.laws.Known.{header-ranges}
 use Rattle.tables.proofs.foreign.named_once.Statement.{statement}
 use Rattle.tables.proofs.foreign.named_once.Tie as tie
 

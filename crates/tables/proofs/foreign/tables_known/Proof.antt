@@ -1,93 +1,65 @@
 -- `foreign::tables_known` meets its contract: each answer by the first test that fails.
-use mathlib.Core.Path.{_≡_, _∙_}
-use mathlib.Core.Bool.{true}
+use mathlib.Core.Path.{_≡_}
+use mathlib.Core.Bool.{true, _&&_}
 use borrow.Author.Needs.{needs}
+use lib.Dec.{T}
+use Rattle.definitions.specs.Tables.{tablesBook}
 use Rattle.definitions.specs.ForeignTables.{headerKnown, nodeTableKnown, classTableKnown, rootTableKnown}
-use Rattle.definitions.specs.laws.Tests.{held, failed}
-use Rattle.tables.specs.laws.Foreign.{tables-header, tables-nodes, tables-classes, tables-roots}
-use Rattle.tables.specs.laws.Foreign.{tables-names}
+use Rattle.definitions.specs.ForeignTables.{namedOnce, tablesKnown}
+use Rattle.definitions.specs.laws.Tests.{T-three, held, failed}
 use Rattle.tables.proofs.foreign.tables_known.Statement.{statement}
 use Rattle.tables.proofs.foreign.tables_known.Tie as tie
 
+records-held : (c : tie.Else1)
+    → let start = c .before .before .before .before .before in
+    (headerKnown (start .args .header) && nodeTableKnown (start .args .header) (start .args .nodes .now)
+    && classTableKnown (start .args .header) (start .args .classes .now)) ≡ true
+records-held c = held (c .before .records-known .ensures) (c .if1 .left)
+
 header-held : (c : tie.Else1)
     → let start = c .before .before .before .before .before in
-    headerKnown (start .args .header) ≡ true
-header-held c = held (c .before .header-known .ensures) (c .if1 .left)
+    T (headerKnown (start .args .header))
+header-held c =
+    let start = c .before .before .before .before .before in
+    T-three (headerKnown (start .args .header)) (nodeTableKnown (start .args .header) (start .args .nodes .now))
+    (classTableKnown (start .args .header) (start .args .classes .now)) .0 (rw (records-held c) tt) .0
 
-nodes-held : (c : tie.Else2)
+roots-held : (c : tie.Else2)
     → let start = c .before .before .before .before .before .before .before in
-    nodeTableKnown (start .args .header) (start .args .nodes .now) ≡ true
-nodes-held c = held (c .before .node-table-known .ensures) (c .if2 .left)
-
-classes-held : (c : tie.Else3)
-    → let start = c .before .before .before .before .before .before .before .before .before in
-    classTableKnown (start .args .header) (start .args .classes .now) ≡ true
-classes-held c = held (c .before .class-table-known .ensures) (c .if3 .left)
-
-roots-held : (c : tie.Else4)
-    → let start = c .before .before .before .before .before .before .before .before .before .before .before in
     rootTableKnown (start .args .header) (start .args .roots .now) ≡ true
-roots-held c = held (c .before .root-table-known .ensures) (c .if4 .left)
+roots-held c = held (c .before .root-table-known .ensures) (c .if2 .left)
 
-header-known-requires : tie.Need-header-known-requires
-header-known-requires c κs = search needs
+records-known-requires : tie.Need-records-known-requires
+records-known-requires c κs = search needs
 
 returns : tie.Need-returns
-returns c =
-    tables-header _ _ _ _
-    (failed (c .before .header-known .ensures) (c .if1 .taken))
-
-node-table-known-requires : tie.Need-node-table-known-requires
-node-table-known-requires c κs = rw (header-held c) tt
-
-returns-2 : tie.Need-returns-2
-returns-2 c =
-    tables-nodes _ _ _ _ (header-held (c .before .before))
-    (failed (c .before .node-table-known .ensures) (c .if2 .taken))
-
-class-table-known-requires : tie.Need-class-table-known-requires
-class-table-known-requires c κs = rw (header-held (c .before .before)) tt
-
-returns-3 : tie.Need-returns-3
-returns-3 c =
-    tables-classes _ _ _ _ (header-held (c .before .before .before .before)) (nodes-held (c .before .before))
-    (failed (c .before .class-table-known .ensures) (c .if3 .taken))
+unfolding tablesKnown
+returns c = rw (failed (c .before .records-known .ensures) (c .if1 .taken))
 
 root-table-known-requires : tie.Need-root-table-known-requires
-root-table-known-requires c κs = rw (header-held (c .before .before .before .before)) tt
+root-table-known-requires c κs = header-held c
 
-returns-4 : tie.Need-returns-4
-returns-4 c =
-    let classes = c .before .before in
-    let nodes = classes .before .before in
-    tables-roots _ _ _ _ (header-held (nodes .before .before)) (nodes-held nodes) (classes-held classes)
-    (failed (c .before .root-table-known .ensures) (c .if4 .taken))
+returns-2 : tie.Need-returns-2
+unfolding tablesKnown
+returns-2 c =
+    rw (records-held (c .before .before), failed (c .before .root-table-known .ensures) (c .if2 .taken))
 
 named-once-requires : tie.Need-named-once-requires
-named-once-requires c κs =
-    let classes = c .before .before in
-    (rw (header-held (classes .before .before .before .before)) tt, rw (roots-held c) tt)
+named-once-requires c κs = (header-held (c .before .before), rw (roots-held c) tt)
 
-returns-5 : tie.Need-returns-5
-returns-5 c =
+returns-3 : tie.Need-returns-3
+unfolding tablesKnown namedOnce tablesBook
+returns-3 c =
     let roots = c .before in
-    let classes = roots .before .before in
-    let nodes = classes .before .before in
-    c .named-once .ensures
-    ∙ tables-names _ _ _ _ (header-held (nodes .before .before)) (nodes-held nodes) (classes-held classes)
-    (roots-held roots)
+    rw (records-held (roots .before .before), roots-held roots) (c .named-once .ensures)
 
 pub tables-known-spec : {M : Type 1} → statement M
 tables-known-spec =
     tie.close
     (tie.spec
-    header-known-requires
+    records-known-requires
     returns
-    node-table-known-requires
-    returns-2
-    class-table-known-requires
-    returns-3
     root-table-known-requires
-    returns-4
+    returns-2
     named-once-requires
-    returns-5)
+    returns-3)

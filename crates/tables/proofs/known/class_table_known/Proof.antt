@@ -1,9 +1,9 @@
 -- `known::class_table_known` meets its contract.
-use mathlib.Core.Path.{sym, _∙_}
 use borrow.Author.Needs.{needs}
+use Rattle.definitions.specs.ForeignTables.{classTableKnown}
 use Rattle.definitions.specs.laws.Tests.{held, failed}
-use Rattle.tables.specs.laws.Known.{header-ranges}
-use Rattle.tables.specs.laws.TablesKnown.{holds-taken, classes-refused, classes-judged}
+use Rattle.definitions.specs.laws.Known.{header-ranges}
+use Rattle.tables.specs.laws.TableTests.{holds-taken}
 use Rattle.tables.proofs.known.class_table_known.Statement.{statement}
 use Rattle.tables.proofs.known.class_table_known.Tie as tie
 
@@ -14,10 +14,10 @@ holds-only-sets-requires : tie.Need-holds-only-sets-requires
 holds-only-sets-requires c κs = search needs
 
 returns : tie.Need-returns
+unfolding classTableKnown
 returns c =
     let called = c .before in
-    classes-refused _ _ (called .before .wide .ensures)
-    (failed (called .holds-only-sets .ensures) (c .if1 .taken))
+    rw (← called .before .wide .ensures, failed (called .holds-only-sets .ensures) (c .if1 .taken))
 
 slice-aggregate-sets-within : tie.Need-slice-aggregate-sets-within
 slice-aggregate-sets-within c =
@@ -30,10 +30,12 @@ sets-within-requires c κs =
     (ranges .phones-range .low, ranges .phones-range .high)
 
 returns-2 : tie.Need-returns-2
+unfolding classTableKnown
 returns-2 c =
     let passed = c .before .before in
-    c .sets-within .ensures ∙ sym (classes-judged _ _ (passed .before .before .wide .ensures)
-    (held (passed .before .holds-only-sets .ensures) (passed .if1 .left)))
+    let called = passed .before in
+    rw (← called .before .wide .ensures, held (called .holds-only-sets .ensures) (passed .if1 .left))
+    (c .sets-within .ensures)
 
 pub class-table-known-spec : {M : Type 1} → statement M
 class-table-known-spec =

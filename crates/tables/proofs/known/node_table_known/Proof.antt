@@ -1,10 +1,9 @@
 -- `known::node_table_known` meets its contract. The loop's invariant: the records before `at` are known.
 use Prim.Native.Nat.{_-_}
 use borrow.Author.Needs.{needs}
+use Rattle.definitions.specs.ForeignTables.{nodeTableKnown}
 use Rattle.definitions.specs.laws.Tests.{held, failed}
-use Rattle.tables.specs.laws.Known.{header-ranges}
-use Rattle.tables.specs.laws.TablesKnown.{Judged, nodes-refused, nodes-held, nodes-more, nodes-stop}
-use Rattle.tables.specs.laws.TablesKnown.{nodes-end}
+use Rattle.tables.specs.laws.TableTests.{Judged, nodes-held, nodes-more, nodes-stop, nodes-end}
 use Rattle.tables.proofs.known.node_table_known.Statement.{statement}
 use Rattle.tables.proofs.known.node_table_known.Tie as tie
 
@@ -24,10 +23,10 @@ holds-only-requires : tie.Need-holds-only-requires Inv-loop μ-loop
 holds-only-requires c κs = search needs
 
 returns : tie.Need-returns Inv-loop μ-loop
+unfolding nodeTableKnown
 returns c =
     let called = c .before in
-    nodes-refused _ _ (called .before .wide .ensures)
-    (failed (called .holds-only .ensures) (c .if1 .taken))
+    rw (← called .before .wide .ensures, failed (called .holds-only .ensures) (c .if1 .taken))
 
 loop-holds : tie.Need-loop-holds Inv-loop μ-loop
 loop-holds c =
@@ -39,9 +38,7 @@ node-at-requires : tie.Need-node-at-requires Inv-loop μ-loop
 node-at-requires c κs = search needs
 
 record-known-requires : tie.Need-record-known-requires Inv-loop μ-loop
-record-known-requires c κs =
-    let start = c .before .before .before .before .before .before .before .before in
-    header-ranges _ (start .pre) .half-range .high
+record-known-requires c κs = search needs
 
 returns-2 : tie.Need-returns-2 Inv-loop μ-loop
 returns-2 c =

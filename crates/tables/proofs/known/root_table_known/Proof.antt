@@ -1,12 +1,12 @@
 -- `known::root_table_known` meets its contract. The header's ranges keep the number of roots small.
-use mathlib.Core.Path.{sym, _∙_}
 use native.Mathlib.Omega.{arith}
 use borrow.Author.Needs.{needs}
+use Rattle.definitions.specs.BookLines.{rootCount}
+use Rattle.definitions.specs.ForeignTables.{rootTableKnown}
 use Rattle.definitions.specs.laws.Tests.{held, failed}
 use Rattle.definitions.specs.laws.Books.{roots-few}
-use Rattle.tables.specs.laws.Known.{header-ranges}
-use Rattle.tables.specs.laws.TablesKnown.{holds-taken, root-count, roots-refused}
-use Rattle.tables.specs.laws.TablesKnown.{roots-judged}
+use Rattle.definitions.specs.laws.Known.{header-ranges}
+use Rattle.tables.specs.laws.TableTests.{holds-taken, root-count}
 use Rattle.tables.proofs.known.root_table_known.Statement.{statement}
 use Rattle.tables.proofs.known.root_table_known.Tie as tie
 
@@ -27,11 +27,15 @@ holds-only-requires : tie.Need-holds-only-requires
 holds-only-requires c κs = search needs
 
 returns : tie.Need-returns
+unfolding rootTableKnown rootCount
 returns c =
     let called = c .before in
     let second = called .before in
-    roots-refused _ _ (root-count _ (second .before .wide .ensures) (second .wide2 .ensures))
-    (failed (called .holds-only .ensures) (c .if1 .taken))
+    rw (
+      ← second .before .wide .ensures,
+      ← second .wide2 .ensures,
+      failed (called .holds-only .ensures) (c .if1 .taken),
+    )
 
 slice-aggregate-all-below : tie.Need-slice-aggregate-all-below
 slice-aggregate-all-below c =
@@ -42,12 +46,16 @@ all-below-requires : tie.Need-all-below-requires
 all-below-requires c κs = search needs
 
 returns-2 : tie.Need-returns-2
+unfolding rootTableKnown rootCount
 returns-2 c =
     let passed = c .before .before in
-    let second = passed .before .before in
-    c .all-below .ensures
-    ∙ sym (roots-judged _ _ (root-count _ (second .before .wide .ensures) (second .wide2 .ensures))
-    (held (passed .before .holds-only .ensures) (passed .if1 .left)))
+    let called = passed .before in
+    let second = called .before in
+    rw (
+      ← second .before .wide .ensures,
+      ← second .wide2 .ensures,
+      held (called .holds-only .ensures) (passed .if1 .left),
+    ) (c .all-below .ensures)
 
 pub root-table-known-spec : {M : Type 1} → statement M
 root-table-known-spec =

@@ -7,7 +7,7 @@ use lib.ListN.{length, set}
 use borrow.Author.Needs.{needs}
 use Rattle.definitions.specs.Lists.{every}
 use Rattle.lines.specs.laws.Passing.{Passed, passed-start, passed-more, passed-stop, passed-end}
-use Rattle.tables.specs.laws.Known.{set-within, set-beyond}
+use Rattle.tables.specs.laws.RecordTests.{set-within, set-beyond}
 use Rattle.tables.proofs.known.sets_within.Statement.{statement}
 use Rattle.tables.proofs.known.sets_within.Tie as tie
 

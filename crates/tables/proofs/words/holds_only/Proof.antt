@@ -6,7 +6,7 @@ use borrow.Author.Tests.{eq-eqb, ne-eqb}
 use borrow.Author.Needs.{needs}
 use Rattle.definitions.specs.ForeignTables.{holdsOnly}
 use Rattle.lines.specs.laws.Passing.{Passed, passed-more, passed-stop, passed-end}
-use Rattle.tables.specs.laws.Known.{isZero, holds-short, holds-from}
+use Rattle.tables.specs.laws.TableTests.{isZero, holds-short, holds-from}
 use Rattle.tables.proofs.words.holds_only.Statement.{statement}
 use Rattle.tables.proofs.words.holds_only.Tie as tie
 

@@ -46,11 +46,8 @@ returns-2 c =
 walk-requires : tie.Need-walk-requires
 walk-requires c κs =
     let a = entry (c .before .before .before) .args in
-    let q = c .before .is-context in
-    let fits = lookup-fits (a .header) (a .nodes .now) (a .classes .now) (a .root) (a .context .now)
-    (known (c .before .before)) in
-    let context = held (q .ensures) (c .if2 .left) in
-    (fits .0, fits .1, rw context tt, fits .2)
+    lookup-fits (a .header) (a .nodes .now) (a .classes .now) (a .root) (a .context .now)
+    (known (c .before .before))
 
 returns-3 : tie.Need-returns-3
 returns-3 c =

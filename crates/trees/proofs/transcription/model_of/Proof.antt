@@ -1,9 +1,8 @@
 -- `transcription::model_of` meets its contract: the record at the leaf that the walk from the root reaches.
 use mathlib.Core.Path.{ap, sym, _∙_}
-use Prim.Native.Nat.{ℕ, _+_, _-_, _*_, _≤_}
+use Prim.Native.Nat.{ℕ, _+_, _-_, _*_}
 use native.Mathlib.Omega.{arith}
 use lib.Seq.{length-take-le}
-use lib.ListN.{length, take}
 use borrow.Author.Needs.{needs}
 use Rattle.definitions.specs.Lists.{_!_}
 use Rattle.tables.specs.Lending.{lentTables}
@@ -63,12 +62,8 @@ slice-aggregate-walk c =
 
 walk-requires : tie.Need-walk-requires
 walk-requires c κs =
-    let start = entry (c .before .before) in
-    let f = tables-known start in
-    let wide : start .args .header .classes
-    ≤ length (take (c .before .wide2 .result) (start .args .classes .now)) =
-    omega (arith, slice-aggregate-walk c, c .before .wide2 .ensures) in
-    (f .nodes, wide, start .pre .1, root (c .before .before) .listed)
+    let rooted = c .before .before in
+    (tables-known (entry rooted) .nodes, root rooted .listed)
 
 node-at-requires : tie.Need-node-at-requires
 node-at-requires c κs = search needs

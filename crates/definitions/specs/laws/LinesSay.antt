@@ -1,0 +1,112 @@
+-- Laws about what the lines of a written book say: the members, nodes and roots that were written, no others.
+-- The laws about the texts of books use them, of all lines and of those before a line.
+use mathlib.Core.Path.{_≡_, refl, ap, ap₂, _∙_}
+use mathlib.Core.List.{List, [], _∷_, _++_, map, append-nil}
+use Prim.Native.Nat.{ℕ, suc, _+_, _/_, _%_, _<_}
+use native.Mathlib.Omega.{arith}
+use lib.ListN.{length, length-append}
+use Rattle.definitions.specs.declared.Header.{Header}
+use Rattle.definitions.specs.Lists.{concatMap}
+use Rattle.definitions.specs.BookLines.{BookLine, N, L, R, headerIn, headerOf, Member, memberIn}
+use Rattle.definitions.specs.BookLines.{membersOf, TreeNode, question, leaf, nodeIn, nodesOf, rootIn}
+use Rattle.definitions.specs.BookLines.{rootsOf}
+use Rattle.definitions.specs.laws.Lists.{concatMap-append}
+use Rattle.definitions.specs.laws.WrittenBooks.{linesOfNodes, linesOfRoots, lineOfHeader, lineOfMember}
+use Rattle.definitions.specs.laws.WrittenBooks.{linesStating}
+
+-- ---- what lines say
+
+pub record Says (lines : List BookLine) (members : List Member) (nodes : List TreeNode) (roots : List ℕ)
+    : Type 0 where
+  pub members-said : membersOf lines ≡ members
+  pub nodes-said : nodesOf lines ≡ nodes
+  pub roots-said : rootsOf lines ≡ roots
+
+-- one part after another
+pub says-parts : {k l : List BookLine} {members others : List Member} {nodes more : List TreeNode}
+    {roots further : List ℕ} → Says k members nodes roots → Says l others more further
+    → Says (k ++ l) (members ++ others) (nodes ++ more) (roots ++ further)
+unfolding membersOf nodesOf rootsOf
+says-parts {k} {l} s t =
+    record {
+      members-said = concatMap-append memberIn k l ∙ ap₂ _++_ (s .members-said) (t .members-said);
+      nodes-said = concatMap-append nodeIn k l ∙ ap₂ _++_ (s .nodes-said) (t .nodes-said);
+      roots-said = concatMap-append rootIn k l ∙ ap₂ _++_ (s .roots-said) (t .roots-said);
+    }
+
+pub line-says : (line : BookLine) → Says (line ∷ []) (memberIn line) (nodeIn line) (rootIn line)
+unfolding membersOf nodesOf rootsOf concatMap
+line-says line = record {
+  members-said = append-nil (memberIn line);
+  nodes-said = append-nil (nodeIn line);
+  roots-said = append-nil (rootIn line);
+}
+
+pub members-say : (members : List Member) → Says (map lineOfMember members) members [] []
+unfolding membersOf nodesOf rootsOf memberIn nodeIn rootIn concatMap
+members-say [] = record { members-said = refl; nodes-said = refl; roots-said = refl }
+members-say (m ∷ members) = says-parts (line-says (lineOfMember m)) (members-say members)
+
+pub nodes-say : (at : ℕ) (nodes : List TreeNode) → Says (linesOfNodes at nodes) [] nodes []
+unfolding linesOfNodes membersOf nodesOf rootsOf memberIn nodeIn rootIn concatMap
+nodes-say at [] = record { members-said = refl; nodes-said = refl; roots-said = refl }
+nodes-say at (question class position yesNode noNode ∷ nodes) =
+    says-parts (line-says (N at class position yesNode noNode)) (nodes-say (suc at) nodes)
+nodes-say at (leaf model ∷ nodes) = says-parts (line-says (L at model)) (nodes-say (suc at) nodes)
+
+pub roots-say : (states at : ℕ) (roots : List ℕ) → Says (linesOfRoots states at roots) [] [] roots
+unfolding linesOfRoots membersOf nodesOf rootsOf memberIn nodeIn rootIn concatMap
+roots-say states at [] = record { members-said = refl; nodes-said = refl; roots-said = refl }
+roots-say states at (root ∷ roots) =
+    says-parts (line-says (R (at / states + 1) (at % states + 1) root)) (roots-say states (suc at) roots)
+
+pub lines-say : (header : Header) (members : List Member) (nodes : List TreeNode) (roots : List ℕ)
+    → Says (linesStating header members nodes roots) members nodes roots
+unfolding memberIn nodeIn rootIn
+lines-say header members nodes roots =
+    let others = says-parts (members-say members) (nodes-say 0 nodes) in
+    let after = says-parts others (roots-say (header .states) 0 roots) in
+    simp append-nil at (says-parts (line-says (lineOfHeader header)) after)
+
+-- ---- what stands before a line
+
+-- the header's line and others, which say these members, and so many nodes and roots
+pub record Before (header : Header) (before : List BookLine) (members : List Member) (nodes roots : ℕ) : Type 0
+  where
+    pub some-line : 0 < length before
+    pub header-is : headerOf before ≡ header
+    pub members-are : membersOf before ≡ members
+    pub nodes-many : length (nodesOf before) ≡ nodes
+    pub roots-many : length (rootsOf before) ≡ roots
+
+pub before-others : (header : Header) → Before header (lineOfHeader header ∷ []) [] 0 0
+unfolding headerOf headerIn membersOf nodesOf rootsOf memberIn nodeIn rootIn concatMap
+before-others header =
+    record {
+      some-line = omega arith;
+      header-is = refl;
+      members-are = refl;
+      nodes-many = refl;
+      roots-many = refl;
+    }
+
+header-stays : (before lines : List BookLine) → 0 < length before → headerOf (before ++ lines) ≡ headerOf before
+unfolding headerOf
+header-stays [] lines h = absurd (omega arith)
+header-stays (first ∷ before) lines h = refl
+
+pub before-more : {header : Header} {before lines : List BookLine} {members others : List Member}
+    {nodes roots : ℕ} {more : List TreeNode} {further : List ℕ} → Before header before members nodes roots
+    → Says lines others more further
+    → Before header (before ++ lines) (members ++ others) (nodes + length more) (roots + length further)
+before-more {before = before} {lines = lines} b s =
+    let own : Says before (membersOf before) (nodesOf before) (rootsOf before) =
+    record { members-said = refl; nodes-said = refl; roots-said = refl } in
+    let all = says-parts own s in
+    record {
+      some-line = rw length-append (omega (arith, b .some-line));
+      header-is = header-stays before lines (b .some-line) ∙ b .header-is;
+      members-are = all .members-said ∙ rw (b .members-are);
+      nodes-many = ap length (all .nodes-said) ∙ rw (length-append, b .nodes-many);
+      roots-many = ap length (all .roots-said) ∙ rw (length-append, b .roots-many);
+    }
