@@ -36,6 +36,15 @@ pub data Outcome (A : Type 0) : Type 0 where
   answered : A → Outcome A
   refused : Refusal → Outcome A
 
+-- the number of its fault and the fault's line, both 0 where there is an answer
+unfoldable pub faultOf : {A : Type 0} → Outcome A → ℕ
+faultOf (answered a) = 0
+faultOf (refused r) = numberOf (r .fault)
+
+unfoldable pub faultLine : {A : Type 0} → Outcome A → ℕ
+faultLine (answered a) = 0
+faultLine (refused r) = r .line
+
 abbrev pub refuse : {A : Type 0} → Fault → ℕ → Outcome A
 refuse fault line = refused (record { fault = fault; line = line })
 

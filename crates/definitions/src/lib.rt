@@ -1,5 +1,5 @@
 // What every layer shares: the sizes of records, a book's header, a tree's node, a network's counts, and refusals by
-// fault.
+// fault. Header, node and counts are laid out as in C, since C programs hand them over.
 ghost use mathlib.Core.Path.{_≡_};
 ghost use Rattle.definitions.specs.Faults.{numberOf};
 
@@ -13,6 +13,7 @@ pub const METASTATE_SIZE: usize = 8;
 pub const ARC_SIZE: usize = 4;
 
 // The numbers of an H line.
+#[repr(C)]
 pub struct Header {
     // The half-width n: a context has 2n+1 phones.
     pub half: u32,
@@ -24,6 +25,7 @@ pub struct Header {
 }
 
 // The five words of a node record; the last three are 0 at a leaf.
+#[repr(C)]
 pub struct Node {
     // 1 for a question, 2 for a leaf.
     pub kind: u32,
@@ -35,6 +37,7 @@ pub struct Node {
 }
 
 // The numbers of a W line.
+#[repr(C)]
 pub struct Counts {
     // States per metastate, k.
     pub states: u32,

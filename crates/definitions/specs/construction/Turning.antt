@@ -29,7 +29,7 @@ use Rattle.definitions.specs.construction.Performing.{enteredBy, entered
 
 -- ---- what the events enter
 
-entered-enter : (from : ℕ) (table : List Metastate) → enteredIn (map (enter from) table) ≡ table
+pub entered-enter : (from : ℕ) (table : List Metastate) → enteredIn (map (enter from) table) ≡ table
 unfolding concatMap enteredBy
 entered-enter from [] = refl
 entered-enter from (x ∷ table) = ap (λ l. x ∷ l) (entered-enter from table)
