@@ -4,6 +4,7 @@ pub mod meeting;
 pub mod sets;
 pub mod shaping;
 pub mod testing;
+mod whole;
 pub mod words;
 
 // A matrix of 2n+1 columns, each a set of phones; the unused columns are 0.

@@ -1,15 +1,32 @@
 // Matrices in lent words, alone and after a number: leaves and metastates are held so.
 use crate::Matrix;
+use crate::whole::put_whole;
+use crate::whole::whole_matrix;
+use crate::whole::word_at;
 ghost use mathlib.Core.List.{_∷_};
 ghost use mathlib.Core.Path.{_≡_};
-ghost use Prim.Native.Nat.{_≤_};
-ghost use lib.ListN.{take, drop};
-ghost use Rattle.definitions.specs.Lists.{_!_, padded, same};
+ghost use Prim.Native.Nat.{_+_};
+ghost use lib.Dec.{leb};
+ghost use lib.ListN.{length, take, drop};
+ghost use Rattle.definitions.specs.Lists.{padded, same};
 ghost use Rattle.definitions.specs.Matrices.{matrixSize};
 ghost use Rattle.matrix.specs.Words.{overwritten};
 
-// The matrix in the seven words from a place on; words that are not there count as 0.
-pub fn matrix_at(words: &[u64], from: usize) -> Matrix
+// Whether so many words from a place on are all there.
+pub fn are_there(words: &[u64], from: usize, count: usize) -> bool
+    ensures { λ r. ⌜ r ≡ leb (from + count) (length (now (words .entry))) ⌝ }
+{
+    if words.len() < from {
+        return false;
+    }
+    if words.len() - from < count {
+        return false;
+    }
+    true
+}
+
+// The matrix in words of which some may not be there, one by one.
+fn matrix_part(words: &[u64], from: usize) -> Matrix
     ensures { λ r. ⌜ r .columns ≡ take matrixSize (padded matrixSize (drop from (now (words .entry)))) ⌝ }
 {
     let mut columns = [0u64; 7];
@@ -28,19 +45,18 @@ pub fn matrix_at(words: &[u64], from: usize) -> Matrix
     Matrix { columns }
 }
 
-// A number and the columns of a matrix, by place.
-fn word_at(number: u64, m: Matrix, place: usize) -> u64
-    requires { ⌜ place ≤ matrixSize ⌝ }
-    ensures { λ r. ⌜ r ≡ (number ∷ m .columns) ! place ⌝ }
+// The matrix in the seven words from a place on; words that are not there count as 0.
+pub fn matrix_at(words: &[u64], from: usize) -> Matrix
+    ensures { λ r. ⌜ r .columns ≡ take matrixSize (padded matrixSize (drop from (now (words .entry)))) ⌝ }
 {
-    if place == 0 {
-        return number;
+    if are_there(words, from, 7) {
+        return whole_matrix(words, from);
     }
-    m.columns[place - 1]
+    matrix_part(words, from)
 }
 
-// Writes a number and a matrix into the eight words from a place on, or as many as are there.
-pub fn put_numbered(words: &mut [u64], at: usize, number: u64, m: Matrix)
+// Writes a number and a matrix into words of which some may not be there, one by one.
+fn put_part(words: &mut [u64], at: usize, number: u64, m: Matrix)
     ensures { λ r. ⌜ now (words .exit) ≡ overwritten (now (words .entry)) at (number ∷ m .columns) ⌝ }
 {
     if words.len() <= at {
@@ -55,6 +71,17 @@ pub fn put_numbered(words: &mut [u64], at: usize, number: u64, m: Matrix)
         words[at + i] = word_at(number, m, i);
         i += 1;
     }
+}
+
+// Writes a number and a matrix into the eight words from a place on, or as many as are there.
+pub fn put_numbered(words: &mut [u64], at: usize, number: u64, m: Matrix)
+    ensures { λ r. ⌜ now (words .exit) ≡ overwritten (now (words .entry)) at (number ∷ m .columns) ⌝ }
+{
+    if are_there(words, at, 8) {
+        put_whole(words, at, number, m);
+        return;
+    }
+    put_part(words, at, number, m);
 }
 
 // Whether eight words are this number and this matrix.

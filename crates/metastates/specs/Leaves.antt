@@ -1,9 +1,9 @@
 -- Leaves in lent words: a table with a record for each node, and lists of leaves ascending by node.
 use mathlib.Core.Path.{_≡_}
 use mathlib.Core.List.{List, [], _∷_, _++_, map}
-use mathlib.Core.Bool.{Bool, not}
-use Prim.Native.Nat.{ℕ, _+_, _*_, _/_}
-use lib.Dec.{leb, eqb}
+use mathlib.Core.Bool.{Bool, false, not}
+use Prim.Native.Nat.{ℕ, _+_, _*_, _/_, _≤_, max}
+use lib.Dec.{T, leb, eqb}
 use lib.ListN.{length, take, drop}
 use Rattle.definitions.specs.Lists.{if_then_else_, _!_, concatMap, upFrom, select, records}
 use Rattle.definitions.specs.Matrices.{matrixSize, matrixWords}
@@ -36,6 +36,19 @@ unfoldable pub listed : (table : List ℕ) → List ℕ
 listed table =
     concatMap (listedAt table) (select (isMarked table) (upFrom 0 (length table / leafSize)))
 
+-- no record is used
+abbrev pub NoneUsed : (table : List ℕ) → Type 0
+NoneUsed table = (node : ℕ) → isMarked table node ≡ false
+
+-- the used records are all those of nodes from one to another
+abbrev pub UsedWithin : (first last : ℕ) → (table : List ℕ) → Type 0
+UsedWithin first last table = (node : ℕ) → T (isMarked table node) → (first ≤ node) × (node ≤ last)
+
+-- the greatest node of leaves, 0 where there are none
+unfoldable pub lastNode : List Leaf → ℕ
+lastNode [] = 0
+lastNode (l ∷ leaves) = max (l .node) (lastNode leaves)
+
 -- ---- the list: the node and the matrix of each leaf
 
 unfoldable pub leafWords : Leaf → List ℕ
@@ -55,3 +68,12 @@ leavesIn width words = map (leafIn width) (records leafSize (length words / leaf
 -- words that are a list of leaves with matrices of so many columns
 abbrev pub IsList : (width : ℕ) → (words : List ℕ) → Type 0
 IsList width words = words ≡ concatMap leafWords (leavesIn width words)
+
+-- what listing leaves into lent words leaves: so many records of the list are these words, and no record of the
+-- table is used any more
+pub record Listing (words tableBefore listBefore : List ℕ) (count : ℕ) (table list : List ℕ) : Type 0 where
+  pub room : leafSize * count ≤ length list
+  pub holds : take (leafSize * count) list ≡ words
+  pub listSized : length list ≡ length listBefore
+  pub tableSized : length table ≡ length tableBefore
+  pub none : NoneUsed table

@@ -1,5 +1,6 @@
 -- The laws of this crate: leaves put into a table and listed, combinations added to the space.
 pub mod PuttingLeaves
+pub mod LastNodes
 pub mod WalkingLeaves
 pub mod ListingLeaves
 pub mod CollectingLeaves

@@ -4,7 +4,7 @@ use crate::LEAF_SIZE;
 use definitions::COMBINATION_SIZE;
 use matrix::Matrix;
 use matrix::meeting::meet;
-use matrix::testing::valid;
+use matrix::meeting::meets_at;
 use matrix::words::matrix_at;
 ghost use mathlib.Core.List.{[], _∷_, _++_};
 ghost use mathlib.Core.Path.{_≡_};
@@ -91,7 +91,7 @@ fn next_fit(leaves: &[u64], from: usize, m: Matrix, width: usize) -> usize
 {
     let mut place = from;
     while place < leaves.len() / LEAF_SIZE {
-        if valid(meet(m, leaf_matrix(leaves, place)), width) {
+        if meets_at(leaves, LEAF_SIZE * place + 1, m, width) {
             return place;
         }
         place += 1;

@@ -2,7 +2,7 @@
 use crate::LEAF_SIZE;
 use crate::walking::walk;
 use definitions::Header;
-use lines::clearing::clear_wide_words;
+use definitions::wide;
 use matrix::sets::all_phones;
 use matrix::sets::alone;
 use matrix::shaping::around;
@@ -13,19 +13,22 @@ ghost use mathlib.Core.List.{_++_};
 ghost use mathlib.Core.Path.{_≡_};
 ghost use Prim.Native.Nat.{_+_, _*_, _≤_};
 ghost use lib.Dec.{T};
-ghost use lib.ListN.{length, take, drop};
+ghost use lib.ListN.{length, set, take, drop};
 ghost use Rattle.definitions.specs.ForeignTables.{tablesKnown};
 ghost use Rattle.definitions.specs.Lists.{concatMap};
 ghost use Rattle.definitions.specs.Tables.{tablesBook};
 ghost use Rattle.tables.specs.Lending.{lentTables};
-ghost use Rattle.metastates.specs.Leaves.{leafSize, leafWords, leavesFor, listed, listedAt};
+ghost use Rattle.metastates.specs.Leaves.{leafSize, listed, listedAt, NoneUsed, UsedWithin};
+ghost use Rattle.metastates.specs.Leaves.{leafWords, leavesFor, Listing};
 
-// Copies a leaf's matrix into the record at a place of the list, the node before it.
-fn copy_leaf(table: &[u64], node: usize, list: &mut [u64], place: usize)
+// Takes a leaf out of the table: copies its matrix into the record at a place of the list, the node before it, and marks
+// its own record as not used.
+fn take_leaf(table: &mut [u64], node: usize, list: &mut [u64], place: usize)
     requires { ⌜
         (leafSize * node + leafSize ≤ length (now table)) × (leafSize * place + leafSize ≤ length (now list))
         ⌝ }
-    ensures { λ r. ⌜
+    ensures table { λ r. ⌜ now (table .exit) ≡ set (now (table .entry)) (leafSize * node) 0 ⌝ }
+    ensures list { λ r. ⌜
         now (list .exit)
         ≡ take (leafSize * place) (now (list .entry)) ++ listedAt (now (table .entry)) node
         ++ drop (leafSize * place + leafSize) (now (list .entry))
@@ -33,21 +36,26 @@ fn copy_leaf(table: &[u64], node: usize, list: &mut [u64], place: usize)
 {
     let m = matrix_at(table, LEAF_SIZE * node + 1);
     put_numbered(list, LEAF_SIZE * place, node as u64, m);
+    table[LEAF_SIZE * node] = 0;
 }
 
-// Lists the nodes whose records are used, ascending, each with its matrix; answers how many.
-fn collect(table: &[u64], list: &mut [u64]) -> usize
-    requires { ⌜ length (now table) ≤ length (now list) ⌝ }
+// Lists the nodes whose records are used, ascending, each with its matrix, and leaves no record used; answers how many.
+// Looks only at the nodes from one to another: the table is as long as the book, a tree's nodes mostly stand together.
+fn collect(table: &mut [u64], first: usize, last: usize, list: &mut [u64]) -> usize
+    requires { ⌜
+        (leafSize * first ≤ length (now table)) × (leafSize * last + leafSize ≤ length (now table))
+        × (length (now table) ≤ length (now list)) × UsedWithin first last (now table)
+        ⌝ }
     ensures { λ r. ⌜
-        (leafSize * r ≤ length (now (list .exit))) × (length (now (list .exit)) ≡ length (now (list .entry)))
-        × (take (leafSize * r) (now (list .exit)) ≡ listed (now (table .entry)))
+        Listing (listed (now (table .entry))) (now (table .entry)) (now (list .entry)) r
+        (now (table .exit)) (now (list .exit))
         ⌝ }
 {
     let mut count = 0;
-    let mut node = 0;
-    while node < table.len() / LEAF_SIZE {
+    let mut node = first;
+    while node <= last {
         if table[LEAF_SIZE * node] != 0 {
-            copy_leaf(table, node, list, count);
+            take_leaf(table, node, list, count);
             count += 1;
         }
         node += 1;
@@ -55,7 +63,8 @@ fn collect(table: &[u64], list: &mut [u64]) -> usize
     count
 }
 
-// Lists the leaves of a phone's tree for a state; answers how many. A state that the book lacks has none.
+// Lists the leaves of a phone's tree for a state; answers how many. A state that the book lacks has none. The table has no
+// used record before and after, so it need not be cleared for each tree.
 pub fn list_leaves(
     header: Header,
     nodes: &[u32],
@@ -70,13 +79,12 @@ pub fn list_leaves(
         T (tablesKnown header (lentTables (now nodes) (now classes) (now roots)))
         × (1 ≤ phone) × (phone ≤ header .phones) × (1 ≤ state)
         × (length (now table) ≡ leafSize * header .nodes) × (length (now table) ≤ length (now list))
+        × NoneUsed (now table)
         ⌝ }
     ensures { λ r. ⌜
-        (leafSize * r ≤ length (now (list .exit))) × (length (now (list .exit)) ≡ length (now (list .entry)))
-        × (length (now (table .exit)) ≡ length (now (table .entry)))
-        × (take (leafSize * r) (now (list .exit)) ≡ concatMap leafWords (leavesFor
+        Listing (concatMap leafWords (leavesFor
         (tablesBook header (lentTables (now (nodes .entry)) (now (classes .entry)) (now (roots .entry))))
-        phone state))
+        phone state)) (now (table .entry)) (now (list .entry)) r (now (table .exit)) (now (list .exit))
         ⌝ }
 {
     if header.states < state {
@@ -84,14 +92,7 @@ pub fn list_leaves(
     }
     let all = all_phones(header.phones);
     let top = around(header.half, all, alone(phone), all);
-    clear_wide_words(table);
-    walk(
-        header,
-        nodes,
-        classes,
-        root_of(header, roots, phone, state),
-        top,
-        table,
-    );
-    collect(table, list)
+    let root = root_of(header, roots, phone, state);
+    let last = walk(header, nodes, classes, root, top, table);
+    collect(table, wide(root), wide(last), list)
 }

@@ -27,7 +27,7 @@ ghost use Rattle.definitions.specs.Tables.{tablesBook};
 ghost use Rattle.tables.specs.Lending.{lentTables};
 ghost use Rattle.metastates.specs.Answers.{combinedOf, endsOf, endsLeft};
 ghost use Rattle.metastates.specs.Choices.{Holding, Grown};
-ghost use Rattle.metastates.specs.Leaves.{leafSize};
+ghost use Rattle.metastates.specs.Leaves.{leafSize, NoneUsed};
 
 // Adds the combinations of a phone; answers how many there are then, or one more than have room.
 fn choose_phone(
@@ -48,6 +48,7 @@ fn choose_phone(
         × (1 ≤ phone) × (phone ≤ header .phones) × Holding (now space) count
         × (length (now table) ≡ leafSize * header .nodes) × (length (now table) ≤ length (now first))
         × (length (now table) ≤ length (now second)) × (length (now table) ≤ length (now third))
+        × NoneUsed (now table)
         ⌝ }
     ensures space { λ r. ⌜
         Grown (now (space .entry)) count
@@ -56,7 +57,7 @@ fn choose_phone(
         (now (space .exit)) r
         ⌝ }
     ensures lists { λ r. ⌜
-        (length (now (table .exit)) ≡ length (now (table .entry)))
+        (length (now (table .exit)) ≡ length (now (table .entry))) × NoneUsed (now (table .exit))
         × (length (now (first .exit)) ≡ length (now (first .entry)))
         × (length (now (second .exit)) ≡ length (now (second .entry)))
         × (length (now (third .exit)) ≡ length (now (third .entry)))
@@ -87,8 +88,110 @@ fn choose_phone(
 }
 
 // Adds the combinations of all phones, and notes how many there are after each; answers how many there are, or one more than
-// have room.
-fn choose_all(
+// have room. The working lists are lent.
+fn choose_phones(
+    header: Header,
+    nodes: &[u32],
+    classes: &[u64],
+    roots: &[u32],
+    table: &mut [u64],
+    first: &mut [u64],
+    second: &mut [u64],
+    third: &mut [u64],
+    space: &mut [u64],
+    ends: &mut [u32],
+) -> usize
+    requires { ⌜
+        T (tablesKnown header (lentTables (now nodes) (now classes) (now roots)))
+        × (now space ≡ cleared (length (now space))) × (now ends ≡ cleared 65)
+        × (length (now table) ≡ leafSize * header .nodes) × (length (now table) ≤ length (now first))
+        × (length (now table) ≤ length (now second)) × (length (now table) ≤ length (now third))
+        × NoneUsed (now table)
+        ⌝ }
+    ensures space { λ r. ⌜
+        Grown (now (space .entry)) 0
+        (combinations
+        (tablesBook header (lentTables (now (nodes .entry)) (now (classes .entry)) (now (roots .entry)))))
+        (now (space .exit)) r
+        ⌝ }
+    ensures ends { λ r. ⌜
+        (r ≤ combinationRoom (length (now (space .entry)))
+        → now (ends .exit) ≡ padded 65 (endsOf
+        (tablesBook header (lentTables (now (nodes .entry)) (now (classes .entry)) (now (roots .entry))))))
+        ⌝ }
+{
+    let mut count = 0;
+    let mut phone = 1;
+    while phone <= header.phones {
+        count = choose_phone(
+            header,
+            nodes,
+            classes,
+            roots,
+            phone,
+            table,
+            first,
+            second,
+            third,
+            space,
+            count,
+        );
+        if room_in(space.len()) < count {
+            return count;
+        }
+        ends[wide(phone)] = count as u32;
+        phone += 1;
+    }
+    count
+}
+
+// The combinations of all phones, with working lists for at most 256 nodes.
+fn choose_few(
+    header: Header,
+    nodes: &[u32],
+    classes: &[u64],
+    roots: &[u32],
+    space: &mut [u64],
+    ends: &mut [u32],
+) -> usize
+    requires { ⌜
+        T (tablesKnown header (lentTables (now nodes) (now classes) (now roots)))
+        × (now space ≡ cleared (length (now space))) × (now ends ≡ cleared 65)
+        × (header .nodes ≤ 256)
+        ⌝ }
+    ensures space { λ r. ⌜
+        Grown (now (space .entry)) 0
+        (combinations
+        (tablesBook header (lentTables (now (nodes .entry)) (now (classes .entry)) (now (roots .entry)))))
+        (now (space .exit)) r
+        ⌝ }
+    ensures ends { λ r. ⌜
+        (r ≤ combinationRoom (length (now (space .entry)))
+        → now (ends .exit) ≡ padded 65 (endsOf
+        (tablesBook header (lentTables (now (nodes .entry)) (now (classes .entry)) (now (roots .entry))))))
+        ⌝ }
+{
+    let mut table = [0u64; 2048];
+    let mut first = [0u64; 2048];
+    let mut second = [0u64; 2048];
+    let mut third = [0u64; 2048];
+    let size = LEAF_SIZE * wide(header.nodes);
+    choose_phones(
+        header,
+        nodes,
+        classes,
+        roots,
+        &mut table[..size],
+        &mut first,
+        &mut second,
+        &mut third,
+        space,
+        ends,
+    )
+}
+
+// The combinations of all phones, with working lists for any number of nodes.
+fn choose_many(
     header: Header,
     nodes: &[u32],
     classes: &[u64],
@@ -117,29 +220,49 @@ fn choose_all(
     let mut second = [0u64; 32768];
     let mut third = [0u64; 32768];
     let size = LEAF_SIZE * wide(header.nodes);
-    let mut count = 0;
-    let mut phone = 1;
-    while phone <= header.phones {
-        count = choose_phone(
-            header,
-            nodes,
-            classes,
-            roots,
-            phone,
-            &mut table[..size],
-            &mut first,
-            &mut second,
-            &mut third,
-            space,
-            count,
-        );
-        if room_in(space.len()) < count {
-            return count;
-        }
-        ends[wide(phone)] = count as u32;
-        phone += 1;
+    choose_phones(
+        header,
+        nodes,
+        classes,
+        roots,
+        &mut table[..size],
+        &mut first,
+        &mut second,
+        &mut third,
+        space,
+        ends,
+    )
+}
+
+// The combinations of all phones. A small book gets small working lists, so that few words are cleared for it.
+fn choose_all(
+    header: Header,
+    nodes: &[u32],
+    classes: &[u64],
+    roots: &[u32],
+    space: &mut [u64],
+    ends: &mut [u32],
+) -> usize
+    requires { ⌜
+        T (tablesKnown header (lentTables (now nodes) (now classes) (now roots)))
+        × (now space ≡ cleared (length (now space))) × (now ends ≡ cleared 65)
+        ⌝ }
+    ensures space { λ r. ⌜
+        Grown (now (space .entry)) 0
+        (combinations
+        (tablesBook header (lentTables (now (nodes .entry)) (now (classes .entry)) (now (roots .entry)))))
+        (now (space .exit)) r
+        ⌝ }
+    ensures ends { λ r. ⌜
+        (r ≤ combinationRoom (length (now (space .entry)))
+        → now (ends .exit) ≡ padded 65 (endsOf
+        (tablesBook header (lentTables (now (nodes .entry)) (now (classes .entry)) (now (roots .entry))))))
+        ⌝ }
+{
+    if header.nodes <= 256 {
+        return choose_few(header, nodes, classes, roots, space, ends);
     }
-    count
+    choose_many(header, nodes, classes, roots, space, ends)
 }
 
 // The refusal of a fault.

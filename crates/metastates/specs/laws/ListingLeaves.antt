@@ -1,30 +1,29 @@
--- Laws about the list of leaves: where leaves of different nodes were put into a cleared table, the used
--- records in order are the leaves ascending. The used nodes and the leaves' nodes are the same numbers, and
--- both rise.
+-- Laws about the list of leaves: where leaves of different nodes were put into a table in which no record was
+-- used, the used records in order are the leaves ascending. The used nodes and the leaves' nodes are the same
+-- numbers, and both rise.
 use mathlib.Core.Path.{_≡_, refl, sym, ap, ap₂, _∙_, subst}
 use mathlib.Core.Logic.{_⊎_, inl, inr, ⊎-elim}
-use mathlib.Core.List.{List, [], _∷_, _++_}
+use mathlib.Core.List.{List, [], _∷_}
 use mathlib.Core.Bool.{Bool, true, false, not}
 use Prim.Native.Nat.{ℕ, zero, suc, _+_, _*_, _/_, _≤_, _<_}
 use native.Mathlib.Nat.{add-zero}
 use native.Mathlib.Decide.{ℕ-discrete}
 use native.Mathlib.Omega.{arith}
 use lib.Dec.{T, eqb, lit<}
-use lib.ListN.{length, take, drop, length-replicate, getD-replicate}
+use lib.ListN.{length, take, drop}
 use lib.Seq.{getD-take, getD-drop, drop-drop}
-use borrow.Author.Tests.{eq-eqb}
 use Rattle.definitions.specs.Lists.{if_then_else_, _!_, concatMap, upFrom, select, cleared}
 use Rattle.definitions.specs.Matrices.{matrixWords}
 use Rattle.definitions.specs.Combinations.{Leaf, isBefore, insertLeaf, ascending}
 use Rattle.definitions.specs.laws.Tests.{by-test}
 use Rattle.definitions.specs.laws.Lists.{concatMap-map}
-use Rattle.definitions.specs.laws.Members.{isIn, distinct, in-map, of-map}
+use Rattle.definitions.specs.laws.Members.{isIn, distinct, in-map, of-map, concatMap-same}
 use Rattle.definitions.specs.laws.Selected.{select-here, select-past}
 use Rattle.definitions.specs.laws.Rising.{Rising}
 use Rattle.definitions.specs.laws.Leaves.{of-ascending}
 use Rattle.definitions.specs.laws.Ascending.{leafNodes, leafBefore, ascending-rising}
-use Rattle.metastates.specs.Leaves.{leafSize, putLeaves, isMarked, listedAt, listed, leafWords}
-use Rattle.metastates.specs.laws.PuttingLeaves.{recordAt, AllInTable, all-length, all-other, all-own}
+use Rattle.metastates.specs.Leaves.{leafSize, putLeaves, isMarked, listedAt, listed, NoneUsed, leafWords}
+use Rattle.metastates.specs.laws.PuttingLeaves.{recordAt, Sized, AllInTable, all-length, all-other, all-own}
 
 -- ---- numbers that rise
 
@@ -112,9 +111,6 @@ module _ (table : List ℕ) (node : ℕ) where
   marked : (words : List ℕ) → recordAt table node ≡ 1 ∷ words → isMarked table node ≡ true
   marked words e = marked-as false (rw e)
 
-  unmarked : recordAt table node ! 0 ≡ 0 → isMarked table node ≡ false
-  unmarked e = marked-as true (eq-eqb _ 0 e)
-
   listed-as : (words : List ℕ) → recordAt table node ≡ 1 ∷ words → listedAt table node ≡ node ∷ words
   unfolding listedAt
   listed-as words e =
@@ -124,6 +120,11 @@ module _ (table : List ℕ) (node : ℕ) where
       rest : (l : List ℕ) → take 7 (drop 1 l) ≡ drop 1 (take leafSize l)
       rest [] = refl
       rest (x ∷ l) = refl
+
+-- the same record in two tables is used in both or in none
+marked-same : (a b : List ℕ) (node : ℕ) → recordAt a node ≡ recordAt b node → isMarked a node ≡ isMarked b node
+unfolding isMarked
+marked-same a b node e = rw (mark-is a node, mark-is b node, e)
 
 -- a number stands in a list, or does not
 in-or-not : (x : ℕ) (l : List ℕ) → isIn x l ⊎ (isIn x l → ⊥)
@@ -135,26 +136,29 @@ in-or-not x (y ∷ l) = go (ℕ-discrete x y) (in-or-not x l)
     go (no n) (inl i) = inl (inr i)
     go (no n) (inr m) = inr (λ h. ⊎-elim n m h)
 
--- elements that give the same
-concatMap-same : {A B : Type 0} (f g : A → List B) (l : List A) → ((x : A) → isIn x l → f x ≡ g x)
-    → concatMap f l ≡ concatMap g l
-unfolding concatMap
-concatMap-same f g [] h = refl
-concatMap-same f g (x ∷ l) h =
-    ap₂ _++_ (h x (inl refl)) (concatMap-same f g l (λ y i. h y (inr i)))
+-- ---- tables without used records
 
--- ---- leaves of different nodes in a cleared table
+-- a part of a cleared table
+part-zero : (size part i : ℕ) → take part (cleared size) ! i ≡ 0
+part-zero size zero i = refl
+part-zero zero (suc part) i = refl
+part-zero (suc size) (suc part) zero = refl
+part-zero (suc size) (suc part) (suc i) = part-zero size part i
+
+pub none-cleared : (size part : ℕ) → NoneUsed (take part (cleared size))
+unfolding isMarked
+none-cleared size part node = rw (part-zero size part (leafSize * node))
+
+-- ---- leaves of different nodes in a table without used records
 
 module _ (nodes : ℕ) (leaves : List Leaf) (fit : AllInTable nodes leaves) (apart : distinct (leafNodes leaves))
+    (empty : List ℕ) (sized : Sized nodes empty) (none : NoneUsed empty)
   where
-    abbrev empty : List ℕ
-    empty = cleared (leafSize * nodes)
-
     abbrev table : List ℕ
     table = putLeaves empty leaves
 
     own : (l : Leaf) → isIn l leaves → recordAt table (l .node) ≡ 1 ∷ matrixWords (l .matrix)
-    own = all-own nodes empty (length-replicate (leafSize * nodes) 0) leaves fit apart
+    own = all-own nodes empty sized leaves fit apart
 
     marks-leaf : (n : ℕ) → isIn n (leafNodes (ascending leaves)) → T (isMarked table n) × (n < nodes)
     marks-leaf n h =
@@ -162,39 +166,36 @@ module _ (nodes : ℕ) (leaves : List Leaf) (fit : AllInTable nodes leaves) (apa
         let there = of-ascending l leaves i in
         rw (e, marked table (l .node) _ (own l there)) (tt, fit l there .listed)
 
-    is-leaf : (n : ℕ) → n < nodes → T (isMarked table n) → isIn n (leafNodes (ascending leaves))
-    is-leaf n h t = ⊎-elim listed-there absent (in-or-not n (leafNodes leaves))
+    -- a used record is that of a leaf
+    pub used-leaf : (n : ℕ) → T (isMarked (putLeaves empty leaves) n) → isIn n (leafNodes leaves)
+    used-leaf n t = ⊎-elim (λ i. i) absent (in-or-not n (leafNodes leaves))
       where
-        listed-there : isIn n (leafNodes leaves) → isIn n (leafNodes (ascending leaves))
-        listed-there i =
-            let (l, j, e) = of-map (λ (l : Leaf). l .node) n leaves i in
-            rw e (in-map (λ (l : Leaf). l .node) l (ascending leaves) (in-ascending l leaves j))
-
-        absent : (isIn n (leafNodes leaves) → ⊥) → isIn n (leafNodes (ascending leaves))
+        absent : (isIn n (leafNodes leaves) → ⊥) → isIn n (leafNodes leaves)
         absent m =
-            let blank : recordAt table n ! 0 ≡ 0 =
-            ap (λ (r : List ℕ). r ! 0)
-            (all-other nodes empty (length-replicate (leafSize * nodes) 0) leaves fit n m)
-            ∙ sym (mark-is empty n) ∙ getD-replicate (leafSize * nodes) (leafSize * n) 0 0 (omega arith) in
-            absurd (rw (unmarked table n blank) at t)
+            let blank : isMarked table n ≡ false =
+            marked-same table empty n (all-other nodes empty sized leaves fit n m) ∙ none n in
+            absurd (rw blank at t)
+
+    is-leaf : (n : ℕ) → T (isMarked table n) → isIn n (leafNodes (ascending leaves))
+    is-leaf n t =
+        let (l, j, e) = of-map (λ (l : Leaf). l .node) n leaves (used-leaf n t) in
+        rw e (in-map (λ (l : Leaf). l .node) l (ascending leaves) (in-ascending l leaves j))
 
     nodes-listed : select (isMarked table) (upFrom 0 nodes) ≡ leafNodes (ascending leaves)
     nodes-listed =
         selected-rising (isMarked table) 0 nodes (leafNodes (ascending leaves))
         (rising-nodes (ascending leaves) (ascending-rising leaves apart))
         (λ x i. omega (arith, marks-leaf x i .1)) (λ x i. marks-leaf x i .0)
-        (λ x h k. is-leaf x (omega arith))
+        (λ x h k. is-leaf x)
 
     words-listed : (l : Leaf) → isIn l (ascending leaves) → listedAt table (l .node) ≡ leafWords l
     unfolding leafWords
     words-listed l i = listed-as table (l .node) _ (own l (of-ascending l leaves i))
 
-    pub all-listed : listed (putLeaves (cleared (leafSize * nodes)) leaves)
-        ≡ concatMap leafWords (ascending leaves)
+    pub all-listed : listed (putLeaves empty leaves) ≡ concatMap leafWords (ascending leaves)
     unfolding listed
     all-listed =
-        let count : length table / leafSize ≡ nodes =
-        omega (arith, all-length nodes empty (length-replicate (leafSize * nodes) 0) leaves fit) in
+        let count : length table / leafSize ≡ nodes = omega (arith, all-length nodes empty sized leaves fit) in
         ap (λ (n : ℕ). concatMap (listedAt table) (select (isMarked table) (upFrom 0 n))) count
         ∙ ap (concatMap (listedAt table)) nodes-listed
         ∙ concatMap-map (listedAt table) (λ (l : Leaf). l .node) (ascending leaves)

@@ -9,14 +9,14 @@ use lib.Dec.{leb}
 use lib.ListN.{length, take}
 use borrow.Author.Tests.{le-leb, lt-leb}
 use Rattle.definitions.specs.declared.Header.{Header}
-use Rattle.definitions.specs.Lists.{if_then_else_, _!_, concatMap, cleared}
+use Rattle.definitions.specs.Lists.{if_then_else_, _!_, concatMap}
 use Rattle.definitions.specs.BookLines.{rootCount}
 use Rattle.definitions.specs.Tables.{Book, Tables, tablesBook}
 use Rattle.definitions.specs.PhoneSets.{alone, allPhones}
 use Rattle.definitions.specs.Matrices.{Matrix, matrixSize, matrixWords, rootMatrix, yesSide, noSide}
 use Rattle.definitions.specs.Tables.{rootOf}
 use Rattle.definitions.specs.Combinations.{Leaf, leavesBelow, ascending, leavesOf}
-use Rattle.definitions.specs.laws.Members.{distinct, of-append, of-single}
+use Rattle.definitions.specs.laws.Members.{isIn, distinct, of-append, of-single, of-map}
 use Rattle.definitions.specs.laws.Walks.{Forward, by-node}
 use Rattle.definitions.specs.laws.Leaves.{below-leaf, below-question}
 use Rattle.definitions.specs.laws.Matrices.{yes-length, no-length, root-length}
@@ -28,10 +28,12 @@ use Rattle.matrix.specs.laws.Shapes.{root-shaped}
 use Rattle.tables.specs.Lending.{lentTables}
 use Rattle.tables.specs.laws.Records.{treeNodes}
 use Rattle.tables.specs.laws.KnownTables.{Fit, known-forward}
-use Rattle.metastates.specs.Leaves.{leafSize, putLeaves, listed, leafWords, leavesFor}
-use Rattle.metastates.specs.laws.PuttingLeaves.{InTable, AllInTable}
+use Rattle.metastates.specs.Leaves.{putLeaves, listed, NoneUsed, UsedWithin, lastNode}
+use Rattle.metastates.specs.Leaves.{leafWords, leavesFor}
+use Rattle.metastates.specs.laws.LastNodes.{last-most, last-below}
+use Rattle.metastates.specs.laws.PuttingLeaves.{InTable, AllInTable, Sized}
 use Rattle.matrix.specs.laws.Widths.{matrix-back, has-width}
-use Rattle.metastates.specs.laws.ListingLeaves.{all-listed}
+use Rattle.metastates.specs.laws.ListingLeaves.{used-leaf, all-listed}
 
 -- ---- the leaves below a node
 
@@ -54,6 +56,28 @@ below-in-table book forward (suc levels) m node h k l i =
     ⊎-elim
     (below-in-table book forward levels onYes yesNode (yesLater .listed) (rw (yes-length position s m) k) l)
     (below-in-table book forward levels onNo noNode (noLater .listed) (rw (no-length position s m) k) l)
+    (of-append l (leavesBelow levels book onYes yesNode) (leavesBelow levels book onNo noNode)
+    (rw (below-question book levels m node class position yesNode noNode e) at i)))
+
+-- none is before it
+below-after : (book : Book) → Forward (book .nodes) → (levels : ℕ) (m : Matrix) (node : ℕ) (l : Leaf)
+    → isIn l (leavesBelow levels book m node) → node ≤ l .node
+unfolding leavesBelow
+below-after book forward zero m node l i = absurd i
+below-after book forward (suc levels) m node l i =
+    by-node (book .nodes) node
+    (λ model e.
+    let same = of-single (record { node = node; matrix = m }) l
+    (rw (below-leaf book levels m node model e) at i) in
+    rw same (omega arith))
+    (λ class position yesNode noNode e.
+    let s : ℕ = book .classes ! (class - 1) in
+    let onYes : Matrix = yesSide position s m in
+    let onNo : Matrix = noSide position s m in
+    let (yesLater, noLater) = forward node class position yesNode noNode e in
+    ⊎-elim
+    (λ j. omega (arith, yesLater .greater, below-after book forward levels onYes yesNode l j))
+    (λ j. omega (arith, noLater .greater, below-after book forward levels onNo noNode l j))
     (of-append l (leavesBelow levels book onYes yesNode) (leavesBelow levels book onNo noNode)
     (rw (below-question book levels m node class position yesNode noNode e) at i)))
 
@@ -104,6 +128,12 @@ pub none-listed : (header : Header) (tables : Tables) (phone state : ℕ) → he
 unfolding leavesFor concatMap tablesBook
 none-listed header tables phone state h = rw (lt-leb state (header .states) h)
 
+-- a table whose used records are some leaves ascending, all from one node to another
+pub record TreePut (header : Header) (leaves : List Leaf) (first last : ℕ) (table : List ℕ) : Type 0 where
+  pub inside : last < header .nodes
+  pub within : UsedWithin first last table
+  pub holds : listed table ≡ concatMap leafWords leaves
+
 module _ (header : Header) (nodes classes roots : List ℕ)
     (fit : Fit header (lentTables nodes classes roots)) (phone state : ℕ) (few : state ≤ header .states)
     (root : ℕ)
@@ -150,12 +180,22 @@ module _ (header : Header) (nodes classes roots : List ℕ)
         rw (le-leb state (header .states) few, top .taken, count, ← own)
         (ap ascending (below-same bare book refl refl (header .nodes) _ root))
 
-    pub leaves-listed : (empty table : List ℕ) → empty ≡ cleared (leafSize * header .nodes)
+    -- put into a table in which no record was used
+    pub leaves-put : (empty table : List ℕ) → Sized (header .nodes) empty → NoneUsed empty
         → table ≡ putLeaves empty (leavesBelow (header .nodes)
         (tablesBook header (lentTables nodes classes [])) (matrixIn (header .half) columns) root)
-        → listed table ≡ concatMap leafWords
-        (leavesFor (tablesBook header (lentTables nodes classes roots)) phone state)
-    leaves-listed empty table e f =
-        ap listed (f ∙ ap (λ (t : List ℕ). putLeaves t found) e)
-        ∙ all-listed (header .nodes) found found-fit found-apart
-        ∙ ap (concatMap leafWords) found-are
+        → {last : ℕ} → last ≡ lastNode (leavesBelow (header .nodes)
+        (tablesBook header (lentTables nodes classes [])) (matrixIn (header .half) columns) root)
+        → TreePut header (leavesFor (tablesBook header (lentTables nodes classes roots)) phone state) root last
+        table
+    unfolding tablesBook
+    leaves-put empty table sized none put e = record {
+      inside = rw e (last-below (header .nodes) (omega arith) found (λ l i. found-fit l i .listed));
+      within = λ n t.
+          let i = used-leaf (header .nodes) found found-fit found-apart empty sized none n (rw put at t) in
+          let (l, j, f) = of-map (λ (l : Leaf). l .node) n found i in
+          rw (e, f) (below-after bare forward (header .nodes) matrix root l j, last-most found l j);
+      holds =
+          ap listed put ∙ all-listed (header .nodes) found found-fit found-apart empty sized none
+          ∙ ap (concatMap leafWords) found-are;
+    }

@@ -3,7 +3,7 @@
 -- side's seven words are those of the side.
 use mathlib.Core.Path.{_≡_, sym, ap, ap₂, _∙_}
 use mathlib.Core.List.{List, [], _∷_, _++_}
-use Prim.Native.Nat.{ℕ, zero, suc, _+_, _-_, _*_, _≤_, _<_}
+use Prim.Native.Nat.{ℕ, zero, suc, _+_, _-_, _*_, _≤_, _<_, max}
 use native.Mathlib.Omega.{arith}
 use lib.Dec.{T}
 use lib.ListN.{length, take, drop}
@@ -27,7 +27,8 @@ use Rattle.tables.specs.Lending.{lentTables}
 use Rattle.tables.specs.laws.KnownTables.{node-is, question-fits, known-forward}
 use Rattle.matrix.specs.Shapes.{widthOf, matrixIn, HasWidth}
 use Rattle.matrix.specs.laws.Widths.{matrix-back, has-width, width-taken}
-use Rattle.metastates.specs.Leaves.{leafSize, putLeaf, putLeaves}
+use Rattle.metastates.specs.Leaves.{leafSize, putLeaf, putLeaves, lastNode}
+use Rattle.metastates.specs.laws.LastNodes.{last-append}
 use Rattle.metastates.specs.laws.PuttingLeaves.{put-append}
 
 -- ---- enough levels
@@ -140,25 +141,39 @@ module _ (header : Header) (nodes classes : List ℕ) where
           take (leafSize * node) table ++ (1 ∷ z) ++ drop (leafSize * node + leafSize) table) w
           ∙ ap (putLeaves table) (sym (leaf-below m other))
 
+      pub last-leaf : (x .kind ≡ 1 → ⊥) → (columns : List ℕ)
+          → node ≡ lastNode (leaves (matrixIn (header .half) columns) node)
+      unfolding lastNode
+      last-leaf other columns =
+          sym (ap lastNode (leaf-below (matrixIn (header .half) columns) other) ∙ omega arith)
+
       -- a question's sides are put one after the other
-      pub walk-sides : T (headerKnown header) → x .kind ≡ 1 → (columns onYes onNo table between after : List ℕ)
-          → HasWidth (widthOf (header .half)) columns
-          → (class : ℕ) → class ≡ x .value
-          → onYes ≡ yesSide (x .position) (classes ! (class - 1)) columns
-          → onNo ≡ noSide (x .position) (classes ! (class - 1)) columns
-          → between ≡ putLeaves table (leaves (matrixIn (header .half) onYes) (x .yes))
-          → after ≡ putLeaves between (leaves (matrixIn (header .half) onNo) (x .no))
-          → after ≡ putLeaves table (leaves (matrixIn (header .half) columns) node)
-      walk-sides headed kind columns onYes onNo table between after w class e y n f g =
-          let width : ℕ = widthOf (header .half) in
-          let narrow = half-narrow header headed in
-          let m : Matrix = take width columns in
-          let s : ℕ = classes ! (x .value - 1) in
-          let yes-own = yes-words width narrow columns w (x .position) s onYes (rw e at y) in
-          let no-own = no-words width narrow columns w (x .position) s onNo (rw e at n) in
-          let first : List Leaf = leaves (yesSide (x .position) s m) (x .yes) in
-          let second : List Leaf = leaves (noSide (x .position) s m) (x .no) in
-          let one : between ≡ putLeaves table first = f ∙ rw (yes-own .taken) in
-          let two : after ≡ putLeaves between second = g ∙ rw (no-own .taken) in
-          two ∙ ap (λ (t : List ℕ). putLeaves t second) one ∙ sym (put-append table first second)
-          ∙ ap (putLeaves table) (sym (sides-below m kind))
+      module _ (headed : T (headerKnown header)) (kind : x .kind ≡ 1) {columns onYes onNo : List ℕ}
+          (w : HasWidth (widthOf (header .half)) columns) {class : ℕ} (e : class ≡ x .value)
+          (y : onYes ≡ yesSide (x .position) (classes ! (class - 1)) columns)
+          (n : onNo ≡ noSide (x .position) (classes ! (class - 1)) columns)
+        where
+          sides-are : leaves (matrixIn (header .half) columns) node
+              ≡ leaves (matrixIn (header .half) onYes) (x .yes) ++ leaves (matrixIn (header .half) onNo) (x .no)
+          sides-are =
+              let width : ℕ = widthOf (header .half) in
+              let narrow = half-narrow header headed in
+              let s : ℕ = classes ! (x .value - 1) in
+              let yes-own = yes-words width narrow columns w (x .position) s onYes (rw e at y) in
+              let no-own = no-words width narrow columns w (x .position) s onNo (rw e at n) in
+              sides-below (take width columns) kind ∙ rw (yes-own .taken, no-own .taken)
+
+          pub walk-sides : (table : List ℕ) {between after : List ℕ}
+              → between ≡ putLeaves table (leaves (matrixIn (header .half) onYes) (x .yes))
+              → after ≡ putLeaves between (leaves (matrixIn (header .half) onNo) (x .no))
+              → after ≡ putLeaves table (leaves (matrixIn (header .half) columns) node)
+          walk-sides table f g =
+              let second : List Leaf = leaves (matrixIn (header .half) onNo) (x .no) in
+              g ∙ ap (λ (t : List ℕ). putLeaves t second) f ∙ sym (put-append table _ second)
+              ∙ ap (putLeaves table) (sym sides-are)
+
+          pub last-sides : {onFirst onSecond last : ℕ} → last ≡ max onFirst onSecond
+              → onFirst ≡ lastNode (leaves (matrixIn (header .half) onYes) (x .yes))
+              → onSecond ≡ lastNode (leaves (matrixIn (header .half) onNo) (x .no))
+              → last ≡ lastNode (leaves (matrixIn (header .half) columns) node)
+          last-sides r f g = r ∙ ap₂ max f g ∙ sym (ap lastNode sides-are ∙ last-append _ _)

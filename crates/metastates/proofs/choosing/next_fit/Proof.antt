@@ -1,13 +1,14 @@
 -- `choosing::next_fit` meets its contract. The loop's invariant: the leaves before `place` do not fit.
-use mathlib.Core.Path.{_≡_, sym, _∙_}
+use mathlib.Core.Path.{_≡_, refl, sym, _∙_}
 use mathlib.Core.List.{List}
-use Prim.Native.Nat.{_-_, _<_}
+use Prim.Native.Nat.{_+_, _-_, _*_, _≤_, _<_}
 use native.Mathlib.Omega.{arith}
 use lib.ListN.{length, take}
 use borrow.Author.Needs.{needs}
 use Rattle.definitions.specs.Combinations.{Leaf}
 use Rattle.definitions.specs.laws.Searching.{NoneFrom, none-start, none-one, none-more, none-found, none-all}
-use Rattle.metastates.specs.Leaves.{leavesIn}
+use Rattle.matrix.specs.laws.Words.{seven-there}
+use Rattle.metastates.specs.Leaves.{leafSize, leavesIn}
 use Rattle.metastates.specs.Choices.{fitsAt}
 use Rattle.metastates.specs.laws.LeafLists.{leaves-length, met-valid}
 use Rattle.metastates.proofs.choosing.next_fit.Statement.{statement}
@@ -23,21 +24,21 @@ abbrev μ-loop : tie.MeasureT-loop
 loop-holds : tie.Need-loop-holds Inv-loop μ-loop
 loop-holds c = none-start (c .before .pre .2)
 
-leaf-matrix-requires : tie.Need-leaf-matrix-requires Inv-loop μ-loop
-leaf-matrix-requires c κs = omega arith
+mul-meets-at : tie.Need-mul-meets-at Inv-loop μ-loop
+mul-meets-at c = search needs
 
-meet-requires : tie.Need-meet-requires Inv-loop μ-loop
-meet-requires c κs = search needs
+add-meets-at : tie.Need-add-meets-at Inv-loop μ-loop
+add-meets-at c = search needs
 
-valid-requires : tie.Need-valid-requires Inv-loop μ-loop
-valid-requires c κs = search needs
+meets-at-requires : tie.Need-meets-at-requires Inv-loop μ-loop
+meets-at-requires c κs = search needs
 
 -- the test at a turn is of the leaf at `place`
 abbrev Tested : Type 0
-Tested = tie.After-valid Inv-loop μ-loop
+Tested = tie.After-meets-at Inv-loop μ-loop
 
 abbrev turn : Tested → tie.In-loop Inv-loop μ-loop
-turn c = c .before .before .before
+turn c = c .before
 
 abbrev entry : Tested → tie.Start Inv-loop μ-loop
 entry c = turn c .before .before .before
@@ -49,13 +50,15 @@ inside : (c : Tested) → turn c .before .loop .place < length (leaves-of c)
 inside c = rw leaves-length (turn c .loop-test .taken)
 
 tested : (c : Tested) → fitsAt (take (entry c .args .width) (entry c .args .m .columns)) (leaves-of c)
-    (turn c .before .loop .place) ≡ c .valid .result
+    (turn c .before .loop .place) ≡ c .meets-at .result
 tested c =
     let a = entry c .args in
     let pre = entry c .pre in
-    sym (c .valid .ensures
+    let from = leafSize * turn c .before .loop .place + 1 in
+    let there : from + 7 ≤ length (a .leaves .now) = omega arith in
+    sym (c .meets-at .ensures
     ∙ met-valid (a .width) (a .leaves .now) _ (inside c) (pre .0) (pre .1) (pre .3)
-    (c .before .before .leaf-matrix .ensures) (c .before .meet .ensures))
+    (seven-there (a .leaves .now) from there) refl)
 
 returns : tie.Need-returns Inv-loop μ-loop
 returns c = none-found (turn (c .before) .before .loop .inv) (tested (c .before) ∙ c .if1 .taken)
@@ -81,9 +84,9 @@ next-fit-spec =
     Inv-loop
     μ-loop
     loop-holds
-    leaf-matrix-requires
-    meet-requires
-    valid-requires
+    mul-meets-at
+    add-meets-at
+    meets-at-requires
     returns
     add-place
     loop-less

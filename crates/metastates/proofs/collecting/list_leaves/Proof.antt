@@ -1,13 +1,16 @@
--- `collecting::list_leaves` meets its contract: the cleared table is walked from the root's matrix, and its
--- used records are the leaves ascending.
-use mathlib.Core.Path.{refl, ap, _∙_}
+-- `collecting::list_leaves` meets its contract: the table, in which no record is used, is walked from the root's
+-- matrix; then its used records, all from the root to the last leaf, are the leaves ascending.
+use mathlib.Core.Path.{refl, _∙_}
+use mathlib.Core.List.{List}
 use native.Mathlib.Omega.{arith}
 use borrow.Author.Needs.{needs}
-use Rattle.definitions.specs.Lists.{cleared}
+use Rattle.definitions.specs.Combinations.{Leaf}
+use Rattle.definitions.specs.Tables.{tablesBook}
 use Rattle.tables.specs.Lending.{lentTables}
 use Rattle.tables.specs.laws.KnownTables.{Fit, tables-fit}
 use Rattle.tables.specs.laws.Roots.{TreeRoot, root-fits}
-use Rattle.metastates.specs.laws.TreeLeaves.{Top, top-words, none-listed, leaves-listed}
+use Rattle.metastates.specs.Leaves.{leavesFor}
+use Rattle.metastates.specs.laws.TreeLeaves.{Top, top-words, none-listed, TreePut, leaves-put}
 use Rattle.metastates.proofs.collecting.list_leaves.Statement.{statement}
 use Rattle.metastates.proofs.collecting.list_leaves.Tie as tie
 
@@ -33,25 +36,49 @@ top c =
 
 -- the root that it starts at
 root : (c : tie.After-root-of)
-    → TreeRoot (entry (some-state (c .before .before .before .before .before)) .args .header)
-    (entry (some-state (c .before .before .before .before .before)) .args .roots .now)
-    (entry (some-state (c .before .before .before .before .before)) .args .phone)
-    (entry (some-state (c .before .before .before .before .before)) .args .state) (c .root-of .result)
+    → TreeRoot (entry (some-state (c .before)) .args .header) (entry (some-state (c .before)) .args .roots .now)
+    (entry (some-state (c .before)) .args .phone) (entry (some-state (c .before)) .args .state)
+    (c .root-of .result)
 root c =
-    let asks = some-state (c .before .before .before .before .before) in
+    let asks = some-state (c .before) in
     let start = entry asks in
     let p = start .pre in
     root-fits (start .args .header) (start .args .roots .now) (fit start .roots) (p .1) (p .2) (p .3)
     (asks .if1 .left) (c .root-of .ensures)
 
+-- the table after the walk
+abbrev tree : tie.Start → List Leaf
+tree c =
+    let a = c .args in
+    leavesFor (tablesBook (a .header) (lentTables (a .nodes .now) (a .classes .now) (a .roots .now))) (a .phone)
+    (a .state)
+
+put : (c : tie.After-walk)
+    → TreePut (entry (some-state (c .before .before .before)) .args .header)
+    (tree (entry (some-state (c .before .before .before)))) (c .before .before .root-of .result)
+    (c .walk .result) (c .walk .last .1 .1 .1 .1 .1 .0)
+put c =
+    let rooted = c .before .before in
+    let around = rooted .before in
+    let asks = some-state around in
+    let start = entry asks in
+    let a = start .args in
+    leaves-put (a .header) (a .nodes .now) (a .classes .now) (a .roots .now) (fit start) (a .phone) (a .state)
+    (asks .if1 .left) (rooted .root-of .result) (root rooted .own) (root rooted .listed)
+    (around .around .result .columns) (top around) (a .table .now) (c .walk .last .1 .1 .1 .1 .1 .0)
+    (start .pre .4) (start .pre .6) (c .walk .ensures .0) (c .walk .ensures .1)
+
 returns : tie.Need-returns
 returns c =
-    let a = c .before .before .before .before .before .before .before .args in (
-      omega arith,
-      refl,
-      refl,
-      none-listed (a .header) _ (a .phone) (a .state) (c .if1 .taken),
-    )
+    let start = c .before .before .before .before .before .before .before in
+    let a = start .args in
+    record {
+      room = omega arith;
+      holds = none-listed (a .header) _ (a .phone) (a .state) (c .if1 .taken);
+      listSized = refl;
+      tableSized = refl;
+      none = start .pre .6;
+    }
 
 all-phones-requires : tie.Need-all-phones-requires
 all-phones-requires c κs = search needs
@@ -62,27 +89,40 @@ alone-requires c κs = search needs
 around-requires : tie.Need-around-requires
 around-requires c κs = search needs
 
-clear-wide-words-requires : tie.Need-clear-wide-words-requires
-clear-wide-words-requires c κs = search needs
-
 root-of-requires : tie.Need-root-of-requires
 root-of-requires c κs = search needs
 
 walk-requires : tie.Need-walk-requires
 walk-requires c κs =
-    let cleared-table = c .before .before .before .before in
-    let around = cleared-table .before .before in
+    let around = c .before .before in
     let start = entry (some-state around) in (
       fit start .header-known,
       fit start .nodes,
       fit start .classes,
       root (c .before) .listed,
       top around .words,
-      cleared-table .clear-wide-words .kept .0 ∙ start .pre .4,
+      start .pre .4,
     )
 
+wide-requires : tie.Need-wide-requires
+wide-requires c κs = search needs
+
+wide-requires-2 : tie.Need-wide-requires-2
+wide-requires-2 c κs = search needs
+
 collect-requires : tie.Need-collect-requires
-collect-requires c κs = search needs
+collect-requires c κs =
+    let walked = c .before .before .before .before .before .before in
+    let rooted = walked .before .before in
+    let start = entry (some-state (rooted .before)) in
+    let first = c .before .before .wide .ensures in
+    let last = c .before .wide2 .ensures in
+    let sized = walked .walk .kept .1 .1 .1 .1 .1 .0 ∙ start .pre .4 in (
+      omega (arith, first, sized, root rooted .listed),
+      omega (arith, last, sized, put walked .inside),
+      omega (arith, sized, start .pre .4, start .pre .5),
+      rw (first, last) (put walked .within),
+    )
 
 same-length : tie.Need-same-length
 same-length c = search needs
@@ -92,24 +132,16 @@ same-length-2 c = search needs
 
 returns-2 : tie.Need-returns-2
 returns-2 c =
-    let collect = c .before .before .collect in
-    let walked = c .before .before .before .before .before .before .before in
-    let rooted = walked .before .before in
-    let cleared-table = rooted .before .before .before in
-    let around = cleared-table .before .before in
-    let asks = some-state around in
-    let start = entry asks in
-    let a = start .args in (
-      collect .ensures .0,
-      collect .ensures .1,
-      walked .walk .kept .1 .1 .1 .1 .1 .0 ∙ cleared-table .clear-wide-words .kept .0,
-      collect .ensures .2
-          ∙ leaves-listed (a .header) (a .nodes .now) (a .classes .now) (a .roots .now) (fit start) (a .phone)
-          (a .state) (asks .if1 .left) (rooted .root-of .result) (root rooted .own) (root rooted .listed)
-          (around .around .result .columns) (top around) (cleared-table .clear-wide-words .last .0)
-          (walked .walk .last .1 .1 .1 .1 .1 .0)
-          (cleared-table .clear-wide-words .ensures ∙ ap cleared (start .pre .4)) (walked .walk .ensures),
-    )
+    let collected = c .before .before .before .before in
+    let walked = collected .before .before .before .before .before .before .before in
+    let list = collected .collect .ensures in
+    record {
+      room = list .room;
+      holds = list .holds ∙ put walked .holds;
+      listSized = list .listSized;
+      tableSized = list .tableSized ∙ walked .walk .kept .1 .1 .1 .1 .1 .0;
+      none = list .none;
+    }
 
 pub list-leaves-spec : {M : Type 1} → statement M
 list-leaves-spec =
@@ -119,9 +151,10 @@ list-leaves-spec =
     all-phones-requires
     alone-requires
     around-requires
-    clear-wide-words-requires
     root-of-requires
     walk-requires
+    wide-requires
+    wide-requires-2
     collect-requires
     same-length
     same-length-2

@@ -65,15 +65,17 @@ list-leaves-requires-2 : tie.Need-list-leaves-requires-2
 list-leaves-requires-2 c κs =
     let first = c .before .before .before .before .before .before in
     let p = entry first .pre in
-    let sized = first .list-leaves .ensures .2 in
-    (p .0, p .1, p .2, omega arith, sized ∙ p .4, omega (arith, sized, p .6))
+    let sized = first .list-leaves .ensures .tableSized in
+    let none = first .list-leaves .ensures .none in
+    (p .0, p .1, p .2, omega arith, sized ∙ p .4, omega (arith, sized, p .6), none)
 
 list-leaves-requires-3 : tie.Need-list-leaves-requires-3
 list-leaves-requires-3 c κs =
     let second = c .before .before .before .before .before .before in
     let p = entry (one second) .pre in
-    let sized = second .list-leaves2 .ensures .2 ∙ one second .list-leaves .ensures .2 in
-    (p .0, p .1, p .2, omega arith, sized ∙ p .4, omega (arith, sized, p .7))
+    let sized = second .list-leaves2 .ensures .tableSized ∙ one second .list-leaves .ensures .tableSized in
+    let none = second .list-leaves2 .ensures .none in
+    (p .0, p .1, p .2, omega arith, sized ∙ p .4, omega (arith, sized, p .7), none)
 
 all-phones-requires : tie.Need-all-phones-requires
 all-phones-requires c κs = search needs
@@ -96,37 +98,37 @@ add-width c = omega (arith, half-small c)
 mul-choose : tie.Need-mul-choose
 mul-choose c =
     let list = one (two (three c)) .list-leaves in
-    omega (arith, list .ensures .0, list .ensures .1, start c .good)
+    omega (arith, list .ensures .room, list .ensures .listSized, start c .good)
 
 slice-reshare-prefix-choose : tie.Need-slice-reshare-prefix-choose
-slice-reshare-prefix-choose c = one (two (three c)) .list-leaves .ensures .0
+slice-reshare-prefix-choose c = one (two (three c)) .list-leaves .ensures .room
 
 slice-aggregate-choose : tie.Need-slice-aggregate-choose
-slice-aggregate-choose c = sym (length-take-le _ _ (one (two (three (c .before))) .list-leaves .ensures .0))
+slice-aggregate-choose c = sym (length-take-le _ _ (one (two (three (c .before))) .list-leaves .ensures .room))
 
 mul-choose-2 : tie.Need-mul-choose-2
 mul-choose-2 c =
     let list = two (three (c .before)) .list-leaves2 in
-    omega (arith, list .ensures .0, list .ensures .1, start (c .before) .good)
+    omega (arith, list .ensures .room, list .ensures .listSized, start (c .before) .good)
 
 slice-reshare-prefix-choose-2 : tie.Need-slice-reshare-prefix-choose-2
-slice-reshare-prefix-choose-2 c = two (three (c .before)) .list-leaves2 .ensures .0
+slice-reshare-prefix-choose-2 c = two (three (c .before)) .list-leaves2 .ensures .room
 
 slice-aggregate-choose-2 : tie.Need-slice-aggregate-choose-2
 slice-aggregate-choose-2 c =
-    sym (length-take-le _ _ (two (three (c .before .before)) .list-leaves2 .ensures .0))
+    sym (length-take-le _ _ (two (three (c .before .before)) .list-leaves2 .ensures .room))
 
 mul-choose-3 : tie.Need-mul-choose-3
 mul-choose-3 c =
     let list = three (c .before .before) .list-leaves3 in
-    omega (arith, list .ensures .0, list .ensures .1, start (c .before .before) .good)
+    omega (arith, list .ensures .room, list .ensures .listSized, start (c .before .before) .good)
 
 slice-reshare-prefix-choose-3 : tie.Need-slice-reshare-prefix-choose-3
-slice-reshare-prefix-choose-3 c = three (c .before .before) .list-leaves3 .ensures .0
+slice-reshare-prefix-choose-3 c = three (c .before .before) .list-leaves3 .ensures .room
 
 slice-aggregate-choose-3 : tie.Need-slice-aggregate-choose-3
 slice-aggregate-choose-3 c =
-    sym (length-take-le _ _ (three (c .before .before .before) .list-leaves3 .ensures .0))
+    sym (length-take-le _ _ (three (c .before .before .before) .list-leaves3 .ensures .room))
 
 choose-requires : tie.Need-choose-requires
 unfolding tablesBook
@@ -142,21 +144,21 @@ choose-requires c κs =
       p .3,
       start-chosen b phone _ width narrow _ (top-is wide) (p .1) (p .2),
       omega (arith, r .states-range .high),
-      list-is b phone _ width narrow 1 (one (two list) .list-leaves .ensures .3),
-      list-is b phone _ width narrow 2 (two list .list-leaves2 .ensures .3),
-      list-is b phone _ width narrow 3 (list .list-leaves3 .ensures .3),
+      list-is b phone _ width narrow 1 (one (two list) .list-leaves .ensures .holds),
+      list-is b phone _ width narrow 2 (two list .list-leaves2 .ensures .holds),
+      list-is b phone _ width narrow 3 (list .list-leaves3 .ensures .holds),
     )
 
 same-length : tie.Need-same-length
 same-length c =
     let list = three (c .before .before .before .before .before .before .before) in
-    list .list-leaves3 .ensures .2 ∙ two list .list-leaves2 .ensures .2
-    ∙ one (two list) .list-leaves .ensures .2
+    list .list-leaves3 .ensures .tableSized ∙ two list .list-leaves2 .ensures .tableSized
+    ∙ one (two list) .list-leaves .ensures .tableSized
 
 same-length-2 : tie.Need-same-length-2
 same-length-2 c =
     let list = three (c .before .before .before .before .before .before .before) in
-    one (two list) .list-leaves .ensures .1
+    one (two list) .list-leaves .ensures .listSized
 
 same-length-3 : tie.Need-same-length-3
 same-length-3 c = search needs
@@ -178,10 +180,10 @@ returns c =
     let third = list .list-leaves3 in
     let grown = start-grown (book (start wide)) (start wide .args .phone) _ (width-is wide)
     (r .half-range .high) _ (top-is wide) (r .states-range .low) (r .states-range .high)
-    (first .ensures .3) (second .ensures .3) (third .ensures .3)
+    (first .ensures .holds) (second .ensures .holds) (third .ensures .holds)
     (c .before .before .choose .ensures) in
-    let table = third .ensures .2 ∙ second .ensures .2 ∙ first .ensures .2 in
-    (grown, (table, first .ensures .1, second .ensures .1, third .ensures .1))
+    let table = third .ensures .tableSized ∙ second .ensures .tableSized ∙ first .ensures .tableSized in
+    (grown, (table, third .ensures .none, first .ensures .listSized, second .ensures .listSized, third .ensures .listSized))
 
 pub choose-phone-spec : {M : Type 1} → statement M
 choose-phone-spec =

@@ -9,11 +9,13 @@ use borrow.Fn.PlainCycle.{Measures, is, falls, and}
 use Rattle.definitions.specs.declared.Node.{Node}
 use Rattle.definitions.specs.laws.Accepted.{QuestionFits}
 use Rattle.tables.specs.laws.KnownTables.{question-fits}
-use Rattle.metastates.specs.laws.WalkingLeaves.{half-narrow, yes-words, no-words, walk-leaf, walk-sides}
+use Rattle.metastates.specs.laws.WalkingLeaves.{half-narrow, yes-words, no-words, walk-leaf, last-leaf}
+use Rattle.metastates.specs.laws.WalkingLeaves.{walk-sides, last-sides}
 use Rattle.definitions.proofs.wide.Reads as wide-reads
 use Rattle.matrix.proofs.cutting.no_side.Reads as no-side-reads
 use Rattle.matrix.proofs.cutting.yes_side.Reads as yes-side-reads
 use Rattle.tables.proofs.records.node_at.Reads as node-at-reads
+use Rattle.metastates.proofs.walking.greater.Reads as greater-reads
 use Rattle.metastates.proofs.walking.put_leaf.Reads as put-leaf-reads
 use Rattle.metastates.proofs.walking.walk.Reads as walk
 use Rattle.metastates.proofs.walking.walk.Kinds as walk-kinds
@@ -44,6 +46,8 @@ calls t = (
   walk.Post,
   no-side-reads.Asked,
   no-side-reads.Learnt,
+  greater-reads.Asked,
+  greater-reads.Learnt,
 )
 
 -- the entry, and the record of a question
@@ -79,9 +83,13 @@ walk-returns t c =
     let read = c .before .before .before .before .before .before in
     let a = read .before .before .before .before .args in
     let p = read .before .before .before .before .pre .1 in
-    walk-leaf (a .header) (a .nodes .now) (a .classes .now) (p .1) (a .node) (p .3) (read .node-at .result)
-    (read .node-at .ensures) (c .before .before .before .before .if1 .taken) (a .m .columns) (a .table .now)
-    (c .before .before .put-leaf .last .0) (p .4) (c .before .before .put-leaf .ensures)
+    let other = c .before .before .before .before .if1 .taken in (
+      walk-leaf (a .header) (a .nodes .now) (a .classes .now) (p .1) (a .node) (p .3) (read .node-at .result)
+          (read .node-at .ensures) other (a .m .columns) (a .table .now)
+          (c .before .before .put-leaf .last .0) (p .4) (c .before .before .put-leaf .ensures),
+      last-leaf (a .header) (a .nodes .now) (a .classes .now) (p .1) (a .node) (p .3) (read .node-at .result)
+          (read .node-at .ensures) other (a .m .columns),
+    )
 
 walk-wide-requires : (t : ℕ) → walk-lts.Need-wide-requires (calls t) (walk-at t) walk.Post
 walk-wide-requires t c κs = search needs
@@ -134,23 +142,30 @@ walk-walk-requires-2 t c κs =
       (p .0, p .1, p .2, f .no-listed, side .words, first .walk .kept .1 .1 .1 .1 .1 .0 ∙ p .5),
     )
 
+walk-greater-requires : (t : ℕ) → walk-lts.Need-greater-requires (calls t) (walk-at t) walk.Post
+walk-greater-requires t c κs = search needs
+
 walk-same-length-2 : (t : ℕ) → walk-lts.Need-same-length-2 (calls t) (walk-at t) walk.Post
 walk-same-length-2 t c = search needs
 
 walk-returns-2 : (t : ℕ) → walk-lts.Need-returns-2 (calls t) (walk-at t) walk.Post
 walk-returns-2 t c =
-    let second = c .before .before in
+    let second = c .before .before .before in
     let first = second .before .before .before .before .before in
     let asks = first .before .before .before .before .before in
     let a = entry t asks .args in
     let p = entry t asks .pre .1 in
-    walk-sides (a .header) (a .nodes .now) (a .classes .now) (p .1) (a .node) (p .3) (read-node t asks)
-    (asks .before .before .node-at .ensures) (p .0) (asks .if1 .left) (a .m .columns)
-    (first .before .before .yes-side .result .columns) (second .before .before .no-side .result .columns)
-    (a .table .now) (first .walk .last .1 .1 .1 .1 .1 .0) (second .walk2 .last .1 .1 .1 .1 .1 .0) (p .4)
-    (first .before .before .before .before .wide .result) (first .before .before .before .before .wide .ensures)
-    (first .before .before .yes-side .ensures) (second .before .before .no-side .ensures)
-    (first .walk .ensures) (second .walk2 .ensures)
+    let class = first .before .before .before .before .wide in
+    let onYes = first .before .before .yes-side in
+    let onNo = second .before .before .no-side in (
+      walk-sides (a .header) (a .nodes .now) (a .classes .now) (p .1) (a .node) (p .3) (read-node t asks)
+          (asks .before .before .node-at .ensures) (p .0) (asks .if1 .left) (p .4) (class .ensures)
+          (onYes .ensures) (onNo .ensures) (a .table .now) (first .walk .ensures .0) (second .walk2 .ensures .0),
+      last-sides (a .header) (a .nodes .now) (a .classes .now) (p .1) (a .node) (p .3) (read-node t asks)
+          (asks .before .before .node-at .ensures) (p .0) (asks .if1 .left) (p .4) (class .ensures)
+          (onYes .ensures) (onNo .ensures) (c .greater .ensures) (first .walk .ensures .1)
+          (second .walk2 .ensures .1),
+    )
 
 pub +walk-spec : {M : Type 1} → statement M
 +walk-spec = close μ-walk λ t. walk-lts.spec (calls t) (walk-at t) walk.Post
@@ -166,5 +181,6 @@ pub +walk-spec : {M : Type 1} → statement M
     (walk-walk-requires t)
     (walk-no-side-requires t)
     (walk-walk-requires-2 t)
+    (walk-greater-requires t)
     (walk-same-length-2 t)
     (walk-returns-2 t)

@@ -1,8 +1,8 @@
--- `words::word_at` meets its contract: a column stands one place after its own.
+-- `whole::word_at` meets its contract: a column stands one place after its own.
 use borrow.Author.Needs.{needs}
 use Rattle.matrix.specs.laws.Words.{after-number}
-use Rattle.matrix.proofs.words.word_at.Statement.{statement}
-use Rattle.matrix.proofs.words.word_at.Tie as tie
+use Rattle.matrix.proofs.whole.word_at.Statement.{statement}
+use Rattle.matrix.proofs.whole.word_at.Tie as tie
 
 returns : tie.Need-returns
 returns c = search needs

@@ -1,35 +1,37 @@
--- `combining::choose_all` meets its contract. The loop's invariant: the space has the combinations of the
--- phones before `phone`, `ends` how many there were after each, and the four working lists keep their length.
+-- `combining::choose_phones` meets its contract. The loop's invariant: the space has the combinations of the
+-- phones before `phone`, `ends` how many there were after each, the four working lists keep their length, and the
+-- table has no used record.
 use mathlib.Core.Path.{_≡_, refl, sym, ap, _∙_}
-use Prim.Native.Nat.{ℕ, suc, _-_, _*_, _≤_}
+use Prim.Native.Nat.{suc, _-_}
 use native.Mathlib.Omega.{arith}
-use lib.ListN.{length, take}
-use lib.Seq.{length-take-le, length-front}
+use lib.ListN.{length}
 use borrow.Author.Needs.{needs}
 use Rattle.definitions.specs.Combinations.{combinationRoom}
 use Rattle.definitions.specs.Tables.{tablesBook}
 use Rattle.definitions.specs.laws.Books.{InRange}
 use Rattle.tables.specs.Lending.{lentTables}
 use Rattle.tables.specs.laws.KnownTables.{tables-fit}
+use Rattle.metastates.specs.Leaves.{NoneUsed}
 use Rattle.metastates.specs.laws.Phones.{Added, added-start, added-holding, added-over, added-more}
 use Rattle.metastates.specs.laws.Phones.{added-end, noted-length, room-most}
-use Rattle.metastates.proofs.combining.choose_all.Statement.{statement}
-use Rattle.metastates.proofs.combining.choose_all.Tie as tie
+use Rattle.metastates.proofs.combining.choose_phones.Statement.{statement}
+use Rattle.metastates.proofs.combining.choose_phones.Tie as tie
 
 abbrev Inv-loop : tie.InvT-loop
-Inv-loop header nodes classes roots space₀ ends₀ table₀ first₀ second₀ third₀ size count₀ phone₀ space ends
-    table first second third count phone =
+Inv-loop header nodes classes roots table₀ first₀ second₀ third₀ space₀ ends₀ count₀ phone₀ table first second
+    third space ends count phone =
     Added (tablesBook header (lentTables nodes classes roots)) space₀ phone space ends count
-    × (length table ≡ 32768) × (length first ≡ 32768) × (length second ≡ 32768) × (length third ≡ 32768)
+    × (length table ≡ length table₀) × (length first ≡ length first₀) × (length second ≡ length second₀)
+    × (length third ≡ length third₀) × NoneUsed table
 
 abbrev μ-loop : tie.MeasureT-loop
-μ-loop header nodes classes roots space₀ ends₀ table₀ first₀ second₀ third₀ size count₀ phone₀ space ends
-    table first second third count phone =
+μ-loop header nodes classes roots table₀ first₀ second₀ third₀ space₀ ends₀ count₀ phone₀ table first second
+    third space ends count phone =
     suc (header .phones) - phone
 
 -- the entry, the turn of the loop, and the call in it
 abbrev entry : tie.At-loop Inv-loop μ-loop → tie.Start Inv-loop μ-loop
-entry c = c .before .before .before .before .before .before .before
+entry c = c .before .before .before .before .before .before .before .before .before .before
 
 abbrev loop-of : tie.Then1 Inv-loop μ-loop → tie.At-loop Inv-loop μ-loop
 loop-of c = c .before .before
@@ -38,65 +40,36 @@ abbrev turn : tie.After-choose-phone Inv-loop μ-loop → tie.Then1 Inv-loop μ-
 turn c = c .before .before .before .before .before .before
 
 abbrev call : tie.After-room-in Inv-loop μ-loop → tie.After-choose-phone Inv-loop μ-loop
-call c = c .before .before .before .before .before .before .before
+call c = c .before .before .before .before .before .before .before .before .before .before .before
 
 ranges : (c : tie.Start Inv-loop μ-loop) → InRange (c .args .header)
 ranges c = tables-fit _ _ (c .pre .0) .ranges
-
--- the records of the nodes fit into the lists
-fits : (c : tie.Then1 Inv-loop μ-loop) → 8 * loop-of c .before .wide .result ≤ 32768
-fits c = omega (arith, loop-of c .before .wide .ensures, ranges (entry (loop-of c)) .nodes-range .high)
 
 ends-sized : (c : tie.At-loop Inv-loop μ-loop) → length (c .loop .ends) ≡ 65
 unfolding tablesBook
 ends-sized c = noted-length (c .loop .inv .0) (ranges (entry c) .phones-range .high)
 
-wide-requires : tie.Need-wide-requires Inv-loop μ-loop
-wide-requires c κs = search needs
-
-mul-size : tie.Need-mul-size Inv-loop μ-loop
-mul-size c = search needs
-
 loop-holds : tie.Need-loop-holds Inv-loop μ-loop
 loop-holds c =
-    let p = c .before .before .before .before .before .before .pre in
-    (added-start _ _ _ (p .1) (p .2), refl, refl, refl, refl)
-
-array-borrow-prefix-table : tie.Need-array-borrow-prefix-table Inv-loop μ-loop
-array-borrow-prefix-table c = omega (arith, fits c, loop-of c .loop .inv .1)
-
-slice-aggregate-choose-phone : tie.Need-slice-aggregate-choose-phone Inv-loop μ-loop
-slice-aggregate-choose-phone c =
-    let turn = c .before in
-    sym (length-take-le _ _ (omega (arith, fits turn, loop-of turn .loop .inv .1)))
-
-slice-aggregate-choose-phone-2 : tie.Need-slice-aggregate-choose-phone-2 Inv-loop μ-loop
-slice-aggregate-choose-phone-2 c = search needs
-
-slice-aggregate-choose-phone-3 : tie.Need-slice-aggregate-choose-phone-3 Inv-loop μ-loop
-slice-aggregate-choose-phone-3 c = search needs
-
-slice-aggregate-choose-phone-4 : tie.Need-slice-aggregate-choose-phone-4 Inv-loop μ-loop
-slice-aggregate-choose-phone-4 c = search needs
+    let p = c .before .before .before .before .before .before .before .before .before .pre in
+    (added-start _ _ _ (p .1) (p .2), refl, refl, refl, refl, p .7)
 
 choose-phone-requires : tie.Need-choose-phone-requires Inv-loop μ-loop
 unfolding tablesBook
 choose-phone-requires c κs =
     let turn = c .before .before .before .before .before in
-    let start = entry (loop-of turn) in
+    let p = entry (loop-of turn) .pre in
     let l = loop-of turn .loop .inv in
-    let r = ranges start in
-    let wide = loop-of turn .before .wide .ensures in
-    let used : length (take (8 * loop-of turn .before .wide .result) (loop-of turn .loop .table))
-    ≡ 8 * loop-of turn .before .wide .result = length-take-le _ _ (omega (arith, fits turn, l .1)) in (
-      start .pre .0,
+    let r = ranges (entry (loop-of turn)) in (
+      p .0,
       l .0 .low,
       turn .if1 .taken,
-      added-holding (l .0) (start .pre .1) (r .half-range .high) (r .states-range .high),
-      omega (arith, used, wide),
-      omega (arith, used, fits turn, l .2),
-      omega (arith, used, fits turn, l .3),
-      omega (arith, used, fits turn, l .4),
+      added-holding (l .0) (p .1) (r .half-range .high) (r .states-range .high),
+      l .1 ∙ p .3,
+      omega (arith, p .4, l .1, l .2),
+      omega (arith, p .5, l .1, l .3),
+      omega (arith, p .6, l .1, l .4),
+      l .5,
     )
 
 room-in-requires : tie.Need-room-in-requires Inv-loop μ-loop
@@ -106,7 +79,19 @@ same-length : tie.Need-same-length Inv-loop μ-loop
 same-length c = search needs
 
 same-length-2 : tie.Need-same-length-2 Inv-loop μ-loop
-same-length-2 c =
+same-length-2 c = search needs
+
+same-length-3 : tie.Need-same-length-3 Inv-loop μ-loop
+same-length-3 c = search needs
+
+same-length-4 : tie.Need-same-length-4 Inv-loop μ-loop
+same-length-4 c = search needs
+
+same-length-5 : tie.Need-same-length-5 Inv-loop μ-loop
+same-length-5 c = search needs
+
+same-length-6 : tie.Need-same-length-6 Inv-loop μ-loop
+same-length-6 c =
     let loop = loop-of (turn (call (c .before))) in
     ends-sized loop ∙ sym (ap length (entry loop .pre .2))
 
@@ -125,8 +110,8 @@ returns c =
 cast-ends : tie.Need-cast-ends Inv-loop μ-loop
 cast-ends c = omega (arith, room-most _ (c .before .room-in .ensures) (c .if2 .left))
 
-wide-requires-2 : tie.Need-wide-requires-2 Inv-loop μ-loop
-wide-requires-2 c κs = search needs
+wide-requires : tie.Need-wide-requires Inv-loop μ-loop
+wide-requires c κs = search needs
 
 mul-ends : tie.Need-mul-ends Inv-loop μ-loop
 mul-ends c = search needs
@@ -135,7 +120,7 @@ slice-write-ends : tie.Need-slice-write-ends Inv-loop μ-loop
 slice-write-ends c =
     let turn = turn (call (c .before .before)) in
     let most = ranges (entry (loop-of turn)) .phones-range .high in
-    omega (arith, c .wide2 .ensures, turn .if1 .taken, most, ends-sized (loop-of turn))
+    omega (arith, c .wide .ensures, turn .if1 .taken, most, ends-sized (loop-of turn))
 
 add-phone : tie.Need-add-phone Inv-loop μ-loop
 add-phone c =
@@ -153,22 +138,34 @@ loop-again c =
     let start = entry loop in
     let r = ranges start in
     let l = loop .loop .inv in
-    let lists = add .choose-phone .ensures .1 in
-    let size : ℕ = 8 * loop .before .wide .result in (
+    let lists = add .choose-phone .ensures .1 in (
       added-more (l .0) (start .pre .1) (r .half-range .high) (r .states-range .high)
           (add .choose-phone .ensures .0) (c .before .before .room-in .ensures)
-          (turn add .if1 .taken) (r .phones-range .high) (c .before .if2 .left) (c .wide2 .ensures) refl,
-      length-front (loop .loop .table) (add .choose-phone .last .1 .1 .1 .1 .1 .0) size (lists .0) ∙ l .1,
-      lists .1 ∙ l .2,
-      lists .2 ∙ l .3,
-      lists .3 ∙ l .4,
+          (turn add .if1 .taken) (r .phones-range .high) (c .before .if2 .left) (c .wide .ensures) refl,
+      lists .0 ∙ l .1,
+      lists .2 ∙ l .2,
+      lists .3 ∙ l .3,
+      lists .4 ∙ l .4,
+      lists .1,
     )
 
-same-length-3 : tie.Need-same-length-3 Inv-loop μ-loop
-same-length-3 c = search needs
+same-length-7 : tie.Need-same-length-7 Inv-loop μ-loop
+same-length-7 c = search needs
 
-same-length-4 : tie.Need-same-length-4 Inv-loop μ-loop
-same-length-4 c =
+same-length-8 : tie.Need-same-length-8 Inv-loop μ-loop
+same-length-8 c = search needs
+
+same-length-9 : tie.Need-same-length-9 Inv-loop μ-loop
+same-length-9 c = search needs
+
+same-length-10 : tie.Need-same-length-10 Inv-loop μ-loop
+same-length-10 c = search needs
+
+same-length-11 : tie.Need-same-length-11 Inv-loop μ-loop
+same-length-11 c = search needs
+
+same-length-12 : tie.Need-same-length-12 Inv-loop μ-loop
+same-length-12 c =
     let loop = c .before .before in
     ends-sized loop ∙ sym (ap length (entry loop .pre .2))
 
@@ -179,32 +176,33 @@ returns-2 c =
     let (grown, noted) = added-end l (c .if1 .left) in
     (grown, λ few. noted)
 
-pub choose-all-spec : {M : Type 1} → statement M
-choose-all-spec =
+pub choose-phones-spec : {M : Type 1} → statement M
+choose-phones-spec =
     tie.close
     (tie.spec
     Inv-loop
     μ-loop
-    wide-requires
-    mul-size
     loop-holds
-    array-borrow-prefix-table
-    slice-aggregate-choose-phone
-    slice-aggregate-choose-phone-2
-    slice-aggregate-choose-phone-3
-    slice-aggregate-choose-phone-4
     choose-phone-requires
     room-in-requires
     same-length
     same-length-2
+    same-length-3
+    same-length-4
+    same-length-5
+    same-length-6
     returns
     cast-ends
-    wide-requires-2
+    wide-requires
     mul-ends
     slice-write-ends
     add-phone
     loop-less
     loop-again
-    same-length-3
-    same-length-4
+    same-length-7
+    same-length-8
+    same-length-9
+    same-length-10
+    same-length-11
+    same-length-12
     returns-2)
