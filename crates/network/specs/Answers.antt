@@ -1,16 +1,19 @@
 -- What a build and the handing out of arcs answer, and the lent slices of their contracts.
 use mathlib.Core.List.{List}
-use Prim.Native.Nat.{ℕ}
+use Prim.Native.Nat.{ℕ, _*_}
 use lib.ListN.{length}
 use Rattle.definitions.specs.declared.Header.{Header}
-use Rattle.definitions.specs.Faults.{Outcome, answered, refused, numberOf}
+use Rattle.definitions.specs.Faults.{Outcome, answered, refused}
 use Rattle.definitions.specs.Connecting.{Network, Built, finished, stopped}
 use Rattle.definitions.specs.Tables.{Tables, tablesBook}
 use Rattle.definitions.specs.Building.{Space, Buffers, build, buffersLeft, countsIn}
+use Rattle.definitions.specs.Arcs.{arcSize}
 use Rattle.definitions.specs.Leaving.{Part}
 use Rattle.network.specs.declared.Totals.{Totals}
 use Rattle.network.specs.declared.Build.{Build}
 use Rattle.network.specs.declared.Build.the-variants as build
+use Rattle.network.specs.declared.Standing.{Standing}
+use Rattle.network.specs.declared.Standing.the-variants as standing
 
 -- "with the turns done and the counts of metastates and arcs", with k
 unfoldable pub totalsOf : (states turns : ℕ) → Network → Totals
@@ -38,7 +41,7 @@ abbrev pub buildLeft : Header → Tables → Space → (limit : ℕ) → Buffers
 buildLeft header tables space limit =
     buffersLeft (tablesBook header tables) space (build header tables space limit)
 
--- the number of the fault, 0 where a part is handed out
-unfoldable pub faultOf : Outcome Part → ℕ
-faultOf (answered part) = 0
-faultOf (refused r) = numberOf (r .fault)
+-- where a part stands, in words
+unfoldable pub standingOf : Outcome Part → Standing
+standingOf (answered part) = standing.Part (arcSize * part .start) (arcSize * part .count)
+standingOf (refused r) = standing.Refused r

@@ -9,8 +9,8 @@ use Rattle.definitions.specs.Metastates.{metastateSize}
 
 -- a key, below 65521, of a number and columns
 unfoldable pub keyFrom : (key : ℕ) → (columns : List ℕ) → ℕ
-keyFrom key [] = key
-keyFrom key (column ∷ columns) = keyFrom ((31 * key + column % 65521) % 65521) columns
+keyFrom key [] = key % 65521
+keyFrom key (column ∷ columns) = keyFrom (31 * key + column % 65521) columns
 
 unfoldable pub keyOf : (row : List ℕ) → ℕ
 keyOf row = keyFrom ((row ! 0) % 65521) (drop 1 row)

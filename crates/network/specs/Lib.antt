@@ -3,7 +3,10 @@
 pub mod Chains
 pub mod Combinations
 pub mod Networks
+pub mod Indexing
 pub mod Following
+pub mod Spans
 pub mod Steps
+pub mod Repeating
 pub mod Answers
 pub mod laws

@@ -16,9 +16,10 @@ use matrix::words::put_numbered;
 ghost use mathlib.Core.List.{[], _∷_, _++_};
 ghost use mathlib.Core.Path.{_≡_};
 ghost use Prim.Native.Nat.{_+_, _*_, _/_, _≤_, _<_, min};
-ghost use lib.Dec.{leb};
+ghost use lib.Dec.{T, leb};
 ghost use lib.ListN.{length, set, take, drop};
-ghost use Rattle.definitions.specs.Arcs.{arcSize};
+ghost use Rattle.definitions.specs.Arcs.{arcSize, lastState};
+ghost use Rattle.definitions.specs.ForeignTables.{headerKnown};
 ghost use Rattle.definitions.specs.Lists.{_!_};
 ghost use Rattle.definitions.specs.Metastates.{metastateSize};
 ghost use Rattle.network.specs.Chains.{keyOf, links};
@@ -29,7 +30,7 @@ ghost use Rattle.network.specs.Steps.{AfterStep, AreArcs, ArcsAppended};
 ghost use Rattle.network.specs.Steps.{ArcAnswered, ArcAppended, intoArc, entered};
 
 // How many arcs the lent words have room for.
-fn arc_room(words: usize) -> usize
+pub fn arc_room(words: usize) -> usize
     ensures { λ r. ⌜ r ≡ min (words / arcSize) 999999 ⌝ }
 {
     let room = words / ARC_SIZE;
@@ -75,6 +76,15 @@ pub fn add_arcs(arcs: &mut [u32], count: usize, new: Arcs) -> bool
     let end = from + ARC_SIZE * new.count;
     copy_arcs(&mut arcs[from..end], new);
     true
+}
+
+// The last state of the metastate at a place.
+pub fn last_state(header: Header, place: usize) -> u32
+    requires { ⌜ T (headerKnown header) × (place < 65535) ⌝ }
+    ensures { λ r. ⌜ r ≡ lastState (header .states) place ⌝ }
+{
+    let last = 1 + (place + 1) * wide(header.states);
+    last as u32
 }
 
 // The arc from a state to the first state of the metastate at a place, with its first model and its phone.

@@ -13,16 +13,16 @@ ghost use Rattle.definitions.specs.Lists.{_!_};
 ghost use Rattle.network.specs.Chains.{keyOf, rowsIn, links, Linked, Found};
 
 // The key of a metastate.
-fn key_of(number: u64, m: Matrix) -> usize
+pub fn key_of(number: u64, m: Matrix) -> usize
     ensures { λ r. ⌜ (r ≡ keyOf (number ∷ m .columns)) × (r < 65521) ⌝ }
 {
     let mut key = number % 65521;
     let mut c = 0;
     while c < 7 {
-        key = (31 * key + m.columns[c] % 65521) % 65521;
+        key = 31 * key + m.columns[c] % 65521;
         c += 1;
     }
-    key as usize
+    (key % 65521) as usize
 }
 
 // The place of a metastate in the table, counted from 1, or 0 where it is new.

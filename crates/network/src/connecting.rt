@@ -5,9 +5,12 @@ use crate::Sizes;
 use crate::Step;
 use crate::Totals;
 use crate::adding::add_arcs;
+use crate::adding::last_state;
 use crate::following::follow;
+use crate::indexing::fill_index;
 use crate::records::model_of;
 use crate::records::phone_of;
+use crate::repeating::follow_on;
 use definitions::ARC_SIZE;
 use definitions::Counts;
 use definitions::Fault;
@@ -23,18 +26,19 @@ use matrix::testing::ends_here;
 use matrix::words::matrix_at;
 ghost use mathlib.Core.List.{List, [], _∷_, _++_};
 ghost use mathlib.Core.Path.{_≡_};
-ghost use Prim.Native.Nat.{_<_, _+_};
-ghost use lib.Dec.{T};
+ghost use Prim.Native.Nat.{_+_, _≤_, _<_};
 ghost use lib.ListN.{length};
-ghost use Rattle.definitions.specs.Arcs.{Arc, arc, lastState};
+ghost use Rattle.definitions.specs.Arcs.{Arc, arc};
 ghost use Rattle.definitions.specs.Connecting.{startEvents, noNetwork, performAll, expand};
 ghost use Rattle.definitions.specs.Connecting.{turnsFrom, connect};
-ghost use Rattle.definitions.specs.ForeignTables.{headerKnown};
 ghost use Rattle.definitions.specs.Lists.{cleared};
 ghost use Rattle.matrix.specs.Shapes.{widthOf, matrixIn, HasWidth};
 ghost use Rattle.network.specs.Combinations.{combinationsIn, nodesBook};
 ghost use Rattle.network.specs.Combinations.{Usable, Modelled, Ending};
+ghost use Rattle.network.specs.Indexing.{endsSize, Indexed};
 ghost use Rattle.network.specs.Networks.{networkHeld, roomOf, Holds};
+ghost use Rattle.network.specs.Spans.{spanSize, Spanned};
+ghost use Rattle.network.specs.Repeating.{SpannedAfter};
 ghost use Rattle.network.specs.Steps.{AfterStep, AreArcs, ownOf, plainOf, Connected};
 
 // The new arcs and one more.
@@ -86,15 +90,6 @@ fn own_arcs(
     new
 }
 
-// The last state of the metastate at a place.
-fn last_state(header: Header, place: usize) -> u32
-    requires { ⌜ T (headerKnown header) × (place < 65535) ⌝ }
-    ensures { λ r. ⌜ r ≡ lastState (header .states) place ⌝ }
-{
-    let last = 1 + (place + 1) * wide(header.states);
-    last as u32
-}
-
 // A metastate's own arcs, and the arc to FINAL where it may end.
 fn plain_arcs(
     header: Header,
@@ -129,28 +124,39 @@ fn expand(
     header: Header,
     nodes: &[u32],
     combinations: &[u64],
-    ends: &[u32],
+    index: &[u64],
     metastates: &mut [u64],
     arcs: &mut [u32],
     chains: &mut [u32],
+    spans: &mut [u32],
     sizes: Sizes,
     place: usize,
 ) -> Step
     requires { ⌜
         Usable header (now combinations) × Modelled header (now nodes) (now combinations)
-        × Ending header (now combinations) (now ends)
+        × Indexed header (now combinations) (now index)
         × (place < sizes .metastates)
         × Holds (header .half) (length (combinationsIn header (now combinations)))
         (networkHeld (header .half) sizes (now metastates) (now arcs))
         (now metastates) (now arcs) (now chains)
+        × (spanSize ≤ length (now spans))
+        × Spanned (nodesBook header (now nodes)) (combinationsIn header (now combinations))
+        (networkHeld (header .half) sizes (now metastates) (now arcs)) (now spans)
         ⌝ }
-    ensures { λ r. ⌜
+    ensures step { λ r. ⌜
         AfterStep (header .half) (length (combinationsIn header (now (combinations .entry))))
         (now (metastates .entry)) (now (arcs .entry))
         (expand (nodesBook header (now (nodes .entry))) (combinationsIn header (now (combinations .entry)))
         (roomOf (now (metastates .entry)) (now (arcs .entry))) place
         (networkHeld (header .half) sizes (now (metastates .entry)) (now (arcs .entry))))
         r (now (metastates .exit)) (now (arcs .exit)) (now (chains .exit))
+        ⌝ }
+    ensures spans { λ r. ⌜
+        SpannedAfter header (now (nodes .entry)) (now (combinations .entry))
+        (expand (nodesBook header (now (nodes .entry))) (combinationsIn header (now (combinations .entry)))
+        (roomOf (now (metastates .entry)) (now (arcs .entry))) place
+        (networkHeld (header .half) sizes (now (metastates .entry)) (now (arcs .entry))))
+        (now (spans .exit))
         ⌝ }
 {
     let from = METASTATE_SIZE * place;
@@ -164,18 +170,18 @@ fn expand(
         metastates: sizes.metastates,
         arcs: sizes.arcs + new.count,
     };
-    let last = last_state(header, place);
     let shifted = shift(m, 2 * wide(header.half), all_phones(header.phones));
-    follow(
+    follow_on(
         header,
         nodes,
         combinations,
-        ends,
+        index,
         metastates,
         arcs,
         chains,
+        spans,
         next,
-        last,
+        place,
         shifted,
     )
 }
@@ -185,14 +191,14 @@ fn start(
     header: Header,
     nodes: &[u32],
     combinations: &[u64],
-    ends: &[u32],
+    index: &[u64],
     metastates: &mut [u64],
     arcs: &mut [u32],
     chains: &mut [u32],
 ) -> Step
     requires { ⌜
         Usable header (now combinations) × Modelled header (now nodes) (now combinations)
-        × Ending header (now combinations) (now ends)
+        × Indexed header (now combinations) (now index)
         × Holds (header .half) (length (combinationsIn header (now combinations))) noNetwork
         (now metastates) (now arcs) (now chains)
         ⌝ }
@@ -214,7 +220,7 @@ fn start(
         header,
         nodes,
         combinations,
-        ends,
+        index,
         metastates,
         arcs,
         chains,
@@ -249,19 +255,23 @@ fn take_turns(
     header: Header,
     nodes: &[u32],
     combinations: &[u64],
-    ends: &[u32],
+    index: &[u64],
     metastates: &mut [u64],
     arcs: &mut [u32],
     chains: &mut [u32],
+    spans: &mut [u32],
     sizes: Sizes,
     limit: u32,
 ) -> Build
     requires { ⌜
         Usable header (now combinations) × Modelled header (now nodes) (now combinations)
-        × Ending header (now combinations) (now ends)
+        × Indexed header (now combinations) (now index)
         × Holds (header .half) (length (combinationsIn header (now combinations)))
         (networkHeld (header .half) sizes (now metastates) (now arcs))
         (now metastates) (now arcs) (now chains)
+        × (spanSize ≤ length (now spans))
+        × Spanned (nodesBook header (now nodes)) (combinationsIn header (now combinations))
+        (networkHeld (header .half) sizes (now metastates) (now arcs)) (now spans)
         ⌝ }
     ensures { λ r. ⌜
         Connected (header .states) (now (metastates .entry)) (now (arcs .entry))
@@ -281,10 +291,11 @@ fn take_turns(
             header,
             nodes,
             combinations,
-            ends,
+            index,
             metastates,
             arcs,
             chains,
+            spans,
             now,
             wide(turns),
         );
@@ -304,7 +315,66 @@ fn take_turns(
     Build::Stopped(totals(header, turns, now))
 }
 
-// Connects the combinations into cleared space.
+// Connects the combinations into cleared space, with words for an index of them and cleared words for spans.
+fn connect_with(
+    header: Header,
+    nodes: &[u32],
+    combinations: &[u64],
+    ends: &[u32],
+    metastates: &mut [u64],
+    arcs: &mut [u32],
+    spans: &mut [u32],
+    index: &mut [u64],
+    limit: u32,
+) -> Build
+    requires { ⌜
+        Usable header (now combinations) × Modelled header (now nodes) (now combinations)
+        × Ending header (now combinations) (now ends)
+        × (now metastates ≡ cleared (length (now metastates))) × (now arcs ≡ cleared (length (now arcs)))
+        × (spanSize ≤ length (now spans)) × (now spans ≡ cleared (length (now spans)))
+        × (endsSize ≤ length (now index))
+        ⌝ }
+    ensures { λ r. ⌜
+        Connected (header .states) (now (metastates .entry)) (now (arcs .entry))
+        (connect (nodesBook header (now (nodes .entry))) (combinationsIn header (now (combinations .entry)))
+        (roomOf (now (metastates .entry)) (now (arcs .entry))) limit)
+        r (now (metastates .exit)) (now (arcs .exit))
+        ⌝ }
+{
+    fill_index(combinations, ends, index);
+    let mut chains = [0u32; 131072];
+    let step = start(
+        header,
+        nodes,
+        combinations,
+        index,
+        metastates,
+        arcs,
+        &mut chains,
+    );
+    match step {
+        Step::Next(sizes) => {
+            return take_turns(
+                header,
+                nodes,
+                combinations,
+                index,
+                metastates,
+                arcs,
+                &mut chains,
+                spans,
+                sizes,
+                limit,
+            );
+        }
+        Step::Stop(fault) => {
+            return Build::Refused(Refusal { fault, line: 0 });
+        }
+    }
+}
+
+// Connects the combinations into cleared space. Small space gets few slots for spans
+// and few blocks, so that a small build clears few words.
 pub fn connect(
     header: Header,
     nodes: &[u32],
@@ -326,32 +396,32 @@ pub fn connect(
         r (now (metastates .exit)) (now (arcs .exit))
         ⌝ }
 {
-    let mut chains = [0u32; 131072];
-    let step = start(
+    if metastates.len() < 8192 {
+        let mut few = [0u32; 6144];
+        let mut short = [0u64; 289];
+        return connect_with(
+            header,
+            nodes,
+            combinations,
+            ends,
+            metastates,
+            arcs,
+            &mut few,
+            &mut short,
+            limit,
+        );
+    }
+    let mut many = [0u32; 196608];
+    let mut long = [0u64; 14401];
+    connect_with(
         header,
         nodes,
         combinations,
         ends,
         metastates,
         arcs,
-        &mut chains,
-    );
-    match step {
-        Step::Next(sizes) => {
-            return take_turns(
-                header,
-                nodes,
-                combinations,
-                ends,
-                metastates,
-                arcs,
-                &mut chains,
-                sizes,
-                limit,
-            );
-        }
-        Step::Stop(fault) => {
-            return Build::Refused(Refusal { fault, line: 0 });
-        }
-    }
+        &mut many,
+        &mut long,
+        limit,
+    )
 }

@@ -2,22 +2,28 @@
 use crate::Sizes;
 use crate::Step;
 use crate::adding::enter;
+use crate::indexing::BLOCK_SIZE;
+use crate::indexing::begins_block;
+use crate::indexing::union_at;
 use crate::records::matrix_of;
+use crate::records::meets;
 use crate::records::phone_of;
 use definitions::COMBINATION_SIZE;
 use definitions::Header;
 use definitions::wide;
 use matrix::Matrix;
 use matrix::meeting::meet;
+use matrix::meeting::meets_at;
 use matrix::sets::has_phone;
-use matrix::testing::valid;
 ghost use mathlib.Core.Path.{_≡_};
 ghost use mathlib.Core.Bool.{false};
 ghost use Prim.Native.Nat.{_≤_, _<_};
 ghost use lib.ListN.{length};
 ghost use Rattle.definitions.specs.Metastates.{followersFrom};
+ghost use Rattle.definitions.specs.laws.Searching.{NoneFrom};
 ghost use Rattle.matrix.specs.Shapes.{widthOf, matrixIn, HasWidth};
-ghost use Rattle.network.specs.Combinations.{combinationsIn, Usable, Modelled, Ending};
+ghost use Rattle.network.specs.Combinations.{combinationsIn, Usable, Modelled};
+ghost use Rattle.network.specs.Indexing.{Indexed};
 ghost use Rattle.network.specs.Networks.{networkHeld, Holds};
 ghost use Rattle.network.specs.Steps.{AfterStep, enteringAll};
 ghost use Rattle.network.specs.Following.{followsAt, Beyond, NextFollower};
@@ -37,22 +43,19 @@ fn follows(header: Header, combinations: &[u64], number: usize, shifted: Matrix)
     if !has_phone(centre, phone_of(combinations, number)) {
         return false;
     }
-    valid(
-        meet(shifted, matrix_of(combinations, number)),
-        2 * wide(header.half) + 1,
-    )
+    meets(combinations, number, shifted, 2 * wide(header.half) + 1)
 }
 
 // Where to look after a combination: at the next, or after all of its phone where the centre lacks that phone.
 fn after(
     header: Header,
     combinations: &[u64],
-    ends: &[u32],
+    index: &[u64],
     number: usize,
     shifted: Matrix,
 ) -> usize
     requires { ⌜
-        Usable header (now combinations) × Ending header (now combinations) (now ends)
+        Usable header (now combinations) × Indexed header (now combinations) (now index)
         × (number < length (combinationsIn header (now combinations)))
         × HasWidth (widthOf (header .half)) (shifted .columns)
         × (followsAt (matrixIn (header .half) (shifted .columns))
@@ -67,19 +70,57 @@ fn after(
     if has_phone(centre, phone) {
         return number + 1;
     }
-    wide(ends[wide(phone)])
+    index[wide(phone)] as usize
+}
+
+// Where to look from a combination on: where one begins a block whose union does not meet a matrix validly, the whole
+// block is passed over.
+fn past_blocks(
+    header: Header,
+    combinations: &[u64],
+    index: &[u64],
+    from: usize,
+    shifted: Matrix,
+) -> usize
+    requires { ⌜
+        Usable header (now combinations) × Indexed header (now combinations) (now index)
+        × (from ≤ length (combinationsIn header (now combinations)))
+        × HasWidth (widthOf (header .half)) (shifted .columns)
+        ⌝ }
+    ensures { λ r. ⌜
+        NoneFrom (followsAt (matrixIn (header .half) (shifted .columns))
+        (combinationsIn header (now (combinations .entry))))
+        (length (combinationsIn header (now (combinations .entry)))) from r
+        ⌝ }
+{
+    let count = combinations.len() / COMBINATION_SIZE;
+    let mut number = from;
+    while number < count {
+        let at = union_at(number);
+        if !begins_block(index, number, at) {
+            return number;
+        }
+        if meets_at(index, at, shifted, 2 * wide(header.half) + 1) {
+            return number;
+        }
+        if count - number < BLOCK_SIZE {
+            return count;
+        }
+        number += BLOCK_SIZE;
+    }
+    number
 }
 
 // The first combination from one on that meets a matrix validly, or the number of combinations.
 fn next_follower(
     header: Header,
     combinations: &[u64],
-    ends: &[u32],
+    index: &[u64],
     from: usize,
     shifted: Matrix,
 ) -> usize
     requires { ⌜
-        Usable header (now combinations) × Ending header (now combinations) (now ends)
+        Usable header (now combinations) × Indexed header (now combinations) (now index)
         × (from ≤ length (combinationsIn header (now combinations)))
         × HasWidth (widthOf (header .half)) (shifted .columns)
         ⌝ }
@@ -88,12 +129,13 @@ fn next_follower(
         (combinationsIn header (now (combinations .entry))) from r
         ⌝ }
 {
-    let mut number = from;
+    let mut number = past_blocks(header, combinations, index, from, shifted);
     while number < combinations.len() / COMBINATION_SIZE {
         if follows(header, combinations, number, shifted) {
             return number;
         }
-        number = after(header, combinations, ends, number, shifted);
+        let next = after(header, combinations, index, number, shifted);
+        number = past_blocks(header, combinations, index, next, shifted);
     }
     number
 }
@@ -103,7 +145,7 @@ pub fn follow(
     header: Header,
     nodes: &[u32],
     combinations: &[u64],
-    ends: &[u32],
+    index: &[u64],
     metastates: &mut [u64],
     arcs: &mut [u32],
     chains: &mut [u32],
@@ -113,7 +155,7 @@ pub fn follow(
 ) -> Step
     requires { ⌜
         Usable header (now combinations) × Modelled header (now nodes) (now combinations)
-        × Ending header (now combinations) (now ends)
+        × Indexed header (now combinations) (now index)
         × HasWidth (widthOf (header .half)) (shifted .columns)
         × Holds (header .half) (length (combinationsIn header (now combinations)))
         (networkHeld (header .half) sizes (now metastates) (now arcs))
@@ -130,7 +172,7 @@ pub fn follow(
         ⌝ }
 {
     let mut now = sizes;
-    let mut number = next_follower(header, combinations, ends, 0, shifted);
+    let mut number = next_follower(header, combinations, index, 0, shifted);
     while number < combinations.len() / COMBINATION_SIZE {
         let own = matrix_of(combinations, number);
         let met = meet(shifted, own);
@@ -154,7 +196,7 @@ pub fn follow(
                 return Step::Stop(fault);
             }
         }
-        number = next_follower(header, combinations, ends, number + 1, shifted);
+        number = next_follower(header, combinations, index, number + 1, shifted);
     }
     Step::Next(now)
 }

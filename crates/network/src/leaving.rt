@@ -1,8 +1,12 @@
 // The arcs that leave a state, handed out as a part of the lent arcs: 18, then 42.
+use crate::Standing;
 use crate::known::is_state;
 use crate::known::network_known;
 use definitions::ARC_SIZE;
 use definitions::Counts;
+use definitions::Fault;
+use definitions::Refusal;
+use definitions::number;
 use definitions::wide;
 ghost use mathlib.Core.Path.{_≡_};
 ghost use Prim.Native.Nat.{_+_, _*_, _/_};
@@ -10,10 +14,11 @@ ghost use denote.Ref.{ptr};
 ghost use lib.Dec.{T, ltb};
 ghost use lib.ListN.{length};
 ghost use Rattle.definitions.specs.Arcs.{arcSize, arcsIn};
+ghost use Rattle.definitions.specs.Faults.{faultOf};
 ghost use Rattle.definitions.specs.Leaving.{leaving, partHanded, partWords};
 ghost use Rattle.definitions.specs.Lists.{select};
 ghost use Rattle.definitions.specs.NetworkText.{neverDescending};
-ghost use Rattle.network.specs.Answers.{faultOf};
+ghost use Rattle.network.specs.Answers.{standingOf};
 
 // How many arcs have a source below a state, by bisection: sources never descend.
 fn arcs_below(arcs: &[u32], state: usize) -> usize
@@ -36,6 +41,31 @@ fn arcs_below(arcs: &[u32], state: usize) -> usize
     low
 }
 
+fn refuse(fault: Fault) -> Standing
+    ensures { λ r. ⌜ r ≡ Standing.Refused (record { fault = fault; line = 0 }) ⌝ }
+{
+    Standing::Refused(Refusal { fault, line: 0 })
+}
+
+// Where the arcs that leave a state stand.
+pub fn part_leaving(counts: Counts, arcs: &[u32], state: u32) -> Standing
+    ensures { λ r. ⌜ r ≡ standingOf (leaving counts (now (arcs .entry)) state) ⌝ }
+{
+    if !network_known(counts, arcs) {
+        return refuse(Fault::Foreign);
+    }
+    if !is_state(counts, state) {
+        return refuse(Fault::State);
+    }
+    let used = ARC_SIZE * wide(counts.arcs);
+    let first = arcs_below(&arcs[..used], wide(state));
+    let end = arcs_below(&arcs[..used], wide(state) + 1);
+    Standing::Part {
+        start: ARC_SIZE * first,
+        length: ARC_SIZE * (end - first),
+    }
+}
+
 // Hands out the arcs that leave a state; `fault` becomes 0, or the number of the fault. The part's address says where
 // it stands, also where it has no arcs.
 pub fn leaving<'a>(counts: Counts, arcs: &'a [u32], state: u32, fault: &mut u32) -> &'a [u32]
@@ -50,17 +80,17 @@ pub fn leaving<'a>(counts: Counts, arcs: &'a [u32], state: u32, fault: &mut u32)
         now r ≡ partWords (now (arcs .entry)) (partHanded (leaving counts (now (arcs .entry)) state))
         ⌝ }
 {
-    if !network_known(counts, arcs) {
-        *fault = 18;
-        return &arcs[0..0];
+    let standing = part_leaving(counts, arcs, state);
+    match standing {
+        Standing::Part { start, length } => {
+            *fault = 0;
+            let end = start + length;
+            return &arcs[start..end];
+        }
+        Standing::Refused(refusal) => {
+            let cause = refusal.fault;
+            *fault = number(cause);
+            return &arcs[0..0];
+        }
     }
-    if !is_state(counts, state) {
-        *fault = 42;
-        return &arcs[0..0];
-    }
-    let used = ARC_SIZE * wide(counts.arcs);
-    let first = arcs_below(&arcs[..used], wide(state));
-    let end = arcs_below(&arcs[..used], wide(state) + 1);
-    *fault = 0;
-    &arcs[ARC_SIZE * first..ARC_SIZE * end]
 }

@@ -4,9 +4,11 @@ pub mod building;
 mod chains;
 mod connecting;
 mod following;
+mod indexing;
 pub mod known;
 pub mod leaving;
 mod records;
+mod repeating;
 
 use definitions::Counts;
 use definitions::Fault;
@@ -22,6 +24,12 @@ pub struct Totals {
 pub enum Build {
     Finished(Totals),
     Stopped(Totals),
+    Refused(Refusal),
+}
+
+// Where the arcs that leave a state stand in the lent arcs, counted in words; or the refusal.
+pub enum Standing {
+    Part { start: usize, length: usize },
     Refused(Refusal),
 }
 

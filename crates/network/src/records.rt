@@ -1,6 +1,7 @@
 // What the records of combinations say: phone, matrix, and the models of their leaves.
 use definitions::COMBINATION_SIZE;
 use matrix::Matrix;
+use matrix::meeting::meets_at;
 use matrix::words::matrix_at;
 use tables::records::node_at;
 ghost use mathlib.Core.Path.{_≡_};
@@ -9,7 +10,7 @@ ghost use lib.ListN.{length, take, drop};
 ghost use Rattle.definitions.specs.BookReading.{nodeSize};
 ghost use Rattle.definitions.specs.Combinations.{combinationSize};
 ghost use Rattle.definitions.specs.Lists.{_!_};
-ghost use Rattle.definitions.specs.Matrices.{matrixSize};
+ghost use Rattle.definitions.specs.Matrices.{matrixSize, valid, meet};
 ghost use Rattle.definitions.specs.Tables.{nodeOf};
 
 // The phone of a combination.
@@ -31,6 +32,17 @@ pub fn matrix_of(combinations: &[u64], number: usize) -> Matrix
         ⌝ }
 {
     matrix_at(combinations, COMBINATION_SIZE * number + 4)
+}
+
+// Whether the matrix of a combination meets a matrix validly in the first `width` columns.
+pub fn meets(combinations: &[u64], number: usize, m: Matrix, width: usize) -> bool
+    requires { ⌜ combinationSize * number + combinationSize ≤ length (now combinations) ⌝ }
+    ensures { λ r. ⌜
+        r ≡ valid (take width (meet (m .columns)
+        (take matrixSize (drop (combinationSize * number + 4) (now (combinations .entry))))))
+        ⌝ }
+{
+    meets_at(combinations, COMBINATION_SIZE * number + 4, m, width)
 }
 
 // The model of a combination's state; states count from 0 here.

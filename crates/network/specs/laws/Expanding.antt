@@ -1,7 +1,7 @@
 -- Laws about a turn: the metastate at a place read from its record, its own arcs and the arc to FINAL
 -- appended, then the arcs to its followers; one law for each answer.
 use mathlib.Core.Path.{_≡_, refl, sym, ap, _∙_, subst}
-use mathlib.Core.List.{List, _++_, map, map-append}
+use mathlib.Core.List.{List, [], _++_, map, map-append, append-nil}
 use mathlib.Core.Bool.{Bool, true, false, not}
 use Prim.Native.Nat.{ℕ, _+_, _*_, _≤_, _<_, min}
 use native.Mathlib.Omega.{arith}
@@ -37,7 +37,10 @@ use Rattle.network.specs.declared.Step.{Step}
 use Rattle.network.specs.declared.Step.the-variants as step
 use Rattle.network.specs.Combinations.{combinationsIn, nodesBook, Usable, Modelled}
 use Rattle.network.specs.Networks.{networkHeld, arcRoom, roomOf, sizesOf, Holds}
-use Rattle.network.specs.Steps.{AreArcs, AfterStep, stepOf, ArcsAppended, ownOf, plainOf, enteringAll}
+use Rattle.network.specs.Steps.{AreArcs, AfterStep, stepOf, ArcsAppended, ownOf, plainOf}
+use Rattle.network.specs.Spans.{Spanned}
+use Rattle.network.specs.Repeating.{Onward, followedFrom, SpannedAfter}
+use Rattle.network.specs.laws.Spans.{spans-stay}
 use Rattle.network.specs.laws.HeldBack.{held-back}
 use Rattle.network.specs.laws.HoldsMore.{held-sizes}
 use Rattle.network.specs.laws.PlainArcs.{plain-count-few}
@@ -137,7 +140,7 @@ module _ {header : Header} {nodes combinations metastates arcs chains : List ℕ
             shifted-length : length (shift (header .phones) (x .matrix)) ≡ widthOf (header .half)
             shifted-length = shift-length (header .phones) (x .matrix) (omega (arith, x-width)) ∙ x-width
 
-            shifted-is : matrixIn (header .half) shifted ≡ shift (header .phones) (x .matrix)
+            pub shifted-is : matrixIn (header .half) shifted ≡ shift (header .phones) (x .matrix)
             shifted-is = matrix-back (shift (header .phones) (x .matrix)) shifted-length shifted-are
 
             pub shifted-wide : HasWidth (widthOf (header .half)) shifted
@@ -189,26 +192,33 @@ module _ {header : Header} {nodes combinations metastates arcs chains : List ℕ
             where
               -- ---- no room for all of them
 
-              pub turn-stops : not roomy ≡ true
-                  → AfterStep (header .half) (length cs) metastates arcs (expand book cs room place net)
-                  (step.Stop Tangle) metastates arcs′ chains
-              unfolding roomIn andThen stepOf
-              turn-stops t =
+              no-turn : not roomy ≡ true → expand book cs room place net ≡ refuse Tangle 0
+              unfolding roomIn andThen
+              no-turn t =
                   let over : arcRoom arcs < sizes .arcs + new .count =
                   leb-false (sizes .arcs + new .count) (arcRoom arcs) (failed r t) in
-                  let none : expand book cs room place net ≡ refuse Tangle 0 =
                   turn-is room
                   ∙ ap (λ (o : Outcome Network). andThen o (λ next. performAll book cs room next onward))
                   (performs-over book cs room net added (s .holds .arc-room)
-                  (omega (arith, over, arcs-asked, are .counted))) in
+                  (omega (arith, over, arcs-asked, are .counted)))
+
+              pub turn-stops : not roomy ≡ true
+                  → AfterStep (header .half) (length cs) metastates arcs (expand book cs room place net)
+                  (step.Stop Tangle) metastates arcs′ chains
+              unfolding stepOf
+              turn-stops t =
                   let same : arcs′ ≡ arcs = w ∙ rw (not-true roomy t) in
                   record {
-                    answers = sym (ap stepOf none);
+                    answers = sym (ap stepOf (no-turn t));
                     holds = λ next e. absurd
-                        (refused-not-answered (expand book cs room place net) Tangle 0 next none e);
+                        (refused-not-answered (expand book cs room place net) Tangle 0 next (no-turn t) e);
                     metastates-sized = refl;
                     arcs-sized = ap length same;
                   }
+
+              pub turn-stops-spans : not roomy ≡ true → {spans : List ℕ}
+                  → SpannedAfter header nodes combinations (expand book cs room place net) spans
+              turn-stops-spans t n k = absurd (refused-not-answered (expand book cs room place net) Tangle 0 n (no-turn t) k)
 
               -- ---- room
 
@@ -250,7 +260,7 @@ module _ {header : Header} {nodes combinations metastates arcs chains : List ℕ
                     ap (λ (z : Sizes). networkHeld (header .half) z metastates arcs′) sizes-are
                     ∙ held-back thin held-next
 
-                pub next-holds : Holds (header .half) (length cs)
+                next-holds : Holds (header .half) (length cs)
                     (networkHeld (header .half) next metastates arcs′) metastates arcs′ chains
                 next-holds =
                     subst (λ (z : Network). Holds (header .half) (length cs) z metastates arcs′ chains)
@@ -258,35 +268,55 @@ module _ {header : Header} {nodes combinations metastates arcs chains : List ℕ
 
                 -- ---- the followers
 
-                abbrev following : (last : ℕ) → (shifted : List ℕ) → Outcome Network
-                following last shifted =
-                    enteringAll header nodes combinations last metastates arcs′
-                    (networkHeld (header .half) next metastates arcs′)
-                    (followersFrom (matrixIn (header .half) shifted) 0 cs)
+                -- what they start from
+                pub next-onward : {half all : ℕ} {shifted spans : List ℕ} → half ≡ header .half
+                    → all ≡ allPhones (min (header .phones) 64) → shifted ≡ shiftedWords (2 * half) all columns
+                    → Spanned book cs net spans
+                    → Onward header nodes combinations metastates arcs′ chains spans next place shifted
+                next-onward {spans = spans} l a f spanned =
+                    record {
+                      listed = s .listed;
+                      holds = next-holds;
+                      shifted = shifted-is l a f;
+                      spanned =
+                          subst (λ (z : Network). Spanned book cs z spans) (sym net-is)
+                          (spans-stay book cs [] added (sym (append-nil (net .metastates))) refl spanned);
+                    }
 
-                followed : {last : ℕ} (shifted : List ℕ) → last ≡ lastState (header .states) place
+                abbrev following : (shifted : List ℕ) → Outcome Network
+                following shifted = followedFrom header nodes combinations metastates arcs′ next place shifted
+
+                followed : (shifted : List ℕ)
                     → matrixIn (header .half) shifted ≡ shift (header .phones) (x .matrix)
-                    → following last shifted ≡ expand book cs room place net
+                    → following shifted ≡ expand book cs room place net
                 unfolding andThen roomIn
-                followed shifted e is =
-                    rw (as-long, net-is, e, is)
+                followed shifted is =
+                    rw (as-long, net-is, is)
                     (sym (turn-is room
                     ∙ ap (λ (o : Outcome Network). andThen o (λ next. performAll book cs room next onward))
                     (performs-arcs book cs room net added fits)))
 
-                pub turn-goes : {last half all : ℕ} {shifted : List ℕ} {answer : Step}
-                    {metastates″ arcs″ chains″ : List ℕ} → last ≡ lastState (header .states) place
-                    → half ≡ header .half → all ≡ allPhones (min (header .phones) 64)
-                    → shifted ≡ shiftedWords (2 * half) all columns
-                    → AfterStep (header .half) (length cs) metastates arcs′ (following last shifted)
-                    answer metastates″ arcs″ chains″
-                    → AfterStep (header .half) (length cs) metastates arcs (expand book cs room place net)
-                    answer metastates″ arcs″ chains″
-                turn-goes {shifted = shifted} e l a f left =
-                    let same = followed shifted e (shifted-is l a f) in
-                    record {
-                      answers = left .answers ∙ ap stepOf same;
-                      holds = λ n k. left .holds n (same ∙ k);
-                      metastates-sized = left .metastates-sized;
-                      arcs-sized = left .arcs-sized ∙ as-long;
-                    }
+                module _ {half all : ℕ} {shifted : List ℕ} (l : half ≡ header .half)
+                    (a : all ≡ allPhones (min (header .phones) 64))
+                    (f : shifted ≡ shiftedWords (2 * half) all columns)
+                  where
+                    same : following shifted ≡ expand book cs room place net
+                    same = followed shifted (shifted-is l a f)
+
+                    pub turn-goes : {answer : Step} {metastates″ arcs″ chains″ : List ℕ}
+                        → AfterStep (header .half) (length cs) metastates arcs′ (following shifted)
+                        answer metastates″ arcs″ chains″
+                        → AfterStep (header .half) (length cs) metastates arcs (expand book cs room place net)
+                        answer metastates″ arcs″ chains″
+                    turn-goes left =
+                        record {
+                          answers = left .answers ∙ ap stepOf same;
+                          holds = λ n k. left .holds n (same ∙ k);
+                          metastates-sized = left .metastates-sized;
+                          arcs-sized = left .arcs-sized ∙ as-long;
+                        }
+
+                    pub turn-spans : {spans″ : List ℕ}
+                        → SpannedAfter header nodes combinations (following shifted) spans″
+                        → SpannedAfter header nodes combinations (expand book cs room place net) spans″
+                    turn-spans left n k = left n (same ∙ k)

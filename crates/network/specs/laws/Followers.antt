@@ -23,7 +23,7 @@ use Rattle.matrix.specs.Shapes.{widthOf, matrixIn, HasWidth}
 use Rattle.matrix.specs.laws.Widths.{width-taken, met-matrix, met-width}
 use Rattle.definitions.specs.laws.Metastates.{numbered}
 use Rattle.network.specs.Combinations.{combinationsIn, IsCombination, Usable, EndsAt}
-use Rattle.network.specs.Combinations.{Ending}
+use Rattle.network.specs.Indexing.{Indexed}
 use Rattle.network.specs.Following.{followsAt, Beyond, NextFollower}
 use Rattle.network.specs.laws.RecordWords.{phone-word, matrix-word}
 
@@ -136,7 +136,7 @@ module _ (header : Header) (words : List ℕ) (usable : Usable header words) (co
       → Beyond shifted cs number (number + 1)
   beyond-one number h invalid = (omega arith, none-one h invalid)
 
-  pub beyond-phone : (ends : List ℕ) (number : ℕ) {phone place entry next : ℕ} → Ending header words ends
+  pub beyond-phone : (ends : List ℕ) (number : ℕ) {phone place entry next : ℕ} → Indexed header words ends
       → number < length cs → phone ≡ words ! (combinationSize * number) → place ≡ header .half
       → has phone (columns ! place) ≡ false → entry ≡ phone → next ≡ ends ! entry → Beyond shifted cs number next
   beyond-phone ends number {phone} {place} {entry} {next} ending h p q missing r n =

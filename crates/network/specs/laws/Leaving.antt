@@ -9,15 +9,18 @@ use lib.Dec.{T, leb, ltb, eqb, leb→le}
 use lib.ListN.{length, take, drop, getD}
 use borrow.Author.Tests.{lt-ltb, le-ltb, ltb-true, ltb-false, eqb-true, eqb-false}
 use Rattle.definitions.specs.declared.Counts.{Counts}
-use Rattle.definitions.specs.Faults.{judge}
+use Rattle.definitions.specs.declared.Fault.the-variants.{Foreign, State}
+use Rattle.definitions.specs.declared.Refusal.{Refusal}
+use Rattle.definitions.specs.Faults.{Outcome, answered, refused, numberOf, faultOf, judge}
 use Rattle.definitions.specs.Lists.{_!_, select}
 use Rattle.definitions.specs.Arcs.{Arc, arcSize, arcOf, arcsIn}
 use Rattle.definitions.specs.NetworkText.{isState, neverDescending, networkKnown}
-use Rattle.definitions.specs.Leaving.{partOf, leaving, partHanded, partWords}
+use Rattle.definitions.specs.Leaving.{Part, partOf, leaving, partHanded, partWords}
 use Rattle.definitions.specs.laws.Tests.{T-and, by-test}
 use Rattle.definitions.specs.laws.Selected.{select-here, select-past}
 use Rattle.definitions.specs.laws.NetworkKnown.{arcs-length}
-use Rattle.network.specs.Answers.{faultOf}
+use Rattle.network.specs.declared.Standing.the-variants as standing
+use Rattle.network.specs.Answers.{standingOf}
 use Rattle.network.specs.laws.KnownArcs.{allArcs, arc-at, source-at, known-length, known-arcs}
 
 -- ---- sources that never descend
@@ -157,38 +160,18 @@ pub bracket-end : {words : List ℕ} {state low high : ℕ} → Bracketed words 
     → low ≡ below state (allArcs words)
 bracket-end b h = omega (arith, b .low-at, b .high-at)
 
--- ---- the part that is handed out
-
--- what the code leaves: the fault's number, the place of the part, its words
-abbrev pub Handed : Counts → (words : List ℕ) → (state fault place : ℕ) → (part : List ℕ) → Type 0
-Handed counts words state fault place part =
-    (fault ≡ faultOf (leaving counts words state))
-    × ((place ≡ partHanded (leaving counts words state) .start)
-    × (part ≡ partWords words (partHanded (leaving counts words state))))
-
--- the same with the part's address, by that of the lent arcs: four bytes a word
-abbrev pub HandedAt : (counts : Counts) (words : List ℕ) (state : ℕ) (lent : ℕ × ℕ)
-    → (fault : ℕ) (address : ℕ × ℕ) (part : List ℕ) → Type 0
-HandedAt counts words state lent fault address part =
-    (fault ≡ faultOf (leaving counts words state))
-    × ((address ≡ (lent .0, arcSize * partHanded (leaving counts words state) .start * 4 + lent .1))
-    × (part ≡ partWords words (partHanded (leaving counts words state))))
-
-pub at-address : (counts : Counts) (words : List ℕ) (state fault place : ℕ) (part : List ℕ)
-    → (lent address : ℕ × ℕ) → Handed counts words state fault place part
-    → address ≡ (lent .0, arcSize * place * 4 + lent .1) → HandedAt counts words state lent fault address part
-at-address counts words state fault place part lent address h e =
-    (h .0, (e ∙ ap (λ (n : ℕ). (lent .0, arcSize * n * 4 + lent .1)) (h .1 .0), h .1 .1))
+-- ---- where the part stands
 
 module _ (counts : Counts) (words : List ℕ) (state : ℕ) where
-  pub handed-foreign : networkKnown counts words ≡ false → Handed counts words state 18 0 []
-  unfolding leaving judge faultOf partHanded partWords
-  handed-foreign h = rw h (refl, (refl, refl))
+  pub standing-foreign : networkKnown counts words ≡ false
+      → standing.Refused (record { fault = Foreign; line = 0 }) ≡ standingOf (leaving counts words state)
+  unfolding leaving judge standingOf
+  standing-foreign h = rw h
 
-  pub handed-beyond : networkKnown counts words ≡ true → isState counts state ≡ false
-      → Handed counts words state 42 0 []
-  unfolding leaving judge faultOf partHanded partWords
-  handed-beyond h k = rw (h, k) (refl, (refl, refl))
+  pub standing-beyond : networkKnown counts words ≡ true → isState counts state ≡ false
+      → standing.Refused (record { fault = State; line = 0 }) ≡ standingOf (leaving counts words state)
+  unfolding leaving judge standingOf
+  standing-beyond h k = rw (h, k)
 
 -- what the searches give where the network and the state are known: how many arcs have a source below the
 -- state, and below the next
@@ -214,6 +197,9 @@ module _ {counts : Counts} {words : List ℕ} {state first end : ℕ} (f : Searc
   abbrev arcs : List Arc
   arcs = arcsIn (counts .arcs) words
 
+  abbrev own : ℕ
+  own = length (select (λ a. eqb (a .from) state) arcs)
+
   pub part-order : first ≤ end
   part-order = omega (arith, f .first-is, f .end-is, below-next state arcs)
 
@@ -222,11 +208,52 @@ module _ {counts : Counts} {words : List ℕ} {state first end : ℕ} (f : Searc
       let room = known-length counts words refl (f .network-known) in
       omega (arith, f .end-is, below-within (state + 1) arcs, arcs-length (counts .arcs) words, room)
 
-  pub handed-part : Handed counts words state 0 first
-      (take (arcSize * end - arcSize * first) (drop (arcSize * first) words))
-  unfolding leaving judge faultOf partHanded partWords partOf
-  handed-part =
-      let own : ℕ = length (select (λ a. eqb (a .from) state) arcs) in
-      let size : arcSize * end - arcSize * first ≡ arcSize * own =
-      omega (arith, f .first-is, f .end-is, below-next state arcs) in
-      rw (f .network-known, f .state-known) (refl, (f .first-is, rw (size, f .first-is)))
+  pub standing-part : standing.Part (arcSize * first) (arcSize * (end - first))
+      ≡ standingOf (leaving counts words state)
+  unfolding leaving judge standingOf partOf
+  standing-part =
+      let size : end - first ≡ own = omega (arith, f .first-is, f .end-is, below-next state arcs) in
+      rw (f .network-known, f .state-known, size, f .first-is)
+
+-- ---- the part that is handed out
+
+-- what the code leaves: the fault's number, the part's address by that of the lent arcs, four bytes a word, and
+-- its words
+abbrev pub Handed : Outcome Part → (words : List ℕ) (lent : ℕ × ℕ)
+    → (fault : ℕ) (address : ℕ × ℕ) (part : List ℕ) → Type 0
+Handed outcome words lent fault address part =
+    (fault ≡ faultOf outcome)
+    × ((address ≡ (lent .0, arcSize * partHanded outcome .start * 4 + lent .1))
+    × (part ≡ partWords words (partHanded outcome)))
+
+module _ (words : List ℕ) (lent : ℕ × ℕ) where
+  pub handed-part : (outcome : Outcome Part) {start size : ℕ} → standing.Part start size ≡ standingOf outcome
+      → Handed outcome words lent 0 (lent .0, start * 4 + lent .1) (take (start + size - start) (drop start words))
+  unfolding standingOf faultOf partHanded partWords
+  handed-part (answered part) {start} {size} e =
+      let first : start ≡ arcSize * part .start = cc in
+      let own : size ≡ arcSize * part .count = cc in
+      let whole : start + size - start ≡ size = omega arith in
+      (refl, (rw first, rw (whole, own, first)))
+  handed-part (refused r) e = let z : _≡_ {A = ℕ} 0 1 = cc in absurd (omega arith)
+
+  pub handed-nothing : (outcome : Outcome Part) {r : Refusal} {fault : ℕ} → standing.Refused r ≡ standingOf outcome
+      → fault ≡ numberOf (r .fault) → Handed outcome words lent fault (lent .0, 0 + lent .1) []
+  unfolding standingOf faultOf partHanded partWords
+  handed-nothing (answered part) e f = let z : _≡_ {A = ℕ} 0 1 = cc in absurd (omega arith)
+  handed-nothing (refused q) {r} e f = let same : r ≡ q = cc in (f ∙ rw same, (refl, refl))
+
+-- it lies within the lent arcs
+pub part-within : (counts : Counts) (words : List ℕ) (state : ℕ) {start size : ℕ}
+    → standing.Part start size ≡ standingOf (leaving counts words state) → start + size ≤ length words
+part-within counts words state {start} {size} e =
+    let arcs : List Arc = arcsIn (counts .arcs) words in
+    by-test (networkKnown counts words)
+    (λ h. by-test (isState counts state)
+    (λ k. let f : Searched counts words state (below state arcs) (below (state + 1) arcs) =
+    record { network-known = h; state-known = k; first-is = refl; end-is = refl } in
+    let first : start ≡ arcSize * below state arcs = cc (standing-part f) in
+    let own : size ≡ arcSize * (below (state + 1) arcs - below state arcs) = cc (standing-part f) in
+    omega (arith, part-order f, part-end f))
+    (λ k. let z : _≡_ {A = ℕ} 0 1 = cc (standing-beyond counts words state h k) in absurd (omega arith)))
+    (λ h. let z : _≡_ {A = ℕ} 0 1 = cc (standing-foreign counts words state h) in absurd (omega arith))

@@ -4,7 +4,7 @@ use Prim.Native.Nat.{_-_}
 use native.Mathlib.Omega.{arith}
 use lib.ListN.{length}
 use borrow.Author.Needs.{needs}
-use Rattle.network.specs.laws.Keys.{Keyed, keyed-start, keyed-more, keyed-end}
+use Rattle.network.specs.laws.Keys.{Keyed, keyed-start, keyed-small, keyed-more, keyed-end}
 use Rattle.network.proofs.chains.key_of.Statement.{statement}
 use Rattle.network.proofs.chains.key_of.Tie as tie
 
@@ -18,7 +18,7 @@ loop-holds : tie.Need-loop-holds Inv-loop μ-loop
 loop-holds c = keyed-start (c .args .number) (c .args .t2 .columns)
 
 mul-key : tie.Need-mul-key Inv-loop μ-loop
-mul-key c = search needs
+mul-key c = record { fits = omega (arith, keyed-small (c .before .loop .inv)) }
 
 mul-key-2 : tie.Need-mul-key-2 Inv-loop μ-loop
 mul-key-2 c = search needs
@@ -27,7 +27,7 @@ element-copy-out-key : tie.Need-element-copy-out-key Inv-loop μ-loop
 element-copy-out-key c = search needs
 
 add-key : tie.Need-add-key Inv-loop μ-loop
-add-key c = search needs
+add-key c = record { fits = omega (arith, keyed-small (c .before .before .loop .inv)) }
 
 add-c : tie.Need-add-c Inv-loop μ-loop
 add-c c = search needs
@@ -40,13 +40,13 @@ loop-again c =
     let turn = c .before .before in
     let a = turn .before .args in
     let sized : length (a .t2 .columns) ≡ 7 = search needs in
-    keyed-more (turn .loop .inv) (omega (arith, sized, c .before .loop-test .taken))
+    keyed-more (turn .loop .inv) (omega (arith, sized, c .before .loop-test .taken)) (c .before .loop-test .taken)
 
 returns : tie.Need-returns Inv-loop μ-loop
 returns c =
     let a = c .before .before .args in
     let sized : length (a .t2 .columns) ≡ 7 = search needs in
-    (keyed-end (c .before .loop .inv) (omega (arith, sized, c .loop-test .left)), c .before .loop .inv .below)
+    (keyed-end (c .before .loop .inv) (omega (arith, sized, c .loop-test .left)), omega arith)
 
 pub key-of-spec : {M : Type 1} → statement M
 key-of-spec =

@@ -1,5 +1,5 @@
 -- `following::after` meets its contract: where the centre lacks the phone, so it does up to the phone's end.
-use mathlib.Core.Path.{sym, _∙_}
+use mathlib.Core.Path.{refl, sym, _∙_}
 use native.Mathlib.Omega.{arith}
 use borrow.Author.Needs.{needs}
 use Rattle.network.specs.laws.RecordWords.{record-phone}
@@ -39,30 +39,27 @@ returns c =
 wide-requires-2 : tie.Need-wide-requires-2
 wide-requires-2 c κs = search needs
 
-mul-wide : tie.Need-mul-wide
-mul-wide c = search needs
+mul-result : tie.Need-mul-result
+mul-result c = search needs
 
-shared-slice-read-wide : tie.Need-shared-slice-read-wide
-shared-slice-read-wide c =
+shared-slice-read-result : tie.Need-shared-slice-read-result
+shared-slice-read-result c =
     let widened = c .before in
     let known = widened .before .before .before in
     let start = known .before .before .before .before .before in
     let phone = record-phone _ _ (start .pre .0) _ (start .pre .2) .1 in
     omega (arith, widened .wide2 .ensures, known .phone-of .ensures, phone, start .pre .1 .sized)
 
-wide-requires-3 : tie.Need-wide-requires-3
-wide-requires-3 c κs = search needs
-
 returns-2 : tie.Need-returns-2
 returns-2 c =
-    let widened = c .before .before in
+    let widened = c .before in
     let left = widened .before in
     let tested = left .before in
     let known = tested .before in
     let start = known .before .before .before .before .before in
     beyond-phone _ _ (start .pre .0) _ (start .pre .3) _ _ (start .pre .1) (start .pre .2)
     (known .phone-of .ensures) (known .before .before .wide .ensures)
-    (sym (tested .has-phone .ensures) ∙ left .if1 .left) (widened .wide2 .ensures) (c .wide3 .ensures)
+    (sym (tested .has-phone .ensures) ∙ left .if1 .left) (widened .wide2 .ensures) refl
 
 pub after-spec : {M : Type 1} → statement M
 after-spec =
@@ -76,7 +73,6 @@ after-spec =
     add-result
     returns
     wide-requires-2
-    mul-wide
-    shared-slice-read-wide
-    wide-requires-3
+    mul-result
+    shared-slice-read-result
     returns-2)

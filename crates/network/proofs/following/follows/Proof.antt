@@ -1,5 +1,5 @@
 -- `following::follows` meets its contract: where the centre has the phone, the meet is tried.
-use mathlib.Core.Path.{sym}
+use mathlib.Core.Path.{refl, sym}
 use native.Mathlib.Omega.{arith}
 use borrow.Author.Needs.{needs}
 use Rattle.definitions.specs.laws.Tests.{failed}
@@ -35,34 +35,26 @@ returns c =
     sym (not-following _ _ (start .pre .0) _ (start .pre .2) _ (start .pre .1) (known .phone-of .ensures)
     (known .before .before .wide .ensures) (failed (tested .has-phone .ensures) (c .if1 .taken)))
 
-matrix-of-requires : tie.Need-matrix-of-requires
-matrix-of-requires c κs =
-    let start = c .before .before .before .before .before .before in
-    record-within _ _ (start .pre .0) _ (start .pre .1)
-
-meet-requires : tie.Need-meet-requires
-meet-requires c κs = search needs
-
 wide-requires-2 : tie.Need-wide-requires-2
 wide-requires-2 c κs = search needs
 
-mul-valid : tie.Need-mul-valid
-mul-valid c = search needs
+mul-meets : tie.Need-mul-meets
+mul-meets c = search needs
 
-add-valid : tie.Need-add-valid
-add-valid c = search needs
+add-meets : tie.Need-add-meets
+add-meets c = search needs
 
-valid-requires : tie.Need-valid-requires
-valid-requires c κs = search needs
+meets-requires : tie.Need-meets-requires
+meets-requires c κs =
+    let start = c .before .before .before .before .before .before .before in
+    record-within _ _ (start .pre .0) _ (start .pre .1)
 
 returns-2 : tie.Need-returns-2
 returns-2 c =
     let widened = c .before in
-    let met = widened .before in
-    let read = met .before in
-    let start = read .before .before .before .before .before .before .before in
-    following-valid _ _ (start .pre .0) _ (start .pre .2) _ (start .pre .1) (read .matrix-of .ensures)
-    (met .meet .ensures) (widened .wide2 .ensures) (c .valid .ensures)
+    let start = widened .before .before .before .before .before .before .before in
+    following-valid _ _ (start .pre .0) _ (start .pre .2) _ (start .pre .1) refl refl (widened .wide2 .ensures)
+    (c .meets .ensures)
 
 pub follows-spec : {M : Type 1} → statement M
 follows-spec =
@@ -74,10 +66,8 @@ follows-spec =
     phone-of-requires
     has-phone-requires
     returns
-    matrix-of-requires
-    meet-requires
     wide-requires-2
-    mul-valid
-    add-valid
-    valid-requires
+    mul-meets
+    add-meets
+    meets-requires
     returns-2)

@@ -1,10 +1,10 @@
 -- `following::next_follower` meets its contract. The loop's invariant: none before `number` follows.
 use Prim.Native.Nat.{_-_, _/_}
 use mathlib.Core.Path.{sym, _∙_}
+use native.Mathlib.Omega.{arith}
 use lib.ListN.{length}
-use borrow.Author.Needs.{needs}
 use Rattle.definitions.specs.Combinations.{combinationSize}
-use Rattle.definitions.specs.laws.Searching.{NoneFrom, none-start, none-more, none-found, none-all}
+use Rattle.definitions.specs.laws.Searching.{NoneFrom, none-more, none-found, none-all}
 use Rattle.matrix.specs.Shapes.{matrixIn}
 use Rattle.network.specs.Combinations.{combinationsIn}
 use Rattle.network.specs.Following.{followsAt}
@@ -13,20 +13,26 @@ use Rattle.network.proofs.following.next_follower.Statement.{statement}
 use Rattle.network.proofs.following.next_follower.Tie as tie
 
 abbrev Inv-loop : tie.InvT-loop
-Inv-loop header combinations ends from shifted number₀ number =
+Inv-loop header combinations index from shifted number₀ number =
     NoneFrom (followsAt (matrixIn (header .half) (shifted .columns)) (combinationsIn header combinations))
     (length (combinationsIn header combinations)) from number
 
 abbrev μ-loop : tie.MeasureT-loop
-μ-loop header combinations ends from shifted number₀ number = length combinations / combinationSize - number
+μ-loop header combinations index from shifted number₀ number = length combinations / combinationSize - number
+
+abbrev entry : tie.At-loop Inv-loop μ-loop → tie.Start Inv-loop μ-loop
+entry c = c .before .before .before .before
+
+past-blocks-requires : tie.Need-past-blocks-requires Inv-loop μ-loop
+past-blocks-requires c κs = let p = c .before .before .pre in (p .0, p .1, p .2, p .3)
 
 loop-holds : tie.Need-loop-holds Inv-loop μ-loop
-loop-holds c = none-start (c .before .before .pre .2)
+loop-holds c = c .past-blocks .ensures
 
 follows-requires : tie.Need-follows-requires Inv-loop μ-loop
 follows-requires c κs =
-    let start = c .before .before .before .before in
-    (start .pre .0, number-in _ _ (search needs), start .pre .3)
+    let start = entry (c .before) in
+    (start .pre .0, number-in _ _ (c .loop-test .taken), start .pre .3)
 
 returns : tie.Need-returns Inv-loop μ-loop
 returns c =
@@ -34,22 +40,31 @@ returns c =
 
 after-requires : tie.Need-after-requires Inv-loop μ-loop
 after-requires c κs =
-    let start = c .before .before .before .before .before .before in (
+    let turn = c .before .before in
+    let start = entry (turn .before) in (
       start .pre .0,
       start .pre .1,
-      number-in _ _ (search needs),
+      number-in _ _ (turn .loop-test .taken),
       start .pre .3,
       sym (c .before .follows .ensures) ∙ c .if1 .left,
     )
 
+past-blocks-requires-2 : tie.Need-past-blocks-requires-2 Inv-loop μ-loop
+past-blocks-requires-2 c κs =
+    let p = entry (c .before .before .before .before) .pre in (p .0, p .1, c .after .ensures .1 .within, p .3)
+
 loop-less : tie.Need-loop-less Inv-loop μ-loop
-loop-less c = search needs
+loop-less c =
+    let turn = c .before .before .before .before in
+    omega (arith, c .before .after .ensures .0, c .past-blocks2 .ensures .after, turn .loop-test .taken)
 
 loop-again : tie.Need-loop-again Inv-loop μ-loop
-loop-again c = none-more (c .before .before .before .before .loop .inv) (c .after .ensures .1)
+loop-again c =
+    none-more (none-more (c .before .before .before .before .before .loop .inv) (c .before .after .ensures .1))
+    (c .past-blocks2 .ensures)
 
 returns-2 : tie.Need-returns-2 Inv-loop μ-loop
-returns-2 c = none-all (c .before .loop .inv) (number-out _ _ (search needs))
+returns-2 c = none-all (c .before .loop .inv) (number-out _ _ (c .loop-test .left))
 
 pub next-follower-spec : {M : Type 1} → statement M
 next-follower-spec =
@@ -57,10 +72,12 @@ next-follower-spec =
     (tie.spec
     Inv-loop
     μ-loop
+    past-blocks-requires
     loop-holds
     follows-requires
     returns
     after-requires
+    past-blocks-requires-2
     loop-less
     loop-again
     returns-2)

@@ -1,17 +1,33 @@
--- `leaving::leaving` meets its contract. The part's first arc and its end are found by two searches.
+-- `leaving::leaving` meets its contract: the part of the lent arcs where the arcs that leave the state stand.
+use Prim.Native.Nat.{_+_, _≤_}
+use lib.ListN.{length}
 use native.Mathlib.Omega.{arith}
 use borrow.Author.Needs.{needs}
-use mathlib.Core.Path.{refl}
+use mathlib.Core.Path.{sym, _∙_}
 use denote.Ref.{now, ptr}
-use Rattle.definitions.specs.laws.Tests.{held, failed}
-use Rattle.network.specs.laws.KnownArcs.{known-taken, known-order}
-use Rattle.network.specs.laws.Leaving.{at-address, handed-foreign, handed-beyond, Searched, searched}
-use Rattle.network.specs.laws.Leaving.{part-order, part-end, handed-part}
+use Rattle.network.specs.laws.Leaving.{handed-part, handed-nothing, part-within}
 use Rattle.network.proofs.leaving.leaving.Statement.{statement}
 use Rattle.network.proofs.leaving.leaving.Tie as tie
 
-network-known-requires : tie.Need-network-known-requires
-network-known-requires c κs = search needs
+part-leaving-requires : tie.Need-part-leaving-requires
+part-leaving-requires c κs = search needs
+
+enum-known-standing : tie.Need-enum-known-standing
+enum-known-standing c = search needs
+
+abbrev start : tie.After-known-told → tie.Start
+start c = c .before .before .before .before .before
+
+-- the part that was found lies within the lent arcs
+found : (c : tie.After-known-told)
+    → c .before .standing .given .0 .0 + c .before .standing .given .0 .1 .0 ≤ length (now (start c .args .arcs))
+found c = part-within _ _ _ (sym (c .before .standing .given .1) ∙ c .before .before .before .part-leaving .ensures)
+
+add-end : tie.Need-add-end
+add-end c = omega (arith, found c, start c .good .1 .0 .1)
+
+mul-result : tie.Need-mul-result
+mul-result c = omega (arith, found c, start c .good .1 .0 .0)
 
 sub-result : tie.Need-sub-result
 sub-result c = search needs
@@ -20,16 +36,19 @@ part-result-start : tie.Need-part-result-start
 part-result-start c = search needs
 
 part-result-end : tie.Need-part-result-end
-part-result-end c = search needs
+part-result-end c = found c
 
 returns : tie.Need-returns
 returns c =
-    let refused = c .before in
-    at-address _ _ _ _ _ _ (ptr (refused .before .before .before .args .arcs)) _
-    (handed-foreign _ _ _ (failed (refused .before .network-known .ensures) (refused .if1 .taken))) refl
+    let part = c .before .before in
+    handed-part _ (ptr (start (c .before) .args .arcs)) _
+    (sym (part .standing .given .1) ∙ part .before .before .part-leaving .ensures)
 
-is-state-requires : tie.Need-is-state-requires
-is-state-requires c κs = search needs
+enum-known-standing-2 : tie.Need-enum-known-standing-2
+enum-known-standing-2 c = search needs
+
+number-requires : tie.Need-number-requires
+number-requires c κs = search needs
 
 sub-result-2 : tie.Need-sub-result-2
 sub-result-2 c = search needs
@@ -42,123 +61,26 @@ part-result-end-2 c = search needs
 
 returns-2 : tie.Need-returns-2
 returns-2 c =
-    let refused = c .before in
-    let passed = refused .before .before in
-    at-address _ _ _ _ _ _ (ptr (passed .before .before .before .args .arcs)) _
-    (handed-beyond _ _ _ (held (passed .before .network-known .ensures) (passed .if1 .left))
-    (failed (refused .before .is-state .ensures) (refused .if2 .taken)))
-    refl
-
-wide-requires : tie.Need-wide-requires
-wide-requires c κs = search needs
-
-mul-used : tie.Need-mul-used
-mul-used c = search needs
-
-slice-aggregate-arcs-below : tie.Need-slice-aggregate-arcs-below
-slice-aggregate-arcs-below c =
-    let counted = c .before in
-    let passed = counted .before .before .before in
-    known-taken _ _ (counted .wide .ensures)
-    (held (passed .before .network-known .ensures) (passed .if1 .left))
-
-wide-requires-2 : tie.Need-wide-requires-2
-wide-requires-2 c κs = search needs
-
-arcs-below-requires : tie.Need-arcs-below-requires
-arcs-below-requires c κs =
-    let counted = c .before .before in
-    let passed = counted .before .before .before in
-    known-order _ _ (counted .wide .ensures)
-    (held (passed .before .network-known .ensures) (passed .if1 .left))
-
-slice-aggregate-arcs-below-2 : tie.Need-slice-aggregate-arcs-below-2
-slice-aggregate-arcs-below-2 c =
-    let counted = c .before .before .before .before in
-    let passed = counted .before .before .before in
-    known-taken _ _ (counted .wide .ensures)
-    (held (passed .before .network-known .ensures) (passed .if1 .left))
-
-wide-requires-3 : tie.Need-wide-requires-3
-wide-requires-3 c κs = search needs
-
-add-arcs-below : tie.Need-add-arcs-below
-add-arcs-below c = search needs
-
-arcs-below-requires-2 : tie.Need-arcs-below-requires-2
-arcs-below-requires-2 c κs =
-    let counted = c .before .before .before .before .before in
-    let passed = counted .before .before .before in
-    known-order _ _ (counted .wide .ensures)
-    (held (passed .before .network-known .ensures) (passed .if1 .left))
-
-abbrev start : tie.After-arcs-below2 → tie.Start
-start c = c .before .before .before .before .before .before .before .before .before .before .before .before
-
--- both searches done
-parted : (c : tie.After-arcs-below2) → Searched (start c .args .counts) (now (start c .args .arcs))
-    (start c .args .state) (c .before .before .before .arcs-below .result) (c .arcs-below2 .result)
-parted c =
-    let first = c .before .before .before in
-    let counted = first .before .before .before in
-    let listed = counted .before in
-    let passed = listed .before .before in
-    searched _ _ (held (passed .before .network-known .ensures) (passed .if1 .left))
-    (held (listed .before .is-state .ensures) (listed .if2 .left))
-    (counted .wide .ensures) (first .before .wide2 .ensures) (c .before .wide3 .ensures)
-    (first .arcs-below .ensures) (c .arcs-below2 .ensures)
-
-mul-result : tie.Need-mul-result
-mul-result c =
-    omega (arith, part-order (parted c), part-end (parted c), start c .good .1 .0 .0)
-
-mul-result-2 : tie.Need-mul-result-2
-mul-result-2 c = omega (arith, part-end (parted c), start c .good .1 .0 .0)
-
-mul-result-3 : tie.Need-mul-result-3
-mul-result-3 c =
-    omega (arith, part-order (parted c), part-end (parted c), start c .good .1 .0 .1)
-
-sub-result-3 : tie.Need-sub-result-3
-sub-result-3 c = omega (arith, part-order (parted c))
-
-part-result-start-3 : tie.Need-part-result-start-3
-part-result-start-3 c = omega (arith, part-order (parted c))
-
-part-result-end-3 : tie.Need-part-result-end-3
-part-result-end-3 c = part-end (parted c)
-
-returns-3 : tie.Need-returns-3
-returns-3 c =
-    at-address _ _ _ _ _ _ (ptr (start (c .before) .args .arcs)) _ (handed-part (parted (c .before))) refl
+    let refused = c .before .before .before in
+    let known = refused .before .before in
+    handed-nothing _ (ptr (known .before .before .args .arcs)) _
+    (sym (refused .standing2 .given .1) ∙ known .part-leaving .ensures) (c .before .number .ensures)
 
 pub leaving-spec : {M : Type 1} → statement M
 leaving-spec =
     tie.close
     (tie.spec
-    network-known-requires
+    part-leaving-requires
+    enum-known-standing
+    add-end
+    mul-result
     sub-result
     part-result-start
     part-result-end
     returns
-    is-state-requires
+    enum-known-standing-2
+    number-requires
     sub-result-2
     part-result-start-2
     part-result-end-2
-    returns-2
-    wide-requires
-    mul-used
-    slice-aggregate-arcs-below
-    wide-requires-2
-    arcs-below-requires
-    slice-aggregate-arcs-below-2
-    wide-requires-3
-    add-arcs-below
-    arcs-below-requires-2
-    mul-result
-    mul-result-2
-    mul-result-3
-    sub-result-3
-    part-result-start-3
-    part-result-end-3
-    returns-3)
+    returns-2)

@@ -1,10 +1,10 @@
--- `connecting::last_state` meets its contract: the states are few, so that their sum is a word.
+-- `adding::last_state` meets its contract: the states are few, so that their sum is a word.
 use Prim.Native.Nat.{_+_, _*_, _≤_}
 use native.Mathlib.Omega.{arith}
 use borrow.Author.Needs.{needs}
 use Rattle.network.specs.laws.OwnArcs.{states-few, last-state}
-use Rattle.network.proofs.connecting.last_state.Statement.{statement}
-use Rattle.network.proofs.connecting.last_state.Tie as tie
+use Rattle.network.proofs.adding.last_state.Statement.{statement}
+use Rattle.network.proofs.adding.last_state.Tie as tie
 
 few : (c : tie.After-wide) → (c .before .args .place + 1) * c .wide .result ≤ 196605
 few c =

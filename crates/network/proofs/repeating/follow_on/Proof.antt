@@ -1,0 +1,228 @@
+-- `repeating::follow_on` meets its contract: the arcs copied, or entered and noted.
+use Prim.Native.Nat.{_+_, _*_, _≤_}
+use native.Mathlib.Omega.{arith}
+use lib.ListN.{length}
+use borrow.Author.Needs.{needs}
+use Rattle.definitions.specs.laws.Known.{header-ranges}
+use Rattle.network.specs.Spans.{spanSize}
+use Rattle.network.specs.laws.Repeating.{onward-place, onward-arcs, spans-kept}
+use Rattle.network.specs.laws.Repeating.{span-order, span-within, repeated-on}
+use Rattle.network.specs.laws.Repeating.{followed-on, followed-few, followed-spans, followed-none}
+use Rattle.network.proofs.repeating.follow_on.Statement.{statement}
+use Rattle.network.proofs.repeating.follow_on.Tie as tie
+
+-- where the function begins, and where the slot is known
+abbrev entry : tie.After-slot-for → tie.Start
+entry c = c .before .before .before .before .before .before .before .before .before .before
+
+abbrev slotted : tie.After-repeats → tie.After-slot-for
+slotted c = c .before .before .before .before
+
+-- where arcs are copied, and where they were entered
+abbrev copying : tie.After-wide2 → tie.Then1
+copying c = c .before .before .before .before .before
+
+abbrev entering : tie.After-follow → tie.Else1
+entering c = c .before .before .before .before
+
+abbrev entered : tie.After-slice-known10 → tie.After-follow
+entered c = c .before .before .before .before .before .before
+
+thin : (c : tie.Start) → c .args .header .half ≤ 3
+thin c = header-ranges (c .args .header) (c .pre .0 .header-known) .half-range .high
+
+slot-there : (c : tie.After-slot-for)
+    → spanSize * c .slot-for .result + spanSize ≤ length (entry c .args .spans .now)
+slot-there c = c .slot-for .ensures .0
+
+slot-for-requires : tie.Need-slot-for-requires
+slot-for-requires c κs =
+    let start = c .before .before .before .before .before .before .before .before .before in (thin start, start .pre .4)
+
+last-state-requires : tie.Need-last-state-requires
+last-state-requires c κs =
+    let start = entry c in (start .pre .0 .header-known, onward-place (start .pre .0) (start .pre .1) (start .pre .5))
+
+repeats-requires : tie.Need-repeats-requires
+repeats-requires c κs =
+    let slot = c .before .before .before in
+    (thin (entry slot), slot-there slot)
+
+mul-at : tie.Need-mul-at
+mul-at c = search needs
+
+add-wide : tie.Need-add-wide
+add-wide c = search needs
+
+mul-wide : tie.Need-mul-wide
+mul-wide c = search needs
+
+slice-read-wide : tie.Need-slice-read-wide
+slice-read-wide c = search needs
+
+wide-requires : tie.Need-wide-requires
+wide-requires c κs = search needs
+
+add-wide-2 : tie.Need-add-wide-2
+add-wide-2 c =
+    record { fits = omega (arith, slotted (c .before .before .before .before) .slot-for .ensures .1) }
+
+mul-wide-2 : tie.Need-mul-wide-2
+mul-wide-2 c =
+    record { fits = omega (arith, slotted (c .before .before .before .before) .slot-for .ensures .1) }
+
+slice-read-wide-2 : tie.Need-slice-read-wide-2
+slice-read-wide-2 c = search needs
+
+wide-requires-2 : tie.Need-wide-requires-2
+wide-requires-2 c κs = search needs
+
+repeat-requires : tie.Need-repeat-requires
+repeat-requires c κs =
+    let test = copying c in
+    let slot = slotted (test .before) in
+    let p = entry slot .pre in
+    let (other, is, alike) = test .before .repeats .ensures (test .if1 .taken) in (
+      p .5 .holds .arc-words,
+      omega (
+        arith,
+        span-order (p .0) (p .1) (p .5) _ (slot-there slot) is alike,
+        c .before .before .wide .ensures,
+        c .wide2 .ensures,
+      ),
+      omega (arith, span-within (p .0) (p .1) (p .5) _ (slot-there slot) is alike, c .wide2 .ensures),
+      onward-arcs (p .0) (p .1) (p .5),
+    )
+
+same-length : tie.Need-same-length
+same-length c = search needs
+
+same-length-2 : tie.Need-same-length-2
+same-length-2 c = search needs
+
+same-length-3 : tie.Need-same-length-3
+same-length-3 c = search needs
+
+returns : tie.Need-returns
+returns c =
+    let copy = c .before .before in
+    let second = copy .before in
+    let test = copying second in
+    let slot = slotted (test .before) in
+    let p = entry slot .pre in
+    let (other, is, alike) = test .before .repeats .ensures (test .if1 .taken) in (
+      repeated-on (p .0) (p .1) (p .5) _ (slot-there slot) is alike (second .before .before .wide .ensures)
+          (second .wide2 .ensures) (test .before .before .before .before .last-state .ensures)
+          (copy .repeat .ensures),
+      spans-kept (p .0) (p .1) (p .5),
+    )
+
+follow-requires : tie.Need-follow-requires
+follow-requires c κs =
+    let p = entry (slotted (c .before .before .before .before)) .pre in (p .0, p .1, p .2, p .3, p .5 .holds)
+
+enum-known-step : tie.Need-enum-known-step
+enum-known-step c = search needs
+
+note-span-requires : tie.Need-note-span-requires
+note-span-requires c κs =
+    let arm = c .before .before in
+    let call = entered (arm .before .before) in
+    let slot = slotted (entering call .before) in
+    let start = entry slot in
+    let p = start .pre in
+    let last = entering call .before .before .before .before in (
+      slot-there slot,
+      onward-place (p .0) (p .1) (p .5),
+      omega (arith, onward-arcs (p .0) (p .1) (p .5)),
+      followed-few (p .0) (p .1) (p .5) (last .last-state .ensures) (call .follow .ensures) (thin start)
+          (arm .step .given .1),
+    )
+
+same-length-4 : tie.Need-same-length-4
+same-length-4 c = search needs
+
+same-length-5 : tie.Need-same-length-5
+same-length-5 c = search needs
+
+same-length-6 : tie.Need-same-length-6
+same-length-6 c = search needs
+
+same-length-7 : tie.Need-same-length-7
+same-length-7 c = search needs
+
+returns-2 : tie.Need-returns-2
+returns-2 c =
+    let noted = c .before .before in
+    let arm = noted .before .before .before in
+    let call = entered (arm .before .before) in
+    let slot = slotted (entering call .before) in
+    let p = entry slot .pre in
+    let at = entering call .before .before .before .before .last-state .ensures in
+    let is = arm .step .given .1 in (
+      followed-on (p .0) (p .1) (p .5) at (call .follow .ensures) is,
+      followed-spans (p .0) (p .1) (p .5) at (call .follow .ensures) _ (slot-there slot) is
+          (noted .note-span .ensures),
+    )
+
+enum-known-step-2 : tie.Need-enum-known-step-2
+enum-known-step-2 c = search needs
+
+same-length-8 : tie.Need-same-length-8
+same-length-8 c = search needs
+
+same-length-9 : tie.Need-same-length-9
+same-length-9 c = search needs
+
+same-length-10 : tie.Need-same-length-10
+same-length-10 c = search needs
+
+same-length-11 : tie.Need-same-length-11
+same-length-11 c = search needs
+
+returns-3 : tie.Need-returns-3
+returns-3 c =
+    let arm = c .before in
+    let call = entered (arm .before .before) in
+    let p = entry (slotted (entering call .before)) .pre in
+    let at = entering call .before .before .before .before .last-state .ensures in
+    let is = arm .step2 .given .1 in (
+      followed-on (p .0) (p .1) (p .5) at (call .follow .ensures) is,
+      followed-none (p .0) (p .1) (p .5) at (call .follow .ensures) is,
+    )
+
+pub follow-on-spec : {M : Type 1} → statement M
+follow-on-spec =
+    tie.close
+    (tie.spec
+    slot-for-requires
+    last-state-requires
+    repeats-requires
+    mul-at
+    add-wide
+    mul-wide
+    slice-read-wide
+    wide-requires
+    add-wide-2
+    mul-wide-2
+    slice-read-wide-2
+    wide-requires-2
+    repeat-requires
+    same-length
+    same-length-2
+    same-length-3
+    returns
+    follow-requires
+    enum-known-step
+    note-span-requires
+    same-length-4
+    same-length-5
+    same-length-6
+    same-length-7
+    returns-2
+    enum-known-step-2
+    same-length-8
+    same-length-9
+    same-length-10
+    same-length-11
+    returns-3)

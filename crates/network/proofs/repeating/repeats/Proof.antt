@@ -1,0 +1,85 @@
+-- `repeating::repeats` meets its contract.
+use mathlib.Core.Path.{sym, subst}
+use lib.Dec.{T}
+use borrow.Author.Needs.{needs}
+use Rattle.network.specs.laws.Repeating.{alike-repeats}
+use Rattle.network.proofs.repeating.repeats.Statement.{statement}
+use Rattle.network.proofs.repeating.repeats.Tie as tie
+
+mul-wide : tie.Need-mul-wide
+mul-wide c = search needs
+
+mul-wide-2 : tie.Need-mul-wide-2
+mul-wide-2 c = search needs
+
+shared-slice-read-wide : tie.Need-shared-slice-read-wide
+shared-slice-read-wide c = search needs
+
+wide-requires : tie.Need-wide-requires
+wide-requires c κs = search needs
+
+returns : tie.Need-returns
+returns c = λ yes. absurd (subst T (sym yes) tt)
+
+returns-2 : tie.Need-returns-2
+returns-2 c = λ e. absurd (subst T (sym e) tt)
+
+sub-matrix-at : tie.Need-sub-matrix-at
+sub-matrix-at c = search needs
+
+mul-matrix-at : tie.Need-mul-matrix-at
+mul-matrix-at c = search needs
+
+add-matrix-at : tie.Need-add-matrix-at
+add-matrix-at c = search needs
+
+matrix-at-requires : tie.Need-matrix-at-requires
+matrix-at-requires c κs = search needs
+
+all-phones-requires : tie.Need-all-phones-requires
+all-phones-requires c κs = search needs
+
+wide-requires-2 : tie.Need-wide-requires-2
+wide-requires-2 c κs = search needs
+
+mul-shift : tie.Need-mul-shift
+mul-shift c = search needs
+
+shift-requires : tie.Need-shift-requires
+shift-requires c κs = search needs
+
+alike-requires : tie.Need-alike-requires
+alike-requires c κs = search needs
+
+returns-3 : tie.Need-returns-3
+returns-3 c =
+    let shifted = c .before in
+    let half = shifted .before in
+    let phones = half .before in
+    let m = phones .before in
+    let listed = m .before in
+    let test = listed .before in
+    let a = test .before .before .before .before .before .args in
+    alike-repeats (a .header) (a .metastates .now) (a .spans .now) (a .slot) (a .shifted .columns) (test .before .wide .ensures) (test .if1 .left) (m .matrix-at .ensures)
+    (phones .all-phones .ensures) (half .wide2 .ensures) (shifted .shift .ensures) (c .alike .ensures)
+
+pub repeats-spec : {M : Type 1} → statement M
+repeats-spec =
+    tie.close
+    (tie.spec
+    mul-wide
+    mul-wide-2
+    shared-slice-read-wide
+    wide-requires
+    returns
+    returns-2
+    sub-matrix-at
+    mul-matrix-at
+    add-matrix-at
+    matrix-at-requires
+    all-phones-requires
+    wide-requires-2
+    mul-shift
+    shift-requires
+    alike-requires
+    returns-3)

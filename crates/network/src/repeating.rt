@@ -1,0 +1,234 @@
+// Metastates with the same shifted matrix have the same followers, so the arcs to the followers of one are copied for
+// the next, with another source: no matrices meet, and no metastate is looked for. `spans` has slots of three words: a
+// metastate, its place counted from 1, and where the arcs to its followers begin and end. Where a metastate is noted
+// depends on its shifted matrix, but is only a matter of speed: what a slot has is compared before it is used.
+use crate::Sizes;
+use crate::Step;
+use crate::adding::arc_room;
+use crate::adding::last_state;
+use crate::chains::key_of;
+use crate::following::follow;
+use definitions::ARC_SIZE;
+use definitions::Fault;
+use definitions::Header;
+use definitions::METASTATE_SIZE;
+use definitions::wide;
+use matrix::Matrix;
+use matrix::sets::all_phones;
+use matrix::shaping::shift;
+use matrix::words::matrix_at;
+ghost use mathlib.Core.List.{[], _∷_, _++_, map};
+ghost use mathlib.Core.Path.{_≡_};
+ghost use Prim.Native.Nat.{_+_, _*_, _≤_, _<_};
+ghost use lib.ListN.{length, set, take, drop};
+ghost use Rattle.definitions.specs.Arcs.{arcSize, arcsIn, arcWords};
+ghost use Rattle.definitions.specs.Lists.{_!_, concatMap, padded, same};
+ghost use Rattle.lines.specs.Putting.{putAt};
+ghost use Rattle.matrix.specs.Shapes.{widthOf, HasWidth};
+ghost use Rattle.network.specs.Combinations.{combinationsIn};
+ghost use Rattle.network.specs.Combinations.{Usable, Modelled};
+ghost use Rattle.network.specs.Indexing.{Indexed};
+ghost use Rattle.network.specs.Networks.{arcRoom};
+ghost use Rattle.network.specs.Spans.{leavingFrom, spanSize};
+ghost use Rattle.network.specs.Repeating.{Repeated, Repeats, Onward, followedFrom, SpannedAfter};
+ghost use Rattle.network.specs.Steps.{AfterStep};
+
+// How many words a span takes.
+const SPAN_SIZE: usize = 3;
+
+// Whether two matrices have the same columns.
+fn alike(a: Matrix, b: Matrix) -> bool
+    ensures { λ r. ⌜ r ≡ same (a .columns) (b .columns) ⌝ }
+{
+    let mut c = 0;
+    while c < 7 {
+        if a.columns[c] != b.columns[c] {
+            return false;
+        }
+        c += 1;
+    }
+    true
+}
+
+// Writes a copy of an arc, with another source.
+fn copy_arc(arcs: &mut [u32], place: usize, target: usize, from: u32)
+    requires { ⌜
+        (arcSize * place + arcSize ≤ length (now arcs)) × (arcSize * target + arcSize ≤ length (now arcs))
+        ⌝ }
+    ensures { λ r. ⌜
+        now (arcs .exit)
+        ≡ putAt (arcSize * target)
+        (from ∷ now (arcs .entry) ! (arcSize * place + 1) ∷ now (arcs .entry) ! (arcSize * place + 2)
+        ∷ now (arcs .entry) ! (arcSize * place + 3) ∷ [])
+        (now (arcs .entry))
+        ⌝ }
+{
+    let old = ARC_SIZE * place;
+    let to = arcs[old + 1];
+    let model = arcs[old + 2];
+    let phone = arcs[old + 3];
+    let new = ARC_SIZE * target;
+    arcs[new] = from;
+    arcs[new + 1] = to;
+    arcs[new + 2] = model;
+    arcs[new + 3] = phone;
+}
+
+// Appends copies of `many` arcs, from the first on, with another source.
+fn copy_span(arcs: &mut [u32], count: usize, first: usize, many: usize, from: u32)
+    requires { ⌜
+        (now arcs ≡ padded (length (now arcs)) (concatMap arcWords (arcsIn count (now arcs))))
+        × (first + many ≤ count) × (arcSize * (count + many) ≤ length (now arcs))
+        ⌝ }
+    ensures { λ r. ⌜
+        now (arcs .exit)
+        ≡ padded (length (now (arcs .entry)))
+        (concatMap arcWords (arcsIn count (now (arcs .entry))
+        ++ map (leavingFrom from) (take many (drop first (arcsIn count (now (arcs .entry)))))))
+        ⌝ }
+{
+    let mut i = 0;
+    while i < many {
+        copy_arc(arcs, first + i, count + i, from);
+        i += 1;
+    }
+}
+
+// The arcs of a span once more, with another source, if they have room.
+fn repeat(arcs: &mut [u32], sizes: Sizes, first: usize, end: usize, from: u32) -> Step
+    requires { ⌜
+        (now arcs ≡ padded (length (now arcs)) (concatMap arcWords (arcsIn (sizes .arcs) (now arcs))))
+        × (first ≤ end) × (end ≤ sizes .arcs) × (sizes .arcs ≤ arcRoom (now arcs))
+        ⌝ }
+    ensures { λ r. ⌜ Repeated sizes first end from (now (arcs .entry)) r (now (arcs .exit)) ⌝ }
+{
+    let many = end - first;
+    if arc_room(arcs.len()) < sizes.arcs + many {
+        return Step::Stop(Fault::Tangle);
+    }
+    copy_span(arcs, sizes.arcs, first, many, from);
+    Step::Next(Sizes {
+        metastates: sizes.metastates,
+        arcs: sizes.arcs + many,
+    })
+}
+
+// Whether the span in a slot is of a metastate with this matrix after the shift.
+fn repeats(header: Header, metastates: &[u64], spans: &[u32], slot: usize, shifted: Matrix) -> bool
+    requires { ⌜ (header .half ≤ 3) × (spanSize * slot + spanSize ≤ length (now spans)) ⌝ }
+    ensures { λ r. ⌜ Repeats header (now (metastates .entry)) (now (spans .entry)) slot (shifted .columns) r ⌝ }
+{
+    let place = wide(spans[SPAN_SIZE * slot]);
+    if place == 0 {
+        return false;
+    }
+    if metastates.len() / METASTATE_SIZE < place {
+        return false;
+    }
+    let m = matrix_at(metastates, METASTATE_SIZE * (place - 1) + 1);
+    let all = all_phones(header.phones);
+    alike(shift(m, 2 * wide(header.half), all), shifted)
+}
+
+// The slot for a shifted matrix: where it is noted, or the first empty one of the next few, or else the one of its key.
+fn slot_for(header: Header, metastates: &[u64], spans: &[u32], shifted: Matrix) -> usize
+    requires { ⌜ (header .half ≤ 3) × (spanSize ≤ length (now spans)) ⌝ }
+    ensures { λ r. ⌜ (spanSize * r + spanSize ≤ length (now (spans .entry))) × (r < 65536) ⌝ }
+{
+    let slots = spans.len() / SPAN_SIZE;
+    let own = key_of(0, shifted) % slots;
+    let mut i = 0;
+    while i < 8 {
+        let slot = (own + i) % slots;
+        if spans[SPAN_SIZE * slot] == 0 {
+            return slot;
+        }
+        if repeats(header, metastates, spans, slot, shifted) {
+            return slot;
+        }
+        i += 1;
+    }
+    own
+}
+
+// Notes where the arcs to the followers of the metastate at a place stand.
+fn note_span(spans: &mut [u32], slot: usize, place: usize, first: usize, end: usize)
+    requires { ⌜
+        (spanSize * slot + spanSize ≤ length (now spans)) × (place < 65535) × (first ≤ 999999) × (end ≤ 999999)
+        ⌝ }
+    ensures { λ r. ⌜
+        now (spans .exit)
+        ≡ set (set (set (now (spans .entry)) (spanSize * slot) (place + 1)) (spanSize * slot + 1) first)
+        (spanSize * slot + 2) end
+        ⌝ }
+{
+    let at = SPAN_SIZE * slot;
+    spans[at] = (place + 1) as u32;
+    spans[at + 1] = first as u32;
+    spans[at + 2] = end as u32;
+}
+
+// Appends the arcs from a metastate's last state to its followers, as `follow` does: copied where an earlier metastate
+// with the same shifted matrix is noted, else entered one by one and noted.
+pub fn follow_on(
+    header: Header,
+    nodes: &[u32],
+    combinations: &[u64],
+    index: &[u64],
+    metastates: &mut [u64],
+    arcs: &mut [u32],
+    chains: &mut [u32],
+    spans: &mut [u32],
+    sizes: Sizes,
+    place: usize,
+    shifted: Matrix,
+) -> Step
+    requires { ⌜
+        Usable header (now combinations) × Modelled header (now nodes) (now combinations)
+        × Indexed header (now combinations) (now index)
+        × HasWidth (widthOf (header .half)) (shifted .columns) × (spanSize ≤ length (now spans))
+        × Onward header (now nodes) (now combinations) (now metastates) (now arcs) (now chains) (now spans) sizes place
+        (shifted .columns)
+        ⌝ }
+    ensures step { λ r. ⌜
+        AfterStep (header .half) (length (combinationsIn header (now (combinations .entry))))
+        (now (metastates .entry)) (now (arcs .entry))
+        (followedFrom header (now (nodes .entry)) (now (combinations .entry)) (now (metastates .entry)) (now (arcs .entry))
+        sizes place (shifted .columns))
+        r (now (metastates .exit)) (now (arcs .exit)) (now (chains .exit))
+        ⌝ }
+    ensures spans { λ r. ⌜
+        SpannedAfter header (now (nodes .entry)) (now (combinations .entry))
+        (followedFrom header (now (nodes .entry)) (now (combinations .entry)) (now (metastates .entry)) (now (arcs .entry))
+        sizes place (shifted .columns))
+        (now (spans .exit))
+        ⌝ }
+{
+    let slot = slot_for(header, metastates, spans, shifted);
+    let from = last_state(header, place);
+    if repeats(header, metastates, spans, slot, shifted) {
+        let at = SPAN_SIZE * slot;
+        return repeat(arcs, sizes, wide(spans[at + 1]), wide(spans[at + 2]), from);
+    }
+    let step = follow(
+        header,
+        nodes,
+        combinations,
+        index,
+        metastates,
+        arcs,
+        chains,
+        sizes,
+        from,
+        shifted,
+    );
+    match step {
+        Step::Next(next) => {
+            note_span(spans, slot, place, sizes.arcs, next.arcs);
+            return Step::Next(next);
+        }
+        Step::Stop(fault) => {
+            return Step::Stop(fault);
+        }
+    }
+}
