@@ -93,9 +93,7 @@ use Rattle.trees.proofs.structs.leaf_of as f
 use Rattle.trees.proofs.structs.leaf_of.Statement as stated
 use Rattle.trees.proofs.structs.leaf_of.Code as code
 use Rattle.trees.proofs.structs.leaf_of.Code.Mir.{turn-1, t-3, t-4}
-use Rattle.trees.proofs.structs.leaf_of.Proof.Holding.{Gives, gives, reads, calls-held, calls-held-last}
-use Rattle.trees.proofs.structs.leaf_of.Proof.Holding.{tests}
-mod Holding
+use Rattle.trees.specs.laws.Holding.{Gives, gives, reads, calls-held, calls-held-last, tests}
 
 -- the slices' types in MIR
 abbrev nodesTy : Ty

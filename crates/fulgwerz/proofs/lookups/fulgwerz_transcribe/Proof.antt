@@ -1,0 +1,28 @@
+-- `lookups::fulgwerz_transcribe` meets its contract: what the function called answers, as a struct, and
+-- what it leaves in the buffers.
+use mathlib.Core.Path.{ap, _∙_}
+use borrow.Author.Needs.{needs}
+use Rattle.fulgwerz.specs.Made.{modelsMade}
+use Rattle.fulgwerz.specs.laws.Made.{models-made}
+use Rattle.fulgwerz.proofs.lookups.fulgwerz_transcribe.Statement.{statement}
+use Rattle.fulgwerz.proofs.lookups.fulgwerz_transcribe.Tie as tie
+
+transcribe-requires : tie.Need-transcribe-requires
+transcribe-requires c κs = search needs
+
+models-answer-requires : tie.Need-models-answer-requires
+models-answer-requires c κs = search needs
+
+same-length : tie.Need-same-length
+same-length c = search needs
+
+returns : tie.Need-returns
+returns c =
+    let called = c .before .before .before in (
+      c .models-answer .ensures ∙ ap modelsMade (called .transcribe .ensures .0) ∙ models-made _,
+      called .transcribe .ensures .1,
+    )
+
+pub fulgwerz-transcribe-spec : {M : Type 1} → statement M
+fulgwerz-transcribe-spec =
+    tie.close (tie.spec transcribe-requires models-answer-requires same-length returns)

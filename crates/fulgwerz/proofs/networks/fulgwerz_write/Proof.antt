@@ -1,0 +1,27 @@
+-- `networks::fulgwerz_write` meets its contract: what the function called answers, as a struct, and
+-- what it leaves in the buffers.
+use mathlib.Core.Path.{ap, _∙_}
+use borrow.Author.Needs.{needs}
+use Rattle.fulgwerz.specs.Made.{bytesMade}
+use Rattle.fulgwerz.specs.laws.Made.{bytes-made}
+use Rattle.fulgwerz.proofs.networks.fulgwerz_write.Statement.{statement}
+use Rattle.fulgwerz.proofs.networks.fulgwerz_write.Tie as tie
+
+write-requires : tie.Need-write-requires
+write-requires c κs = search needs
+
+bytes-answer-requires : tie.Need-bytes-answer-requires
+bytes-answer-requires c κs = search needs
+
+same-length : tie.Need-same-length
+same-length c = search needs
+
+returns : tie.Need-returns
+returns c =
+    let called = c .before .before .before in (
+      c .bytes-answer .ensures ∙ ap bytesMade (called .write .ensures .0) ∙ bytes-made _,
+      called .write .ensures .1,
+    )
+
+pub fulgwerz-write-spec : {M : Type 1} → statement M
+fulgwerz-write-spec = tie.close (tie.spec write-requires bytes-answer-requires same-length returns)

@@ -1,0 +1,2 @@
+-- Laws about what the functions for C answer.
+pub mod Made
