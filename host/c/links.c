@@ -1,0 +1,534 @@
+/*
+ * Calls every entry of libfulgwerz.a through include/fulgwerz.h on document 01's example. What is expected was worked out
+ * by hand from document 01: each answer, and each word of each buffer, which holds other words before every call.
+ */
+#include "fulgwerz.h"
+
+#include <stdio.h>
+#include <string.h>
+
+static unsigned checks, failed;
+
+static void check(bool holds, const char *claim, int line) {
+    checks++;
+    if (!holds) {
+        failed++;
+        fprintf(stderr, "links.c:%d: not so: %s\n", line, claim);
+    }
+}
+
+#define CHECK(claim) check((claim), #claim, __LINE__)
+#define COUNT(array) (sizeof(array) / sizeof((array)[0]))
+
+/* The example. */
+
+static const char BOOK[] =
+    "H     1     1     2     1     4\n"
+    "Q     1     1                  \n"
+    "L     0    10                  \n"
+    "N     1     1     0     2     3\n"
+    "L     2    20                  \n"
+    "L     3    21                  \n"
+    "R     1     1     0            \n"
+    "R     2     1     1            \n";
+
+static const char NETWORK[] =
+    "W     1     4    11            \n"
+    "A     0     2    10     1      \n"
+    "A     2     1     0     0      \n"
+    "A     2     2    10     1      \n"
+    "A     2     3    20     2      \n"
+    "A     3     4    10     1      \n"
+    "A     3     5    21     2      \n"
+    "A     4     1     0     0      \n"
+    "A     4     2    10     1      \n"
+    "A     4     3    20     2      \n"
+    "A     5     4    10     1      \n"
+    "A     5     5    21     2      \n";
+
+enum { BOOK_BYTES = 8 * FULGWERZ_LINE, NETWORK_BYTES = 12 * FULGWERZ_LINE };
+
+static const fulgwerz_header HEADER = {1, 1, 2, 1, 4};
+static const fulgwerz_counts COUNTS = {1, 4, 11};
+
+static const uint32_t NODES[] = {
+    2, 10, 0, 0, 0, /* a leaf with model 10 */
+    1, 1, 0, 2, 3,  /* is the phone at position 0 in class 1? yes: node 2, no: node 3 */
+    2, 20, 0, 0, 0,
+    2, 21, 0, 0, 0,
+};
+static const uint64_t CLASSES[] = {1};  /* phone 1 is the bit worth 1 */
+static const uint32_t ROOTS[] = {0, 1};
+
+/* Phone, three leaves, seven columns. Both phones are 3, phone 1 alone is 1, phone 2 alone is 2. */
+static const uint64_t COMBINATIONS[] = {
+    1, 0, 0, 0, 3, 1, 3, 0, 0, 0, 0,
+    2, 2, 0, 0, 1, 2, 3, 0, 0, 0, 0,
+    2, 3, 0, 0, 2, 2, 3, 0, 0, 0, 0,
+};
+
+/* Combination, seven columns. */
+static const uint64_t METASTATES[] = {
+    0, 1, 1, 3, 0, 0, 0, 0, /* silence after silence */
+    1, 1, 2, 3, 0, 0, 0, 0, /* phone 2 after silence */
+    0, 2, 1, 3, 0, 0, 0, 0, /* silence after phone 2 */
+    2, 2, 2, 3, 0, 0, 0, 0, /* phone 2 after phone 2 */
+};
+
+static const uint32_t ARCS[] = {
+    0, 2, 10, 1,
+    2, 1, 0, 0,  2, 2, 10, 1,  2, 3, 20, 2,
+    3, 4, 10, 1,  3, 5, 21, 2,
+    4, 1, 0, 0,  4, 2, 10, 1,  4, 3, 20, 2,
+    5, 4, 10, 1,  5, 5, 21, 2,
+};
+
+/* Lent buffers, each longer than the example needs, and not by whole records. */
+
+static uint32_t nodes[COUNT(NODES) + 7];
+static uint64_t classes[COUNT(CLASSES) + 2];
+static uint32_t roots[COUNT(ROOTS) + 3];
+static uint64_t combinations[COUNT(COMBINATIONS) + 13];
+static uint64_t metastates[COUNT(METASTATES) + 9];
+static uint32_t arcs[COUNT(ARCS) + 5];
+static uint32_t models[9];
+static uint8_t text[NETWORK_BYTES + 40];
+
+/* Fills every buffer with other words. */
+static void spoil(void) {
+    memset(nodes, 0xa5, sizeof nodes);
+    memset(classes, 0xa5, sizeof classes);
+    memset(roots, 0xa5, sizeof roots);
+    memset(combinations, 0xa5, sizeof combinations);
+    memset(metastates, 0xa5, sizeof metastates);
+    memset(arcs, 0xa5, sizeof arcs);
+    memset(models, 0xa5, sizeof models);
+    memset(text, 0xa5, sizeof text);
+}
+
+/* Whether a buffer begins with these bytes and has only 0 after them. */
+static bool holds(const void *buffer, size_t bytes, const void *expected, size_t used) {
+    const unsigned char *rest = buffer;
+    if (used > bytes || memcmp(buffer, expected, used) != 0) {
+        return false;
+    }
+    for (size_t i = used; i < bytes; i++) {
+        if (rest[i] != 0) {
+            return false;
+        }
+    }
+    return true;
+}
+
+#define HOLDS(buffer, expected) holds((buffer), sizeof(buffer), (expected), sizeof(expected))
+#define CLEARED(buffer) holds((buffer), sizeof(buffer), "", 0)
+
+static const uint8_t *bytes(const char *characters) {
+    return (const uint8_t *)characters;
+}
+
+static bool same_header(fulgwerz_header a, fulgwerz_header b) {
+    return a.half == b.half && a.states == b.states && a.phones == b.phones && a.classes == b.classes &&
+           a.nodes == b.nodes;
+}
+
+static bool same_counts(fulgwerz_counts a, fulgwerz_counts b) {
+    return a.states == b.states && a.metastates == b.metastates && a.arcs == b.arcs;
+}
+
+static const fulgwerz_header NO_HEADER = {0, 0, 0, 0, 0};
+static const fulgwerz_counts NO_COUNTS = {0, 0, 0};
+
+/* The calls, with the example's tables and the buffers above. */
+
+static fulgwerz_read_answer read_book(const char *book, size_t length, size_t nodes_length) {
+    spoil();
+    return fulgwerz_read(
+        bytes(book), length, nodes, nodes_length, classes, COUNT(classes), roots, COUNT(roots));
+}
+
+static fulgwerz_leaf_answer find_leaf(uint32_t root, const uint32_t *context, size_t context_length) {
+    return fulgwerz_leaf(
+        HEADER, NODES, COUNT(NODES), CLASSES, COUNT(CLASSES), root, context, context_length);
+}
+
+static fulgwerz_count_answer transcribe(const uint32_t *phones, size_t phones_length, size_t models_length) {
+    spoil();
+    return fulgwerz_transcribe(
+        HEADER, NODES, COUNT(NODES), CLASSES, COUNT(CLASSES), ROOTS, COUNT(ROOTS),
+        phones, phones_length, models, models_length);
+}
+
+static fulgwerz_count_answer combine(fulgwerz_header header, size_t combinations_length) {
+    spoil();
+    return fulgwerz_combine(
+        header, NODES, COUNT(NODES), CLASSES, COUNT(CLASSES), ROOTS, COUNT(ROOTS),
+        combinations, combinations_length);
+}
+
+static fulgwerz_build_answer build(
+    fulgwerz_header header, size_t combination_room, size_t metastate_room, size_t arc_room, uint32_t turn_limit) {
+    spoil();
+    return fulgwerz_build(
+        header, NODES, COUNT(NODES), CLASSES, COUNT(CLASSES), ROOTS, COUNT(ROOTS),
+        combinations, combination_room * FULGWERZ_COMBINATION,
+        metastates, metastate_room * FULGWERZ_METASTATE,
+        arcs, arc_room * FULGWERZ_ARC,
+        turn_limit);
+}
+
+static fulgwerz_build_answer build_book(const char *book, size_t metastate_room, uint32_t turn_limit) {
+    spoil();
+    return fulgwerz_build_book(
+        bytes(book), BOOK_BYTES,
+        nodes, COUNT(nodes), classes, COUNT(classes), roots, COUNT(roots),
+        combinations, COUNT(combinations),
+        metastates, metastate_room * FULGWERZ_METASTATE,
+        arcs, COUNT(arcs),
+        turn_limit);
+}
+
+/* Sizes and places of all fields, as the archive has them. */
+
+static void check_small_layouts(void) {
+    CHECK(sizeof(size_t) == 8 && sizeof(bool) == 1);
+
+    CHECK(sizeof(fulgwerz_header) == 20);
+    CHECK(offsetof(fulgwerz_header, half) == 0);
+    CHECK(offsetof(fulgwerz_header, states) == 4);
+    CHECK(offsetof(fulgwerz_header, phones) == 8);
+    CHECK(offsetof(fulgwerz_header, classes) == 12);
+    CHECK(offsetof(fulgwerz_header, nodes) == 16);
+
+    CHECK(sizeof(fulgwerz_node) == 20);
+    CHECK(offsetof(fulgwerz_node, kind) == 0);
+    CHECK(offsetof(fulgwerz_node, value) == 4);
+    CHECK(offsetof(fulgwerz_node, position) == 8);
+    CHECK(offsetof(fulgwerz_node, yes) == 12);
+    CHECK(offsetof(fulgwerz_node, no) == 16);
+
+    CHECK(sizeof(fulgwerz_counts) == 12);
+    CHECK(offsetof(fulgwerz_counts, states) == 0);
+    CHECK(offsetof(fulgwerz_counts, metastates) == 4);
+    CHECK(offsetof(fulgwerz_counts, arcs) == 8);
+}
+
+static void check_answer_layouts(void) {
+    CHECK(sizeof(fulgwerz_read_answer) == 40);
+    CHECK(offsetof(fulgwerz_read_answer, fault) == 0);
+    CHECK(offsetof(fulgwerz_read_answer, line) == 8);
+    CHECK(offsetof(fulgwerz_read_answer, header) == 16);
+
+    CHECK(sizeof(fulgwerz_leaf_answer) == 24);
+    CHECK(offsetof(fulgwerz_leaf_answer, fault) == 0);
+    CHECK(offsetof(fulgwerz_leaf_answer, line) == 8);
+    CHECK(offsetof(fulgwerz_leaf_answer, leaf) == 16);
+
+    CHECK(sizeof(fulgwerz_count_answer) == 24);
+    CHECK(offsetof(fulgwerz_count_answer, fault) == 0);
+    CHECK(offsetof(fulgwerz_count_answer, line) == 8);
+    CHECK(offsetof(fulgwerz_count_answer, count) == 16);
+
+    CHECK(sizeof(fulgwerz_build_answer) == 40);
+    CHECK(offsetof(fulgwerz_build_answer, fault) == 0);
+    CHECK(offsetof(fulgwerz_build_answer, line) == 8);
+    CHECK(offsetof(fulgwerz_build_answer, finished) == 16);
+    CHECK(offsetof(fulgwerz_build_answer, turns) == 20);
+    CHECK(offsetof(fulgwerz_build_answer, counts) == 24);
+
+    CHECK(sizeof(fulgwerz_network_answer) == 32);
+    CHECK(offsetof(fulgwerz_network_answer, fault) == 0);
+    CHECK(offsetof(fulgwerz_network_answer, line) == 8);
+    CHECK(offsetof(fulgwerz_network_answer, counts) == 16);
+
+    CHECK(sizeof(fulgwerz_part_answer) == 32);
+    CHECK(offsetof(fulgwerz_part_answer, fault) == 0);
+    CHECK(offsetof(fulgwerz_part_answer, line) == 8);
+    CHECK(offsetof(fulgwerz_part_answer, start) == 16);
+    CHECK(offsetof(fulgwerz_part_answer, length) == 24);
+}
+
+static void check_read(void) {
+    fulgwerz_read_answer read = read_book(BOOK, BOOK_BYTES, COUNT(nodes));
+    CHECK(read.fault == 0 && read.line == 0);
+    CHECK(same_header(read.header, HEADER));
+    CHECK(HOLDS(nodes, NODES));
+    CHECK(HOLDS(classes, CLASSES));
+    CHECK(HOLDS(roots, ROOTS));
+
+    read = read_book(BOOK, BOOK_BYTES, COUNT(NODES));
+    CHECK(read.fault == 0 && read.line == 0 && same_header(read.header, HEADER));
+
+    read = read_book(BOOK, BOOK_BYTES, COUNT(NODES) - 1);
+    CHECK(read.fault == FULGWERZ_NARROW && read.line == 1);
+    CHECK(same_header(read.header, NO_HEADER));
+    CHECK(holds(nodes, (COUNT(NODES) - 1) * sizeof nodes[0], "", 0));
+    CHECK(nodes[COUNT(NODES) - 1] == 0xa5a5a5a5); /* not lent, so not touched */
+    CHECK(CLEARED(classes) && CLEARED(roots));
+}
+
+/* The example with one line changed; lines count from 1. */
+static const char *with_line(size_t number, const char *line) {
+    static char book[sizeof BOOK];
+    memcpy(book, BOOK, sizeof BOOK);
+    memcpy(book + (number - 1) * FULGWERZ_LINE, line, FULGWERZ_LINE);
+    return book;
+}
+
+static void check_read_refused(const char *book, size_t length, uint32_t fault, size_t line) {
+    fulgwerz_read_answer read = read_book(book, length, COUNT(nodes));
+    CHECK(read.fault == fault);
+    CHECK(read.line == line);
+    CHECK(same_header(read.header, NO_HEADER));
+    CHECK(CLEARED(nodes) && CLEARED(classes) && CLEARED(roots));
+}
+
+static void check_read_refusals(void) {
+    check_read_refused(BOOK, 0, FULGWERZ_RAGGED, 0);
+    check_read_refused(BOOK, 255, FULGWERZ_RAGGED, 0);
+    check_read_refused(with_line(2, "q     1     1                  \n"), BOOK_BYTES, FULGWERZ_MISPRINT, 2);
+    check_read_refused(with_line(1, "H     4     1     2     1     4\n"), BOOK_BYTES, FULGWERZ_RANGE, 1);
+    check_read_refused(with_line(4, "N     2     1     0     3     3\n"), BOOK_BYTES, FULGWERZ_ORDER, 4);
+    check_read_refused(with_line(4, "N     1     1     0     1     3\n"), BOOK_BYTES, FULGWERZ_BACKWARD, 4);
+    check_read_refused(with_line(4, "N     1     1     0     2     2\n"), BOOK_BYTES, FULGWERZ_ORPHAN, 5);
+    check_read_refused(BOOK, 7 * FULGWERZ_LINE, FULGWERZ_COUNT, 8);
+}
+
+static void check_leaf(void) {
+    static const uint32_t after_silence[] = {1, 2, 1}, after_two[] = {2, 2, 1}, beyond[] = {3, 2, 1};
+
+    fulgwerz_leaf_answer leaf = find_leaf(1, after_silence, 3);
+    CHECK(leaf.fault == 0 && leaf.line == 0 && leaf.leaf == 2);
+    leaf = find_leaf(1, after_two, 3);
+    CHECK(leaf.fault == 0 && leaf.line == 0 && leaf.leaf == 3);
+    leaf = find_leaf(3, after_silence, 3);
+    CHECK(leaf.fault == 0 && leaf.line == 0 && leaf.leaf == 3);
+
+    leaf = find_leaf(1, after_silence, 2);
+    CHECK(leaf.fault == FULGWERZ_RANGE && leaf.line == 0 && leaf.leaf == 0);
+    leaf = find_leaf(1, beyond, 3);
+    CHECK(leaf.fault == FULGWERZ_RANGE && leaf.line == 0 && leaf.leaf == 0);
+    leaf = find_leaf(4, after_silence, 3);
+    CHECK(leaf.fault == FULGWERZ_FOREIGN && leaf.line == 0 && leaf.leaf == 0);
+
+    /* Tables may be lent as reading left them, with 0 beyond the book's words. */
+    read_book(BOOK, BOOK_BYTES, COUNT(nodes));
+    leaf = fulgwerz_leaf(HEADER, nodes, COUNT(nodes), classes, COUNT(classes), 1, after_two, 3);
+    CHECK(leaf.fault == 0 && leaf.line == 0 && leaf.leaf == 3);
+    nodes[COUNT(NODES)] = 1;
+    leaf = fulgwerz_leaf(HEADER, nodes, COUNT(nodes), classes, COUNT(classes), 1, after_two, 3);
+    CHECK(leaf.fault == FULGWERZ_FOREIGN && leaf.line == 0 && leaf.leaf == 0);
+}
+
+static void check_leaf_in_list(void) {
+    static const fulgwerz_node list[] = {{2, 10, 0, 0, 0}, {1, 1, 0, 2, 3}, {2, 20, 0, 0, 0}, {2, 21, 0, 0, 0}};
+    static const uint32_t after_silence[] = {1, 2, 1}, after_two[] = {2, 2, 1};
+
+    fulgwerz_leaf_answer leaf = fulgwerz_leaf_in_list(HEADER, list, 4, CLASSES, COUNT(CLASSES), 1, after_silence, 3);
+    CHECK(leaf.fault == 0 && leaf.line == 0 && leaf.leaf == 2);
+    leaf = fulgwerz_leaf_in_list(HEADER, list, 4, CLASSES, COUNT(CLASSES), 1, after_two, 3);
+    CHECK(leaf.fault == 0 && leaf.line == 0 && leaf.leaf == 3);
+    leaf = fulgwerz_leaf_in_list(HEADER, list, 4, CLASSES, COUNT(CLASSES), 1, after_two, 2);
+    CHECK(leaf.fault == FULGWERZ_RANGE && leaf.line == 0 && leaf.leaf == 0);
+    leaf = fulgwerz_leaf_in_list(HEADER, list, 3, CLASSES, COUNT(CLASSES), 1, after_two, 3);
+    CHECK(leaf.fault == FULGWERZ_FOREIGN && leaf.line == 0 && leaf.leaf == 0);
+}
+
+static void check_transcribe(void) {
+    static const uint32_t phones[] = {1, 2, 2, 1};
+    static const uint32_t one[] = {10}, four[] = {10, 20, 21, 10};
+
+    fulgwerz_count_answer given = transcribe(phones, 1, COUNT(models));
+    CHECK(given.fault == 0 && given.line == 0 && given.count == 1);
+    CHECK(HOLDS(models, one));
+    given = transcribe(phones, 4, COUNT(models));
+    CHECK(given.fault == 0 && given.line == 0 && given.count == 4);
+    CHECK(HOLDS(models, four));
+    given = transcribe(phones, 4, 4);
+    CHECK(given.fault == 0 && given.line == 0 && given.count == 4);
+    CHECK(memcmp(models, four, sizeof four) == 0 && models[4] == 0xa5a5a5a5);
+
+    given = transcribe(phones, 4, 3);
+    CHECK(given.fault == FULGWERZ_SHORT && given.line == 0 && given.count == 0);
+    CHECK(holds(models, 3 * sizeof models[0], "", 0));
+    given = transcribe(phones, 0, COUNT(models));
+    CHECK(given.fault == FULGWERZ_UTTERANCE && given.line == 0 && given.count == 0);
+    CHECK(CLEARED(models));
+    given = transcribe(phones + 2, 2, COUNT(models));
+    CHECK(given.fault == FULGWERZ_UTTERANCE && given.line == 0 && given.count == 0);
+    CHECK(CLEARED(models));
+}
+
+static void check_combine(void) {
+    fulgwerz_count_answer combined = combine(HEADER, COUNT(combinations));
+    CHECK(combined.fault == 0 && combined.line == 0 && combined.count == 3);
+    CHECK(HOLDS(combinations, COMBINATIONS));
+
+    combined = combine(HEADER, COUNT(COMBINATIONS) - 1); /* two records, and ten words of a third */
+    CHECK(combined.fault == FULGWERZ_CHOICES && combined.line == 0 && combined.count == 0);
+    CHECK(holds(combinations, (COUNT(COMBINATIONS) - 1) * sizeof combinations[0], "", 0));
+
+    fulgwerz_header wrong = HEADER;
+    wrong.phones = 3;
+    combined = combine(wrong, COUNT(combinations));
+    CHECK(combined.fault == FULGWERZ_FOREIGN && combined.line == 0 && combined.count == 0);
+    CHECK(CLEARED(combinations));
+}
+
+static void check_built(fulgwerz_build_answer built) {
+    CHECK(built.fault == 0 && built.line == 0);
+    CHECK(built.finished);
+    CHECK(built.turns == 4);
+    CHECK(same_counts(built.counts, COUNTS));
+}
+
+static void check_build(void) {
+    check_built(build(HEADER, 3, 4, 11, 4));
+    CHECK(memcmp(combinations, COMBINATIONS, sizeof COMBINATIONS) == 0);
+    CHECK(memcmp(metastates, METASTATES, sizeof METASTATES) == 0);
+    CHECK(memcmp(arcs, ARCS, sizeof ARCS) == 0);
+
+    check_built(build(HEADER, 4, 5, 12, UINT32_MAX));
+    CHECK(holds(combinations, 4 * FULGWERZ_COMBINATION * sizeof combinations[0], COMBINATIONS, sizeof COMBINATIONS));
+    CHECK(holds(metastates, 5 * FULGWERZ_METASTATE * sizeof metastates[0], METASTATES, sizeof METASTATES));
+    CHECK(holds(arcs, 12 * FULGWERZ_ARC * sizeof arcs[0], ARCS, sizeof ARCS));
+
+    /* Three turns stop with nine arcs; the fourth metastate is there, but not expanded. */
+    static const fulgwerz_counts nine = {1, 4, 9};
+    fulgwerz_build_answer built = build(HEADER, 3, 4, 11, 3);
+    CHECK(built.fault == 0 && built.line == 0 && !built.finished && built.turns == 3);
+    CHECK(same_counts(built.counts, nine));
+    CHECK(memcmp(metastates, METASTATES, sizeof METASTATES) == 0);
+    CHECK(holds(arcs, sizeof ARCS, ARCS, 9 * FULGWERZ_ARC * sizeof arcs[0]));
+}
+
+static void check_build_refused(fulgwerz_build_answer built, uint32_t fault, size_t line) {
+    CHECK(built.fault == fault);
+    CHECK(built.line == line);
+    CHECK(!built.finished && built.turns == 0);
+    CHECK(same_counts(built.counts, NO_COUNTS));
+}
+
+static void check_build_refusals(void) {
+    check_build_refused(build(HEADER, 2, 4, 11, 4), FULGWERZ_CHOICES, 0);
+    check_build_refused(build(HEADER, 3, 3, 11, 4), FULGWERZ_CROWD, 0);
+    check_build_refused(build(HEADER, 3, 3, 5, 4), FULGWERZ_CROWD, 0);
+    check_build_refused(build(HEADER, 3, 4, 10, 4), FULGWERZ_TANGLE, 0);
+    CHECK(holds(combinations, sizeof COMBINATIONS, "", 0));
+    CHECK(holds(metastates, sizeof METASTATES, "", 0));
+    CHECK(holds(arcs, 10 * FULGWERZ_ARC * sizeof arcs[0], "", 0));
+
+    fulgwerz_header wrong = HEADER;
+    wrong.nodes = 5;
+    check_build_refused(build(wrong, 3, 4, 11, 4), FULGWERZ_FOREIGN, 0);
+    CHECK(holds(combinations, sizeof COMBINATIONS, "", 0));
+    CHECK(holds(metastates, sizeof METASTATES, "", 0));
+    CHECK(holds(arcs, sizeof ARCS, "", 0));
+}
+
+static void check_build_book(void) {
+    check_built(build_book(BOOK, 4, FULGWERZ_MAX_METASTATES));
+    CHECK(HOLDS(nodes, NODES));
+    CHECK(HOLDS(classes, CLASSES));
+    CHECK(HOLDS(roots, ROOTS));
+    CHECK(HOLDS(combinations, COMBINATIONS));
+    CHECK(memcmp(metastates, METASTATES, sizeof METASTATES) == 0);
+    CHECK(HOLDS(arcs, ARCS));
+
+    /* A refusal of the build clears the tables too. */
+    check_build_refused(build_book(BOOK, 3, FULGWERZ_MAX_METASTATES), FULGWERZ_CROWD, 0);
+    CHECK(CLEARED(nodes) && CLEARED(classes) && CLEARED(roots));
+    CHECK(CLEARED(combinations) && CLEARED(arcs));
+    CHECK(holds(metastates, 3 * FULGWERZ_METASTATE * sizeof metastates[0], "", 0));
+
+    const char *orphans = with_line(4, "N     1     1     0     2     2\n");
+    check_build_refused(build_book(orphans, 4, FULGWERZ_MAX_METASTATES), FULGWERZ_ORPHAN, 5);
+    CHECK(CLEARED(nodes) && CLEARED(classes) && CLEARED(roots));
+    CHECK(CLEARED(combinations) && CLEARED(arcs));
+    CHECK(holds(metastates, 4 * FULGWERZ_METASTATE * sizeof metastates[0], "", 0));
+}
+
+static void check_part(uint32_t state, uint32_t fault, size_t start, size_t length) {
+    fulgwerz_part_answer part = fulgwerz_leaving(COUNTS, ARCS, COUNT(ARCS), state);
+    CHECK(part.fault == fault);
+    CHECK(part.line == 0);
+    CHECK(part.start == start);
+    CHECK(part.length == length);
+}
+
+static void check_leaving(void) {
+    check_part(0, 0, 0 * FULGWERZ_ARC, 1 * FULGWERZ_ARC);
+    check_part(1, 0, 1 * FULGWERZ_ARC, 0); /* none leaves FINAL; they would stand after INITIAL's */
+    check_part(2, 0, 1 * FULGWERZ_ARC, 3 * FULGWERZ_ARC);
+    check_part(3, 0, 4 * FULGWERZ_ARC, 2 * FULGWERZ_ARC);
+    check_part(4, 0, 6 * FULGWERZ_ARC, 3 * FULGWERZ_ARC);
+    check_part(5, 0, 9 * FULGWERZ_ARC, 2 * FULGWERZ_ARC);
+    check_part(6, FULGWERZ_STATE, 0, 0);
+
+    static const fulgwerz_counts ten = {1, 4, 10};
+    fulgwerz_part_answer part = fulgwerz_leaving(ten, ARCS, COUNT(ARCS), 2);
+    CHECK(part.fault == FULGWERZ_FOREIGN && part.line == 0 && part.start == 0 && part.length == 0);
+}
+
+static void check_write(void) {
+    spoil();
+    fulgwerz_count_answer written = fulgwerz_write(COUNTS, ARCS, COUNT(ARCS), text, sizeof text);
+    CHECK(written.fault == 0 && written.line == 0 && written.count == NETWORK_BYTES);
+    CHECK(holds(text, sizeof text, NETWORK, NETWORK_BYTES));
+    spoil();
+    written = fulgwerz_write(COUNTS, ARCS, COUNT(ARCS), text, NETWORK_BYTES);
+    CHECK(written.fault == 0 && written.line == 0 && written.count == NETWORK_BYTES);
+    CHECK(memcmp(text, NETWORK, NETWORK_BYTES) == 0 && text[NETWORK_BYTES] == 0xa5);
+
+    spoil();
+    written = fulgwerz_write(COUNTS, ARCS, COUNT(ARCS), text, NETWORK_BYTES - 1);
+    CHECK(written.fault == FULGWERZ_SHORT && written.line == 0 && written.count == 0);
+    CHECK(holds(text, NETWORK_BYTES - 1, "", 0));
+    static const fulgwerz_counts ten = {1, 4, 10};
+    spoil();
+    written = fulgwerz_write(ten, ARCS, COUNT(ARCS), text, sizeof text);
+    CHECK(written.fault == FULGWERZ_FOREIGN && written.line == 0 && written.count == 0);
+    CHECK(CLEARED(text));
+}
+
+static void check_network_refused(size_t length, size_t arcs_length, uint32_t fault, size_t line) {
+    spoil();
+    fulgwerz_network_answer network = fulgwerz_read_network(bytes(NETWORK), length, arcs, arcs_length);
+    CHECK(network.fault == fault);
+    CHECK(network.line == line);
+    CHECK(same_counts(network.counts, NO_COUNTS));
+    CHECK(holds(arcs, arcs_length * sizeof arcs[0], "", 0));
+}
+
+static void check_read_network(void) {
+    spoil();
+    fulgwerz_network_answer network = fulgwerz_read_network(bytes(NETWORK), NETWORK_BYTES, arcs, COUNT(arcs));
+    CHECK(network.fault == 0 && network.line == 0);
+    CHECK(same_counts(network.counts, COUNTS));
+    CHECK(HOLDS(arcs, ARCS));
+
+    check_network_refused(NETWORK_BYTES - 1, COUNT(arcs), FULGWERZ_RAGGED, 0);
+    check_network_refused(NETWORK_BYTES - FULGWERZ_LINE, COUNT(arcs), FULGWERZ_COUNT, 12);
+    check_network_refused(NETWORK_BYTES, COUNT(ARCS) - 1, FULGWERZ_NARROW, 1);
+    check_network_refused(NETWORK_BYTES, 0, FULGWERZ_NARROW, 1);
+}
+
+int main(void) {
+    CHECK(sizeof BOOK == BOOK_BYTES + 1 && sizeof NETWORK == NETWORK_BYTES + 1);
+    check_small_layouts();
+    check_answer_layouts();
+    check_read();
+    check_read_refusals();
+    check_leaf();
+    check_leaf_in_list();
+    check_transcribe();
+    check_combine();
+    check_build();
+    check_build_refusals();
+    check_build_book();
+    check_leaving();
+    check_write();
+    check_read_network();
+    printf("%u checks, %u failed\n", checks, failed);
+    return failed == 0 ? 0 : 1;
+}

@@ -1,0 +1,145 @@
+//! What the arguments ask for.
+
+use crate::failures::Failure;
+use crate::help;
+use crate::showing;
+use std::ffi::{OsStr, OsString};
+
+/// What to do. A file named `-` is standard input or standard output.
+#[derive(Debug, PartialEq)]
+pub enum Command {
+    Build { book: OsString, network: OsString },
+    Check { book: OsString },
+    Transcribe { book: OsString, phones: Vec<u32> },
+    Arcs { network: OsString, state: u32 },
+    Help(Option<Verb>),
+    Version,
+}
+
+/// The commands that work on files.
+#[derive(Clone, Copy, Debug, PartialEq)]
+pub enum Verb {
+    Build,
+    Check,
+    Transcribe,
+    Arcs,
+}
+
+impl Verb {
+    fn named(name: &OsStr) -> Option<Verb> {
+        match name.to_str()? {
+            "build" => Some(Verb::Build),
+            "check" => Some(Verb::Check),
+            "transcribe" => Some(Verb::Transcribe),
+            "arcs" => Some(Verb::Arcs),
+            _ => None,
+        }
+    }
+}
+
+/// What follows a command, sorted.
+#[derive(Default)]
+struct Given {
+    plain: Vec<OsString>,
+    output: Option<OsString>,
+    help: bool,
+}
+
+pub fn parse(arguments: &[OsString]) -> Result<Command, Failure> {
+    let Some((first, rest)) = arguments.split_first() else {
+        return Err(Failure::because(format!("a command is needed\n{}", help::USAGE)));
+    };
+    if let Some(verb) = Verb::named(first) {
+        return command(verb, rest);
+    }
+    match first.to_str() {
+        Some("help" | "--help" | "-h") => help_about(rest),
+        Some("--version" | "-V") => Ok(Command::Version),
+        _ => Err(unknown_command(first)),
+    }
+}
+
+fn help_about(rest: &[OsString]) -> Result<Command, Failure> {
+    let Some(topic) = rest.first() else {
+        return Ok(Command::Help(None));
+    };
+    match (Verb::named(topic), topic.to_str()) {
+        (Some(verb), _) => Ok(Command::Help(Some(verb))),
+        (None, Some("help" | "--help" | "-h")) => Ok(Command::Help(None)),
+        (None, _) => Err(unknown_command(topic)),
+    }
+}
+
+fn unknown_command(name: &OsStr) -> Failure {
+    Failure::because(format!("there is no command '{}'\n{}", showing::name(name), help::USAGE))
+}
+
+fn command(verb: Verb, rest: &[OsString]) -> Result<Command, Failure> {
+    let Given { plain, output, help } = sort(verb, rest)?;
+    if help {
+        return Ok(Command::Help(Some(verb)));
+    }
+    match (verb, plain.as_slice()) {
+        (Verb::Build, [book]) => {
+            Ok(Command::Build { book: book.clone(), network: output.unwrap_or_else(|| "-".into()) })
+        }
+        (Verb::Check, [book]) => Ok(Command::Check { book: book.clone() }),
+        (Verb::Transcribe, [book, phones @ ..]) if !phones.is_empty() => {
+            let phones = phones.iter().map(|phone| number(verb, phone)).collect::<Result<_, _>>()?;
+            Ok(Command::Transcribe { book: book.clone(), phones })
+        }
+        (Verb::Arcs, [network, state]) => Ok(Command::Arcs { network: network.clone(), state: number(verb, state)? }),
+        _ => Err(usage(verb, help::wanted(verb))),
+    }
+}
+
+/// Tells options from other arguments. A negative number is no option, so that it can be refused as a number.
+fn sort(verb: Verb, rest: &[OsString]) -> Result<Given, Failure> {
+    let mut given = Given::default();
+    let mut rest = rest.iter();
+    while let Some(argument) = rest.next() {
+        match argument.to_str() {
+            Some("--") => given.plain.extend(rest.by_ref().cloned()),
+            Some("--help" | "-h") => given.help = true,
+            Some("-o") if verb == Verb::Build => {
+                let Some(output) = rest.next() else {
+                    return Err(usage(verb, "after -o the name of the NETWORK is needed"));
+                };
+                if given.output.replace(output.clone()).is_some() {
+                    return Err(usage(verb, "-o is given twice"));
+                }
+            }
+            _ if is_option(argument) => {
+                return Err(usage(verb, &format!("there is no option '{}'", showing::name(argument))));
+            }
+            _ => given.plain.push(argument.clone()),
+        }
+    }
+    Ok(given)
+}
+
+fn is_option(argument: &OsStr) -> bool {
+    match argument.as_encoded_bytes() {
+        [b'-', second, ..] => !second.is_ascii_digit(),
+        _ => false,
+    }
+}
+
+/// A phone or a state.
+fn number(verb: Verb, argument: &OsStr) -> Result<u32, Failure> {
+    let shown = showing::name(argument);
+    let (what, range) = match verb {
+        Verb::Arcs => ("state", "states are numbers from 0 to 196606"),
+        _ => ("phone", "phones are numbers from 1 to 64"),
+    };
+    let digits = argument.to_str().filter(|text| !text.is_empty() && text.bytes().all(|byte| byte.is_ascii_digit()));
+    match digits.map(str::parse) {
+        Some(Ok(number)) => Ok(number),
+        Some(Err(_)) => Err(usage(verb, &format!("'{shown}' is too large for a {what}: {range}"))),
+        None => Err(usage(verb, &format!("'{shown}' is not a {what}: {range}"))),
+    }
+}
+
+fn usage(verb: Verb, why: &str) -> Failure {
+    Failure::because(format!("{why}\nusage: {}", help::usage(verb)))
+}

@@ -1,0 +1,107 @@
+//! The space that is lent to the library, and the calls that fill it. Whatever space is lent first, a fault for want of
+//! space is answered only where it was met in the most space that document 01 allows.
+
+use crate::faults::{CHOICES, CROWD, NARROW, TANGLE};
+use crate::inputs::LINE;
+use fulgwerz::{BuildAnswer, Header, NetworkAnswer, ReadAnswer, Space, Tables, TablesMut};
+
+/// Words of a record.
+const NODE: usize = 5;
+const COMBINATION: usize = 11;
+const METASTATE: usize = 8;
+pub const ARC: usize = 4;
+
+/// No build has more turns than metastates, 65535, so none is stopped.
+const TURN_LIMIT: u32 = u32::MAX;
+
+/// How many records a build is lent.
+struct Room {
+    combinations: usize,
+    metastates: usize,
+    arcs: usize,
+}
+
+/// Lent first: the library clears all that it is lent, and many books need only a small part of the most.
+const FIRST_ROOM: Room = Room { combinations: 4096, metastates: 4096, arcs: 65536 };
+const MOST_ROOM: Room = Room { combinations: 65535, metastates: 65535, arcs: 999_999 };
+
+/// The tables of a book, long enough for any: 4096 nodes, 255 classes, 64 phones of 3 states.
+pub struct BookTables {
+    nodes: Vec<u32>,
+    classes: Vec<u64>,
+    roots: Vec<u32>,
+}
+
+impl BookTables {
+    fn empty() -> BookTables {
+        BookTables { nodes: vec![0; 4096 * NODE], classes: vec![0; 255], roots: vec![0; 64 * 3] }
+    }
+
+    fn lent_to_fill(&mut self) -> TablesMut<'_> {
+        TablesMut { nodes: &mut self.nodes, classes: &mut self.classes, roots: &mut self.roots }
+    }
+
+    fn lent_to_read(&self) -> Tables<'_> {
+        Tables { nodes: &self.nodes, classes: &self.classes, roots: &self.roots }
+    }
+}
+
+pub fn read_book(text: &[u8]) -> (ReadAnswer, BookTables) {
+    let mut tables = BookTables::empty();
+    let answer = fulgwerz::read(text, tables.lent_to_fill());
+    (answer, tables)
+}
+
+/// The models of the phones: the fault, and one model for each phone and state.
+pub fn transcribe(header: Header, tables: &BookTables, phones: &[u32]) -> (u32, Vec<u32>) {
+    let mut models = vec![0; phones.len() * header.states as usize];
+    let answer = fulgwerz::transcribe(header, tables.lent_to_read(), phones, &mut models);
+    models.truncate(answer.count);
+    (answer.fault, models)
+}
+
+/// The network of a book: the answer, and the arcs that it counts.
+pub fn build_book(text: &[u8]) -> (BuildAnswer, Vec<u32>) {
+    let (answer, arcs) = build_within(&FIRST_ROOM, text);
+    if matches!(answer.fault, CHOICES | CROWD | TANGLE) {
+        return build_within(&MOST_ROOM, text);
+    }
+    (answer, arcs)
+}
+
+fn build_within(room: &Room, text: &[u8]) -> (BuildAnswer, Vec<u32>) {
+    let mut tables = BookTables::empty();
+    let mut combinations = vec![0; room.combinations * COMBINATION];
+    let mut metastates = vec![0; room.metastates * METASTATE];
+    let mut arcs = vec![0; room.arcs * ARC];
+    let space = Space { combinations: &mut combinations, metastates: &mut metastates, arcs: &mut arcs };
+    let answer = fulgwerz::build_book(text, tables.lent_to_fill(), space, TURN_LIMIT);
+    arcs.truncate(answer.counts.arcs as usize * ARC);
+    (answer, arcs)
+}
+
+/// The text of a network: the fault, and a line for the counts and for each arc.
+pub fn write_network(counts: fulgwerz::Counts, arcs: &[u32]) -> (u32, Vec<u8>) {
+    let mut text = vec![0; (1 + counts.arcs as usize) * LINE];
+    let answer = fulgwerz::write(counts, arcs, &mut text);
+    text.truncate(answer.count);
+    (answer.fault, text)
+}
+
+/// Reads network text: the answer, and the arcs. Room for as many arcs as the text has lines is enough, unless its first
+/// line counts more.
+pub fn read_network(text: &[u8]) -> (NetworkAnswer, Vec<u32>) {
+    let lines = text.len() / LINE;
+    let (answer, arcs) = read_network_within(lines.min(MOST_ROOM.arcs), text);
+    if answer.fault == NARROW {
+        return read_network_within(MOST_ROOM.arcs, text);
+    }
+    (answer, arcs)
+}
+
+fn read_network_within(room: usize, text: &[u8]) -> (NetworkAnswer, Vec<u32>) {
+    let mut arcs = vec![0; room * ARC];
+    let answer = fulgwerz::read_network(text, &mut arcs);
+    arcs.truncate(answer.counts.arcs as usize * ARC);
+    (answer, arcs)
+}

@@ -1,0 +1,114 @@
+//! The texts of help and usage.
+
+use crate::args::Verb;
+
+pub const USAGE: &str = "\
+usage:
+  hc build BOOK [-o NETWORK]   builds the network of a tree book
+  hc check BOOK                says whether a book is accepted, or what is wrong
+  hc transcribe BOOK PHONE..   prints the models that the trees give to phones
+  hc arcs NETWORK STATE        prints the arcs that leave a state of a network
+  hc help [COMMAND]            prints help, or more about a command
+  hc --version                 prints the version";
+
+const GENERAL: &str = "
+
+A BOOK or NETWORK named - is standard input. A fault is shown on standard error:
+its number and word, what it means, and the line of the text. The guide
+docs/tree-books.md tells how to write a book and how to mend each fault.
+The exit status is 0, or 1 where something is wrong.
+
+examples:
+  hc build welsh.book -o welsh.network
+  hc build - < welsh.book > welsh.network
+  hc check welsh.book
+  hc transcribe welsh.book 1 2 2 1
+  hc arcs welsh.network 0
+";
+
+const BUILD: &str = "
+
+Reads the tree book, builds its network and writes the network's text to
+NETWORK, or to standard output where NETWORK is - or not given. BOOK may be -
+for standard input.
+
+NETWORK is written under another name in its folder and renamed when it is
+whole: a book that is refused, or a build that is interrupted, leaves NETWORK
+as it was.
+
+A book may have up to 64 phones, 255 classes and 4096 nodes, a network up to
+65535 metastates and 999999 arcs.
+
+examples:
+  hc build welsh.book -o welsh.network
+  hc build - < welsh.book > welsh.network
+";
+
+const CHECK: &str = "
+
+Reads the tree book. Says that it is accepted, with its half-width, states,
+phones, classes and nodes, or what is wrong and where. Nothing is built.
+BOOK may be - for standard input.
+
+examples:
+  hc check welsh.book
+  hc check - < welsh.book
+";
+
+const TRANSCRIBE: &str = "
+
+Prints in one line the models that the trees of the book give to the phones,
+for each phone as many as it has states. The phones must begin and end with
+silence, phone 1; what lies beyond them counts as silence too. BOOK may be -
+for standard input.
+
+examples:
+  hc transcribe welsh.book 1 2 2 1
+";
+
+const ARCS: &str = "
+
+Prints the arcs that leave the state, as the A lines that they are in NETWORK:
+the state they leave, the state they enter, model, phone. For a state without
+arcs nothing is printed. State 0 is INITIAL, state 1 is FINAL. NETWORK may be -
+for standard input.
+
+examples:
+  hc arcs welsh.network 0
+  hc build welsh.book | hc arcs - 2
+";
+
+/// How a command is called.
+pub fn usage(verb: Verb) -> &'static str {
+    match verb {
+        Verb::Build => "hc build BOOK [-o NETWORK]",
+        Verb::Check => "hc check BOOK",
+        Verb::Transcribe => "hc transcribe BOOK PHONE..",
+        Verb::Arcs => "hc arcs NETWORK STATE",
+    }
+}
+
+/// What a command asks for.
+pub fn wanted(verb: Verb) -> &'static str {
+    match verb {
+        Verb::Build | Verb::Check => "one BOOK is needed",
+        Verb::Transcribe => "a BOOK and one PHONE or more are needed",
+        Verb::Arcs => "one NETWORK and one STATE are needed",
+    }
+}
+
+/// Help about a command, or about all.
+pub fn text(verb: Option<Verb>) -> String {
+    let Some(verb) = verb else {
+        return format!(
+            "hc builds the speech recognition networks of tree books, by a proved library.\n\n{USAGE}{GENERAL}"
+        );
+    };
+    let more = match verb {
+        Verb::Build => BUILD,
+        Verb::Check => CHECK,
+        Verb::Transcribe => TRANSCRIBE,
+        Verb::Arcs => ARCS,
+    };
+    format!("usage: {}{more}", usage(verb))
+}

@@ -1,0 +1,44 @@
+//! hc builds the networks of tree books in real sizes, by the proved library libfulgwerz.a.
+
+mod args;
+mod buffers;
+mod commands;
+mod failures;
+mod faults;
+mod help;
+mod inputs;
+mod outputs;
+mod ragged;
+mod showing;
+mod stages;
+
+use failures::Failure;
+use std::ffi::OsString;
+use std::process::ExitCode;
+use std::{env, thread};
+
+/// The library keeps its working space, some megabytes, on the stack of the thread that calls it.
+const STACK_BYTES: usize = 64 << 20;
+
+fn main() -> ExitCode {
+    match thread::Builder::new().stack_size(STACK_BYTES).spawn(run) {
+        // A thread that panicked has said why.
+        Ok(work) => work.join().unwrap_or(ExitCode::FAILURE),
+        Err(error) => end(Err(Failure::because(format!("no thread to work on: {error}")))),
+    }
+}
+
+fn run() -> ExitCode {
+    let arguments: Vec<OsString> = env::args_os().skip(1).collect();
+    end(args::parse(&arguments).and_then(commands::perform))
+}
+
+fn end(result: Result<(), Failure>) -> ExitCode {
+    match result {
+        Ok(()) => ExitCode::SUCCESS,
+        Err(failure) => {
+            failure.say();
+            ExitCode::FAILURE
+        }
+    }
+}
