@@ -1,0 +1,90 @@
+//! Compares the proved build with the plain one, on the same books in the same run.
+//!
+//!     benchmark [--largest] [NAME..]          all books, or those named
+//!     benchmark --list                        the names
+//!     benchmark --only proved|plain NAME N    one side builds one book N times, for a profiler
+
+mod builds;
+mod catalogue;
+mod clock;
+mod measuring;
+mod memory;
+mod tables;
+
+use builds::{build, Buffers, ReadBook, Room, Side};
+use catalogue::{catalogue, Measured};
+use std::env;
+use std::process::exit;
+
+#[global_allocator]
+static ALLOCATOR: memory::Counting = memory::Counting;
+
+fn main() {
+    let arguments: Vec<String> = env::args().skip(1).collect();
+    let words: Vec<&str> = arguments.iter().map(String::as_str).collect();
+    match words[..] {
+        ["--list"] => catalogue().iter().for_each(|measured| println!("{}", measured.name)),
+        ["--only", side, name, times] => repeat(side, name, times),
+        ["--largest", ref names @ ..] => compare(names, true),
+        ref names => compare(names, false),
+    }
+}
+
+fn fail(why: &str) -> ! {
+    eprintln!("{why}");
+    exit(2)
+}
+
+fn chosen(names: &[&str]) -> Vec<Measured> {
+    let mut books = catalogue();
+    for name in names {
+        if !books.iter().any(|measured| measured.name == *name) {
+            fail(&format!("no book is named {name}; --list shows the names"));
+        }
+    }
+    books.retain(|measured| names.is_empty() || names.contains(&measured.name.as_str()));
+    books
+}
+
+/// One side alone, lent the largest space, so that nothing is built before to know the need.
+fn repeat(side: &str, name: &str, times: &str) {
+    let side = match side {
+        "proved" => Side::Proved,
+        "plain" => Side::Plain,
+        _ => fail("the side is proved or plain"),
+    };
+    let Ok(times) = times.parse::<usize>() else { fail("how often is a number") };
+    let books = chosen(&[name]);
+    memory::on_large_stack(|| {
+        let book = ReadBook::new(&books[0].book);
+        let mut buffers = Buffers::new(Room::LARGEST);
+        for _ in 0..times {
+            let answer = build(side, &book, &mut buffers);
+            println!("{side:?}: {} metastates, {} arcs", answer.counts.metastates, answer.counts.arcs);
+        }
+    });
+}
+
+fn compare(names: &[&str], largest_room: bool) {
+    let lent = if largest_room { "the largest space that a build can use" } else { "the space that the book needs" };
+    println!("Both sides build from the same tables, in turn, in one process. A time is the best of at least five,");
+    println!("in processor time of the one thread, so that other work on the machine does not count.");
+    println!("Each side is lent {lent}, and clears all of it within the measured time.");
+    println!("Answers and all lent buffers are compared, and a difference ends the run.");
+    println!("Clearing is a build refused at its header (18), which clears everything lent.\n");
+    let mut parts = Vec::new();
+    memory::on_large_stack(|| {
+        let mut kind = "";
+        for Measured { name, kind: this_kind, book } in chosen(names) {
+            if kind != this_kind {
+                println!("{}{this_kind}:\n\n{}", if kind.is_empty() { "" } else { "\n" }, tables::speed_head());
+                kind = this_kind;
+            }
+            let measured = measuring::measure(&ReadBook::new(&book), largest_room);
+            println!("{}", tables::speed_row(&name, book.half, book.phones, &measured));
+            parts.push(tables::parts_row(&name, &measured));
+        }
+    });
+    println!("\nWhere time and memory go:\n\n{}\n{}", tables::parts_head(), parts.join("\n"));
+    println!("\nPeak memory of this process, with the buffers of both sides: {} kB", memory::peak() >> 10);
+}

@@ -1,0 +1,113 @@
+//! The tables that are printed: plain text, aligned, and Markdown as they stand.
+
+use crate::measuring::Measurement;
+use std::time::Duration;
+
+/// A column's title and width.
+type Column = (&'static str, usize);
+
+const SPEED: [Column; 12] = [
+    ("book", 13),
+    ("n", 1),
+    ("k", 1),
+    ("phones", 6),
+    ("combinations", 12),
+    ("metastates", 10),
+    ("arcs", 6),
+    ("proved ms", 9),
+    ("plain ms", 9),
+    ("proved ns/arc", 13),
+    ("plain ns/arc", 12),
+    ("proved/plain", 12),
+];
+
+const PARTS: [Column; 12] = [
+    ("book", 13),
+    ("clearing: proved ms", 19),
+    ("plain ms", 8),
+    ("combining: proved ms", 20),
+    ("plain ms", 8),
+    ("connecting: proved ms", 21),
+    ("plain ms", 8),
+    ("lent kB", 7),
+    ("beside it proved: stack kB", 26),
+    ("heap kB", 7),
+    ("plain: stack kB", 15),
+    ("heap kB", 7),
+];
+
+pub fn speed_head() -> String {
+    head(&SPEED)
+}
+
+pub fn parts_head() -> String {
+    head(&PARTS)
+}
+
+pub fn speed_row(name: &str, half: u32, phones: u32, measured: &Measurement) -> String {
+    let counts = measured.answer.counts;
+    let per_arc = |time: Duration| format!("{:.1}", time.as_secs_f64() * 1e9 / f64::from(counts.arcs));
+    let (proved, plain) = (measured.proved.build, measured.plain.build);
+    row(&SPEED, &[
+        name.into(),
+        half.to_string(),
+        counts.states.to_string(),
+        phones.to_string(),
+        measured.combinations.to_string(),
+        counts.metastates.to_string(),
+        counts.arcs.to_string(),
+        milliseconds(proved),
+        milliseconds(plain),
+        per_arc(proved),
+        per_arc(plain),
+        format!("{:.2}", proved.as_secs_f64() / plain.as_secs_f64()),
+    ])
+}
+
+pub fn parts_row(name: &str, measured: &Measurement) -> String {
+    let (proved, plain) = (measured.proved, measured.plain);
+    // Connecting is what is left of the build. Combining clears its own space once more, so this is a little too small.
+    let rest = |build: Duration, combine, clear| milliseconds(build.saturating_sub(combine).saturating_sub(clear));
+    row(&PARTS, &[
+        name.into(),
+        milliseconds(proved.clear),
+        milliseconds(plain.clear),
+        milliseconds(proved.combine),
+        milliseconds(plain.combine),
+        rest(proved.build, proved.combine, proved.clear),
+        rest(plain.build, plain.combine, plain.clear),
+        kilobytes(measured.room.bytes()),
+        kilobytes(proved.stack),
+        kilobytes(proved.heap),
+        kilobytes(plain.stack),
+        kilobytes(plain.heap),
+    ])
+}
+
+fn milliseconds(time: Duration) -> String {
+    format!("{:.3}", time.as_secs_f64() * 1e3)
+}
+
+fn kilobytes(bytes: usize) -> String {
+    (bytes >> 10).to_string()
+}
+
+/// Titles and the rule below them. Names stand to the left, numbers to the right.
+fn head(columns: &[Column]) -> String {
+    let rule = |(place, &(_, width)): (usize, &Column)| match place {
+        0 => format!("|{}", "-".repeat(width + 2)),
+        _ => format!("|{}:", "-".repeat(width + 1)),
+    };
+    let titles: Vec<String> = columns.iter().map(|&(title, _)| title.into()).collect();
+    let rules: String = columns.iter().enumerate().map(rule).collect();
+    format!("{}\n{rules}|", row(columns, &titles))
+}
+
+fn row(columns: &[Column], cells: &[String]) -> String {
+    let cell = |(place, text): (usize, &String)| match columns[place].1 {
+        width if place == 0 => format!("| {text:<width$} "),
+        width => format!("| {text:>width$} "),
+    };
+    let cells: String = cells.iter().enumerate().map(cell).collect();
+    format!("{cells}|")
+}

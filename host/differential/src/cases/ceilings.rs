@@ -1,0 +1,92 @@
+//! Cases at the ceilings: exactly as much as document 01 allows, and one more.
+
+use super::arcs::{Leaving, OwnNetwork, Writing};
+use super::building::{Building, BuildingBook, Room};
+use super::combining::Combining;
+use super::lookup::Lookup;
+use super::networks::{text_of, ReadingNetwork};
+use super::reading::{BookText, Read};
+use super::tables::OwnTables;
+use super::transcription::Transcription;
+use super::Case;
+use fulgwerz::Space;
+use plain::books::{ceilings::*, Book};
+use plain::limits::*;
+
+pub fn cases() -> Vec<Box<dyn Case>> {
+    let mut cases = Vec::new();
+    combinations(&mut cases);
+    metastates(&mut cases);
+    arcs(&mut cases);
+    largest(&mut cases);
+    network(&mut cases);
+    cases
+}
+
+fn combinations(cases: &mut Vec<Box<dyn Case>>) {
+    let exact = combinations_65535();
+    for (book, records) in [(&exact, 65535), (&exact, 65534), (&combinations_65536(), 65540)] {
+        let words = COMBINATION * records;
+        cases.push(Box::new(Combining { tables: OwnTables::of(book, 0), words }));
+    }
+}
+
+fn building(book: &Book, metastates: usize, arcs: usize, turn_limit: u32) -> Box<dyn Case> {
+    let room = Room { combinations: COMBINATION * 50, metastates: METASTATE * metastates, arcs: ARC * arcs };
+    Box::new(Building { tables: OwnTables::of(book, 0), room, turn_limit })
+}
+
+fn metastates(cases: &mut Vec<Box<dyn Case>>) {
+    let exact = metastates_65535();
+    cases.push(building(&exact, 65535, 986_401, u32::MAX));
+    cases.push(building(&exact, 65535, 986_401, 65534));
+    cases.push(building(&exact, 65534, 986_401, u32::MAX));
+    cases.push(building(&metastates_65536(), 65540, 1_000_010, u32::MAX));
+    let text = exact.text();
+    let lent = [NODE * exact.nodes.len(), exact.classes.len(), exact.roots.len()];
+    let room = Room { combinations: COMBINATION * 24, metastates: METASTATE * 65535, arcs: ARC * 986_401 };
+    cases.push(Box::new(BuildingBook { book: BookText { text, lent }, room, turn_limit: 65535 }));
+}
+
+fn arcs(cases: &mut Vec<Box<dyn Case>>) {
+    let exact = arcs_999999();
+    cases.push(building(&exact, 32227, 999_999, u32::MAX));
+    cases.push(building(&exact, 32227, 1_000_010, 32227));
+    cases.push(building(&exact, 32227, 999_998, u32::MAX));
+    cases.push(building(&arcs_1000000(), 32227, 1_000_000, u32::MAX));
+}
+
+/// The longest tables and the deepest trees.
+fn largest(cases: &mut Vec<Box<dyn Case>>) {
+    for book in [largest_tables(), deepest_tree()] {
+        let lent = [NODE * book.nodes.len(), book.classes.len(), book.roots.len()];
+        cases.push(Box::new(Read(BookText { text: book.text(), lent })));
+        let tables = OwnTables::of(&book, 0);
+        let root = *book.roots.last().expect("a root");
+        let context = vec![1; 2 * book.half as usize + 1];
+        cases.push(Box::new(Lookup { tables: tables.clone(), root, context, in_list: false }));
+        let phones = vec![1, book.phones, book.phones, 1];
+        let models = 4 * book.states as usize;
+        cases.push(Box::new(Transcription { tables: tables.clone(), phones, models }));
+        cases.push(Box::new(Combining { tables, words: COMBINATION * 64 }));
+        cases.push(building(&book, 65540, 1_000_010, 100));
+    }
+}
+
+/// The longest network and its text.
+fn network(cases: &mut Vec<Box<dyn Case>>) {
+    let tables = OwnTables::of(&arcs_999999(), 0);
+    let mut arcs = vec![0; ARC * MOST_ARCS];
+    let (mut combinations, mut metastates) = (vec![0; COMBINATION * 50], vec![0; METASTATE * 32227]);
+    let space = Space { combinations: &mut combinations, metastates: &mut metastates, arcs: &mut arcs };
+    let counts = plain::fast::build(tables.header, tables.tables(), space, u32::MAX).counts;
+    let network = OwnNetwork { counts, arcs };
+    let text = text_of(&network);
+    for state in [0, 1, 2, 20000, 32228, 32229] {
+        cases.push(Box::new(Leaving { network: network.clone(), state }));
+    }
+    cases.push(Box::new(Writing { network: network.clone(), text: text.len() }));
+    cases.push(Box::new(Writing { network, text: text.len() - 1 }));
+    cases.push(Box::new(ReadingNetwork { text: text.clone(), arcs: ARC * MOST_ARCS }));
+    cases.push(Box::new(ReadingNetwork { text, arcs: ARC * MOST_ARCS - 1 }));
+}

@@ -1,0 +1,31 @@
+//! Tree books to be written as text: what a book holds, and the generators of books.
+
+pub mod ceilings;
+pub mod numbering;
+pub mod random_books;
+pub mod recipes;
+pub mod text;
+pub mod trees;
+
+/// A node of a tree book; children are node numbers.
+#[derive(Clone, Copy, Debug)]
+pub enum Node {
+    Question { class: u32, position: u32, yes: u32, no: u32 },
+    Leaf { model: u32 },
+}
+
+/// A tree book. Classes are sets of phones, phone p being the bit worth 2^(p-1); roots stand by phone, then state.
+#[derive(Clone, Debug)]
+pub struct Book {
+    pub half: u32,
+    pub states: u32,
+    pub phones: u32,
+    pub classes: Vec<u64>,
+    pub nodes: Vec<Node>,
+    pub roots: Vec<u32>,
+}
+
+/// The set of all phones.
+pub fn all_phones(phones: u32) -> u64 {
+    u64::MAX >> (64 - phones)
+}

@@ -1,0 +1,61 @@
+//! The build as it is written for speed alone, the yardstick of the benchmark: no proofs, the same answers and words.
+//!
+//! Metastates are found in a hash map; a turn tries only the combinations of the phones in the shifted centre column,
+//! and leaves a meet at its first empty column; a matrix has just the columns of the half-width, known to the compiler.
+
+mod combining;
+mod connecting;
+mod hashing;
+mod leaves;
+
+use crate::foreign::tables_known;
+use crate::refusal::{Refusal, FOREIGN};
+use fulgwerz::{BuildAnswer, CountAnswer, Header, Space, Tables};
+
+/// A matrix of W = 2n+1 columns, each a set of phones.
+type Matrix<const W: usize> = [u64; W];
+
+/// Builds the network from tables, as `fulgwerz::build` does.
+pub fn build(header: Header, tables: Tables, space: Space, turn_limit: u32) -> BuildAnswer {
+    let Space { combinations, metastates, arcs } = space;
+    combinations.fill(0);
+    metastates.fill(0);
+    arcs.fill(0);
+    if !tables_known(header, tables) {
+        return BuildAnswer { fault: FOREIGN, ..BuildAnswer::default() };
+    }
+    let space = Space { combinations: &mut *combinations, metastates: &mut *metastates, arcs: &mut *arcs };
+    let built = match header.half {
+        0 => connecting::connect::<1>(header, tables, space, turn_limit),
+        1 => connecting::connect::<3>(header, tables, space, turn_limit),
+        2 => connecting::connect::<5>(header, tables, space, turn_limit),
+        _ => connecting::connect::<7>(header, tables, space, turn_limit),
+    };
+    built.unwrap_or_else(|Refusal { fault, line }| {
+        combinations.fill(0);
+        metastates.fill(0);
+        arcs.fill(0);
+        BuildAnswer { fault, line, ..BuildAnswer::default() }
+    })
+}
+
+/// The valid combinations of leaves, as `fulgwerz::combine` gives them.
+pub fn combine(header: Header, tables: Tables, combinations: &mut [u64]) -> CountAnswer {
+    combinations.fill(0);
+    if !tables_known(header, tables) {
+        return CountAnswer { fault: FOREIGN, ..CountAnswer::default() };
+    }
+    let counted = match header.half {
+        0 => combining::combine::<1>(header, tables, combinations).map(|found| found.matrices.len()),
+        1 => combining::combine::<3>(header, tables, combinations).map(|found| found.matrices.len()),
+        2 => combining::combine::<5>(header, tables, combinations).map(|found| found.matrices.len()),
+        _ => combining::combine::<7>(header, tables, combinations).map(|found| found.matrices.len()),
+    };
+    match counted {
+        Ok(count) => CountAnswer { count, ..CountAnswer::default() },
+        Err(Refusal { fault, line }) => {
+            combinations.fill(0);
+            CountAnswer { fault, line, count: 0 }
+        }
+    }
+}

@@ -1,0 +1,27 @@
+//! Document 01 written a second time, simply and without proofs, with the entries of `fulgwerz`: what the library's
+//! answers and buffers are compared with. Also the generators of tree books, and in `fast` a build written for speed.
+
+pub mod books;
+mod book_reader;
+mod buffers;
+mod building;
+mod combinations;
+pub mod fast;
+mod foreign;
+mod leaving;
+pub mod limits;
+mod lines;
+mod matrix;
+mod network;
+mod network_text;
+pub mod random;
+pub mod refusal;
+mod trees;
+
+pub use book_reader::read;
+pub use building::build_book;
+pub use combinations::combine;
+pub use leaving::leaving;
+pub use network::build;
+pub use network_text::{read_network, write};
+pub use trees::{leaf, leaf_in_list, transcribe};

@@ -1,0 +1,21 @@
+//! Document 01's ranges and ceilings, and how many words a record takes.
+
+pub const MOST_HALF: u32 = 3;
+pub const MOST_STATES: u32 = 3;
+pub const MOST_PHONES: u32 = 64;
+pub const MOST_CLASSES: u32 = 255;
+pub const MOST_NODES: u32 = 4096;
+pub const MOST_MODEL: u32 = 65535;
+pub const MOST_COMBINATIONS: usize = 65535;
+pub const MOST_METASTATES: usize = 65535;
+pub const MOST_ARCS: usize = 999_999;
+
+pub const NODE: usize = 5;
+pub const COMBINATION: usize = 11;
+pub const METASTATE: usize = 8;
+pub const ARC: usize = 4;
+pub const LINE: usize = 32;
+
+/// The kinds of node in a node's first word.
+pub const QUESTION: u32 = 1;
+pub const LEAF: u32 = 2;
