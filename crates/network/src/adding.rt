@@ -22,11 +22,12 @@ ghost use Rattle.definitions.specs.Arcs.{arcSize, lastState};
 ghost use Rattle.definitions.specs.ForeignTables.{headerKnown};
 ghost use Rattle.definitions.specs.Lists.{_!_};
 ghost use Rattle.definitions.specs.Metastates.{metastateSize};
+ghost use Rattle.lines.specs.Putting.{putAt};
 ghost use Rattle.network.specs.Chains.{keyOf, links};
 ghost use Rattle.matrix.specs.Shapes.{widthOf, HasWidth};
 ghost use Rattle.network.specs.Combinations.{combinationsIn, Usable, Modelled};
 ghost use Rattle.network.specs.Networks.{networkHeld, arcRoom, Holds};
-ghost use Rattle.network.specs.Steps.{AfterStep, AreArcs, ArcsAppended};
+ghost use Rattle.network.specs.Steps.{AfterStep, ArcsAppended};
 ghost use Rattle.network.specs.Steps.{ArcAnswered, ArcAppended, intoArc, entered};
 
 // How many arcs the lent words have room for.
@@ -49,6 +50,20 @@ fn metastate_room(words: usize) -> usize
         return 65535;
     }
     room
+}
+
+// Writes the words of an arc at a place.
+pub fn put_arc(arcs: &mut [u32], place: usize, from: u32, to: u32, model: u32, phone: u32)
+    requires { ⌜ arcSize * place + arcSize ≤ length (now arcs) ⌝ }
+    ensures { λ r. ⌜
+        now (arcs .exit) ≡ putAt (arcSize * place) (from ∷ to ∷ model ∷ phone ∷ []) (now (arcs .entry))
+        ⌝ }
+{
+    let at = ARC_SIZE * place;
+    arcs[at] = from;
+    arcs[at + 1] = to;
+    arcs[at + 2] = model;
+    arcs[at + 3] = phone;
 }
 
 // Copies the words of new arcs.
@@ -87,33 +102,7 @@ pub fn last_state(header: Header, place: usize) -> u32
     last as u32
 }
 
-// The arc from a state to the first state of the metastate at a place, with its first model and its phone.
-fn arc_into(
-    header: Header,
-    nodes: &[u32],
-    combinations: &[u64],
-    from: u32,
-    place: usize,
-    number: usize,
-) -> Arcs
-    requires { ⌜
-        Usable header (now combinations) × Modelled header (now nodes) (now combinations)
-        × (number < length (combinationsIn header (now combinations))) × (place < 65535)
-        ⌝ }
-    ensures { λ r. ⌜
-        AreArcs r (intoArc header (now (nodes .entry)) (now (combinations .entry)) from number place ∷ [])
-        ⌝ }
-{
-    let to = 2 + place * wide(header.states);
-    let model = model_of(nodes, combinations, number, 0);
-    let phone = phone_of(combinations, number);
-    Arcs {
-        count: 1,
-        words: [from, to as u32, model, phone, 0, 0, 0, 0, 0, 0, 0, 0],
-    }
-}
-
-// Appends the arc into the metastate at a place.
+// Appends the arc from a state to the first state of the metastate at a place, with its first model and its phone.
 fn enter_at(
     header: Header,
     nodes: &[u32],
@@ -135,10 +124,13 @@ fn enter_at(
         (now (arcs .entry)) (now (arcs .exit))
         ⌝ }
 {
-    let new = arc_into(header, nodes, combinations, from, place, number);
-    if !add_arcs(arcs, sizes.arcs, new) {
+    if arc_room(arcs.len()) <= sizes.arcs {
         return Step::Stop(Fault::Tangle);
     }
+    let to = 2 + place * wide(header.states);
+    let model = model_of(nodes, combinations, number, 0);
+    let phone = phone_of(combinations, number);
+    put_arc(arcs, sizes.arcs, from, to as u32, model, phone);
     Step::Next(Sizes {
         metastates: sizes.metastates,
         arcs: sizes.arcs + 1,

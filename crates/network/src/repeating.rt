@@ -6,6 +6,7 @@ use crate::Sizes;
 use crate::Step;
 use crate::adding::arc_room;
 use crate::adding::last_state;
+use crate::adding::put_arc;
 use crate::chains::key_of;
 use crate::following::follow;
 use definitions::ARC_SIZE;
@@ -67,11 +68,7 @@ fn copy_arc(arcs: &mut [u32], place: usize, target: usize, from: u32)
     let to = arcs[old + 1];
     let model = arcs[old + 2];
     let phone = arcs[old + 3];
-    let new = ARC_SIZE * target;
-    arcs[new] = from;
-    arcs[new + 1] = to;
-    arcs[new + 2] = model;
-    arcs[new + 3] = phone;
+    put_arc(arcs, target, from, to, model, phone);
 }
 
 // Appends copies of `many` arcs, from the first on, with another source.
