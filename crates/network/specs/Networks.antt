@@ -10,7 +10,7 @@ use Rattle.definitions.specs.Connecting.{Network, Room}
 use Rattle.definitions.specs.Building.{roomIn}
 use Rattle.definitions.specs.laws.Members.{isIn, distinct}
 use Rattle.network.specs.declared.Sizes.{Sizes}
-use Rattle.network.specs.Chains.{Linked}
+use Rattle.network.specs.Chains.{headsIn, Linked}
 use Rattle.matrix.specs.Shapes.{widthOf}
 
 unfoldable pub metastateIn : (width : ℕ) → List ℕ → Metastate
@@ -42,14 +42,15 @@ abbrev pub roomOf : (metastates arcs : List ℕ) → Room
 roomOf metastates arcs =
     roomIn (record { combinations = 0; metastates = length metastates; arcs = length arcs })
 
--- lent words that hold a network and nothing else, its metastates found by chains; they are numbered below
--- `count`, have matrices of one width, and none stands twice
+-- lent words that hold a network and nothing else, its metastates found by chains, with links for as many as have
+-- room; they are numbered below `count`, have matrices of one width, and none stands twice
 pub record Holds (half count : ℕ) (net : Network) (metastates arcs chains : List ℕ) : Type 0 where
   pub metastate-words : metastates ≡ padded (length metastates) (concatMap metastateWords (net .metastates))
   pub arc-words : arcs ≡ padded (length arcs) (concatMap arcWords (net .arcs))
   pub metastate-room : length (net .metastates) ≤ roomOf metastates arcs .metastates
   pub arc-room : length (net .arcs) ≤ roomOf metastates arcs .arcs
-  pub linked : Linked chains (map metastateWords (net .metastates))
+  pub link-room : metastateRoom metastates < headsIn chains
+  pub linked : Linked (headsIn chains) chains (map metastateWords (net .metastates))
   pub once : distinct (net .metastates)
   pub numbers : (x : Metastate) → isIn x (net .metastates) → x .number < count
   pub widths : (x : Metastate) → isIn x (net .metastates) → length (x .matrix) ≡ widthOf half

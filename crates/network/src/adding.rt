@@ -17,13 +17,12 @@ ghost use mathlib.Core.List.{[], _∷_, _++_};
 ghost use mathlib.Core.Path.{_≡_};
 ghost use Prim.Native.Nat.{_+_, _*_, _/_, _≤_, _<_, min};
 ghost use lib.Dec.{T, leb};
-ghost use lib.ListN.{length, set, take, drop};
+ghost use lib.ListN.{length, take, drop};
 ghost use Rattle.definitions.specs.Arcs.{arcSize, lastState};
 ghost use Rattle.definitions.specs.ForeignTables.{headerKnown};
-ghost use Rattle.definitions.specs.Lists.{_!_};
 ghost use Rattle.definitions.specs.Metastates.{metastateSize};
 ghost use Rattle.lines.specs.Putting.{putAt};
-ghost use Rattle.network.specs.Chains.{keyOf, links};
+ghost use Rattle.network.specs.Chains.{headsIn, linkedTo};
 ghost use Rattle.matrix.specs.Shapes.{widthOf, HasWidth};
 ghost use Rattle.network.specs.Combinations.{combinationsIn, Usable, Modelled};
 ghost use Rattle.network.specs.Networks.{networkHeld, arcRoom, Holds};
@@ -141,7 +140,7 @@ fn enter_at(
 fn add_metastate(metastates: &mut [u64], chains: &mut [u32], place: usize, number: usize, m: Matrix)
     requires { ⌜
         (metastateSize * place + metastateSize ≤ length (now metastates))
-        × (length (now chains) ≡ 131072) × (place < 65535)
+        × (place < headsIn (now chains)) × (place < 65535)
         ⌝ }
     ensures metastates { λ r. ⌜
         now (metastates .exit)
@@ -150,8 +149,7 @@ fn add_metastate(metastates: &mut [u64], chains: &mut [u32], place: usize, numbe
         ⌝ }
     ensures chains { λ r. ⌜
         now (chains .exit)
-        ≡ set (set (now (chains .entry)) (links + place) (now (chains .entry) ! keyOf (number ∷ m .columns)))
-        (keyOf (number ∷ m .columns)) (place + 1)
+        ≡ linkedTo (headsIn (now (chains .entry))) (now (chains .entry)) place (number ∷ m .columns)
         ⌝ }
 {
     put_numbered(metastates, METASTATE_SIZE * place, number as u64, m);
@@ -179,13 +177,14 @@ pub fn enter(
         (networkHeld (header .half) sizes (now metastates) (now arcs))
         (now metastates) (now arcs) (now chains)
         ⌝ }
-    ensures { λ r. ⌜
+    ensures step { λ r. ⌜
         AfterStep (header .half) (length (combinationsIn header (now (combinations .entry))))
         (now (metastates .entry)) (now (arcs .entry))
         (entered header (now (nodes .entry)) (now (combinations .entry)) (now (metastates .entry))
         (now (arcs .entry)) sizes from number (m .columns))
         r (now (metastates .exit)) (now (arcs .exit)) (now (chains .exit))
         ⌝ }
+    ensures chains { λ r. ⌜ length (now (chains .exit)) ≡ length (now (chains .entry)) ⌝ }
 {
     let used = METASTATE_SIZE * sizes.metastates;
     let found = find(&metastates[..used], chains, number as u64, m);

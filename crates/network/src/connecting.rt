@@ -33,10 +33,11 @@ ghost use Rattle.definitions.specs.Connecting.{startEvents, noNetwork, performA
 ghost use Rattle.definitions.specs.Connecting.{turnsFrom, connect};
 ghost use Rattle.definitions.specs.Lists.{cleared};
 ghost use Rattle.matrix.specs.Shapes.{widthOf, matrixIn, HasWidth};
+ghost use Rattle.network.specs.Chains.{headsIn};
 ghost use Rattle.network.specs.Combinations.{combinationsIn, nodesBook};
 ghost use Rattle.network.specs.Combinations.{Usable, Modelled, Ending};
 ghost use Rattle.network.specs.Indexing.{endsSize, Indexed};
-ghost use Rattle.network.specs.Networks.{networkHeld, roomOf, Holds};
+ghost use Rattle.network.specs.Networks.{networkHeld, metastateRoom, roomOf, Holds};
 ghost use Rattle.network.specs.Spans.{spanSize, Spanned};
 ghost use Rattle.network.specs.Repeating.{SpannedAfter};
 ghost use Rattle.network.specs.Steps.{AfterStep, AreArcs, ownOf, plainOf, Connected};
@@ -315,7 +316,8 @@ fn take_turns(
     Build::Stopped(totals(header, turns, now))
 }
 
-// Connects the combinations into cleared space, with words for an index of them and cleared words for spans.
+// Connects the combinations into cleared space, with cleared words for chains, as many heads as the metastates have room
+// for and more, cleared words for spans, and words for an index of the combinations.
 fn connect_with(
     header: Header,
     nodes: &[u32],
@@ -323,6 +325,7 @@ fn connect_with(
     ends: &[u32],
     metastates: &mut [u64],
     arcs: &mut [u32],
+    chains: &mut [u32],
     spans: &mut [u32],
     index: &mut [u64],
     limit: u32,
@@ -331,6 +334,7 @@ fn connect_with(
         Usable header (now combinations) × Modelled header (now nodes) (now combinations)
         × Ending header (now combinations) (now ends)
         × (now metastates ≡ cleared (length (now metastates))) × (now arcs ≡ cleared (length (now arcs)))
+        × (now chains ≡ cleared (length (now chains))) × (metastateRoom (now metastates) < headsIn (now chains))
         × (spanSize ≤ length (now spans)) × (now spans ≡ cleared (length (now spans)))
         × (endsSize ≤ length (now index))
         ⌝ }
@@ -342,16 +346,7 @@ fn connect_with(
         ⌝ }
 {
     fill_index(combinations, ends, index);
-    let mut chains = [0u32; 131072];
-    let step = start(
-        header,
-        nodes,
-        combinations,
-        index,
-        metastates,
-        arcs,
-        &mut chains,
-    );
+    let step = start(header, nodes, combinations, index, metastates, arcs, chains);
     match step {
         Step::Next(sizes) => {
             return take_turns(
@@ -361,7 +356,7 @@ fn connect_with(
                 index,
                 metastates,
                 arcs,
-                &mut chains,
+                chains,
                 spans,
                 sizes,
                 limit,
@@ -373,8 +368,8 @@ fn connect_with(
     }
 }
 
-// Connects the combinations into cleared space. Small space gets few slots for spans
-// and few blocks, so that a small build clears few words.
+// Connects the combinations into cleared space. Small space gets short chains, few slots for spans and few blocks, so
+// that a small build clears few words.
 pub fn connect(
     header: Header,
     nodes: &[u32],
@@ -397,6 +392,7 @@ pub fn connect(
         ⌝ }
 {
     if metastates.len() < 8192 {
+        let mut chains = [0u32; 2048];
         let mut few = [0u32; 6144];
         let mut short = [0u64; 289];
         return connect_with(
@@ -406,11 +402,13 @@ pub fn connect(
             ends,
             metastates,
             arcs,
+            &mut chains,
             &mut few,
             &mut short,
             limit,
         );
     }
+    let mut chains = [0u32; 131072];
     let mut many = [0u32; 196608];
     let mut long = [0u64; 14401];
     connect_with(
@@ -420,6 +418,7 @@ pub fn connect(
         ends,
         metastates,
         arcs,
+        &mut chains,
         &mut many,
         &mut long,
         limit,

@@ -1,8 +1,8 @@
 -- Laws about connecting: cleared words hold no network; then the start and the turns, or a refused start.
 use mathlib.Core.Path.{_≡_, sym, ap, _∙_, subst}
 use mathlib.Core.List.{List}
-use Prim.Native.Nat.{ℕ, _≤_}
-use lib.ListN.{length}
+use Prim.Native.Nat.{ℕ, _/_, _≤_, _<_}
+use lib.ListN.{length, length-replicate}
 use Rattle.definitions.specs.declared.Header.{Header}
 use Rattle.definitions.specs.declared.Fault.{Fault}
 use Rattle.definitions.specs.Faults.{Outcome, answered, andThen}
@@ -21,19 +21,30 @@ use Rattle.network.specs.declared.Step.the-variants as step
 use Rattle.network.specs.declared.Build.{Build}
 use Rattle.network.specs.declared.Build.the-variants as build
 use Rattle.network.specs.Answers.{buildOf}
+use Rattle.network.specs.Chains.{headsIn}
 use Rattle.network.specs.Combinations.{combinationsIn, nodesBook}
-use Rattle.network.specs.Networks.{networkHeld, roomOf, Holds}
+use Rattle.network.specs.Networks.{networkHeld, metastateRoom, roomOf, Holds}
 use Rattle.network.specs.Steps.{AfterStep, Connected}
 use Rattle.network.specs.laws.Steps.{step-stop}
 use Rattle.network.specs.laws.HeldBack.{held-empty}
 use Rattle.network.specs.laws.Outcomes.{next-answered, refused-left}
 
-pub cleared-hold : {half count : ℕ} {metastates arcs : List ℕ} → metastates ≡ cleared (length metastates)
-    → arcs ≡ cleared (length arcs) → Holds half count noNetwork metastates arcs (cleared 131072)
-cleared-hold {half} {count} {metastates} {arcs} e f =
-    subst (λ (l : List ℕ). Holds half count noNetwork l arcs (cleared 131072)) (sym e)
-    (subst (λ (l : List ℕ). Holds half count noNetwork (cleared (length metastates)) l (cleared 131072))
-    (sym f) (held-empty half count (length metastates) (length arcs)))
+-- cleared words are words for chains
+pub cleared-chains : (size : ℕ) (metastates : List ℕ) → metastateRoom metastates < size / 2
+    → (cleared size ≡ cleared (length (cleared size))) × (metastateRoom metastates < headsIn (cleared size))
+cleared-chains size metastates h =
+    let e : length (cleared size) ≡ size = length-replicate {A = ℕ} size 0 in
+    (ap (λ (n : ℕ). cleared n) (sym e), subst (λ (n : ℕ). metastateRoom metastates < n / 2) (sym e) h)
+
+pub cleared-hold : {half count : ℕ} {metastates arcs chains : List ℕ} → metastates ≡ cleared (length metastates)
+    → arcs ≡ cleared (length arcs) → chains ≡ cleared (length chains) → metastateRoom metastates < headsIn chains
+    → Holds half count noNetwork metastates arcs chains
+cleared-hold {half} {count} {metastates} {arcs} {chains} e f g h =
+    let room : metastateRoom (cleared (length metastates)) < headsIn chains =
+    subst (λ (l : List ℕ). metastateRoom l < headsIn chains) e h in
+    subst (λ (l : List ℕ). Holds half count noNetwork l arcs chains) (sym e)
+    (subst (λ (l : List ℕ). Holds half count noNetwork (cleared (length metastates)) l chains)
+    (sym f) (held-empty half count (length metastates) (length arcs) g room))
 
 module _ (header : Header) (nodes combinations : List ℕ) (few : header .half ≤ 3)
     {metastates arcs metastates′ arcs′ chains′ : List ℕ} {answer : Step}

@@ -34,13 +34,12 @@ use Rattle.definitions.specs.laws.Known.{header-ranges}
 use Rattle.network.specs.declared.Sizes.{Sizes}
 use Rattle.network.specs.declared.Step.{Step}
 use Rattle.network.specs.declared.Step.the-variants as step
-use Rattle.network.specs.Chains.{rowsIn, Linked, Found}
+use Rattle.network.specs.Chains.{rowsIn, headsIn, Linked, linkedTo, Found}
 use Rattle.matrix.specs.Shapes.{widthOf, matrixIn, HasWidth}
 use Rattle.matrix.specs.laws.Widths.{width-taken}
 use Rattle.network.specs.Combinations.{combinationsIn, nodesBook, Usable, Modelled}
 use Rattle.network.specs.Networks.{networkHeld, sizesOf, arcRoom, metastateRoom, roomOf, Holds}
 use Rattle.network.specs.Steps.{stepOf, AfterStep, ArcAppended, ArcAnswered, intoArc, entered}
-use Rattle.network.specs.laws.Linking.{linkedTo}
 use Rattle.network.specs.laws.HoldsMore.{held-sizes, arc-within, holds-arc, used-within, used-rows}
 use Rattle.network.specs.laws.HoldsMore.{holds-metastate}
 
@@ -239,8 +238,8 @@ module _ {header : Header} {words : List ℕ} {sizes : Sizes} {number : ℕ}
   rows : rowsIn (take (metastateSize * sizes .metastates) metastates) ≡ map metastateWords (net .metastates)
   rows = used-rows (s .held) few places
 
-  pub enter-linked : Linked chains (rowsIn (take (metastateSize * sizes .metastates) metastates))
-  enter-linked = subst (Linked chains) (sym rows) (s .held .linked)
+  pub enter-linked : Linked (headsIn chains) chains (rowsIn (take (metastateSize * sizes .metastates) metastates))
+  enter-linked = subst (Linked (headsIn chains) chains) (sym rows) (s .held .linked)
 
   pub enter-arcs : sizes .arcs ≤ arcRoom arcs
   enter-arcs = arc-within (s .held) (ap (λ (k : Sizes). k .arcs) same-sizes)
@@ -253,9 +252,10 @@ module _ {header : Header} {words : List ℕ} {sizes : Sizes} {number : ℕ}
         (subst (λ t. Found t (number ∷ columns) found) rows f)
 
     pub enter-place : (found ≡ 0 → ⊥) → found - 1 < 65535
+    unfolding roomIn
     enter-place n =
         let listed = looked .some (found - 1) (omega (arith, n)) .0 in
-        omega (arith, listed, s .held .linked .few)
+        omega (arith, listed, length-map (net .metastates) metastateWords, s .held .metastate-room)
 
     module _ (nodes : List ℕ) (from : ℕ) where
       abbrev book : Book
@@ -297,7 +297,7 @@ module _ {header : Header} {words : List ℕ} {sizes : Sizes} {number : ℕ}
           → {answer : Step} {metastates′ arcs′ chains′ : List ℕ}
           → metastates′ ≡ take (metastateSize * sizes .metastates) metastates ++ (number ∷ columns)
           ++ drop (metastateSize * sizes .metastates + metastateSize) metastates
-          → chains′ ≡ linkedTo chains (sizes .metastates) (number ∷ columns)
+          → chains′ ≡ linkedTo (headsIn chains) chains (sizes .metastates) (number ∷ columns)
           → ArcAnswered (withOne sizes) arcs answer
           → ArcAppended (withOne sizes) (intoArc header nodes words from number (sizes .metastates)) arcs arcs′
           → AfterStep (header .half) (length (combinationsIn header words)) metastates arcs

@@ -139,20 +139,21 @@ module _ {header : Header} {nodes words columns : List ℕ} {from : ℕ} {metast
           same = rw (same-room, ← m)
 
       module _ {answer : Step} {metastates′ arcs′ chains′ : List ℕ}
-          (leaves : AfterStep (header .half) (length cs) metastates arcs entered answer metastates′ arcs′ chains′)
+          (leaves : AfterStep (header .half) (length cs) metastates arcs entered answer metastates′ arcs′ chains′
+          × (length chains′ ≡ length chains))
         where
           -- it is refused
           pub followed-stop : {fault : Fault} → answer ≡ step.Stop fault
               → AfterStep (header .half) (length cs) metastates₀ arcs₀ all (step.Stop fault) metastates′ arcs′ chains′
           unfolding andThen stepOf
           followed-stop {fault} stops =
-              let (r, o, f) = step-stop entered fault (sym stops ∙ leaves .answers) in
+              let (r, o, f) = step-stop entered fault (sym stops ∙ leaves .0 .answers) in
               let over : all ≡ refused r =
               first-then ∙ ap (λ (o : Outcome Network). andThen o (onward (suc number))) o in record {
                 answers = sym (ap stepOf over ∙ ap step.Stop f);
                 holds = λ net e. absurd (refused-not-answered all (r .fault) (r .line) net over e);
-                metastates-sized = leaves .metastates-sized ∙ t .metastates-sized;
-                arcs-sized = leaves .arcs-sized ∙ t .arcs-sized;
+                metastates-sized = leaves .0 .metastates-sized ∙ t .metastates-sized;
+                arcs-sized = leaves .0 .arcs-sized ∙ t .arcs-sized;
               }
 
           -- it is entered, and the next is looked for
@@ -162,8 +163,8 @@ module _ {header : Header} {nodes words columns : List ℕ} {from : ℕ} {metast
               metastates′ arcs′ chains′ next number′
           unfolding andThen
           followed-next {next} {number′} few goes further =
-              let (net, o, s) = step-next entered next (sym goes ∙ leaves .answers) in
-              let held = leaves .holds net o in
+              let (net, o, s) = step-next entered next (sym goes ∙ leaves .0 .answers) in
+              let held = leaves .0 .holds net o in
               let same : networkHeld (header .half) next metastates′ arcs′ ≡ net =
               ap (λ (k : Sizes). networkHeld (header .half) k metastates′ arcs′) (sym s) ∙ held-back few held in
               let after : NextFollower (matrixIn (header .half) columns) cs (suc number) number′ =
@@ -172,9 +173,9 @@ module _ {header : Header} {nodes words columns : List ℕ} {from : ℕ} {metast
                 holds =
                     subst (λ (n : Network). Holds (header .half) (length cs) n metastates′ arcs′ chains′)
                     (sym same) held;
-                metastates-sized = leaves .metastates-sized ∙ t .metastates-sized;
-                arcs-sized = leaves .arcs-sized ∙ t .arcs-sized;
-                chains-sized = held .linked .sized ∙ sym (t .holds .linked .sized) ∙ t .chains-sized;
+                metastates-sized = leaves .0 .metastates-sized ∙ t .metastates-sized;
+                arcs-sized = leaves .0 .arcs-sized ∙ t .arcs-sized;
+                chains-sized = leaves .1 ∙ t .chains-sized;
                 rest =
                     first-then
                     ∙ ap (λ (o : Outcome Network). andThen o (onward (suc number))) o

@@ -1,7 +1,7 @@
 -- Laws about a network held in lent words: read back, it is the same network; and cleared words hold none.
-use mathlib.Core.Path.{_≡_, refl, ap, _∙_}
+use mathlib.Core.Path.{_≡_, refl, sym, ap, _∙_, subst}
 use mathlib.Core.List.{List, [], _++_, map}
-use Prim.Native.Nat.{ℕ, suc, _-_, _*_, _/_, _≤_}
+use Prim.Native.Nat.{ℕ, suc, _-_, _*_, _/_, _≤_, _<_}
 use native.Mathlib.Omega.{arith}
 use lib.Dec.{lit<}
 use lib.ListN.{length, length-replicate, getD-replicate}
@@ -15,9 +15,9 @@ use Rattle.definitions.specs.laws.Members.{isIn, map-back}
 use Rattle.definitions.specs.laws.Metastates.{metastates-equal}
 use Rattle.definitions.specs.laws.SevenWords.{words-length, words-take}
 use Rattle.definitions.specs.laws.Records.{written-length, written-records, written-all, arcs-read}
-use Rattle.network.specs.Chains.{Latest, Linked}
+use Rattle.network.specs.Chains.{headsIn, Latest, Linked}
 use Rattle.matrix.specs.Shapes.{widthOf}
-use Rattle.network.specs.Networks.{metastateIn, metastatesIn, networkHeld, sizesOf, Holds}
+use Rattle.network.specs.Networks.{metastateIn, metastatesIn, networkHeld, sizesOf, metastateRoom, Holds}
 
 -- matrices of one width, which eight words hold with a number
 abbrev pub AllWide : (half : ℕ) → List Metastate → Type 0
@@ -74,34 +74,39 @@ held-back {half} {count} {net} {metastates} {arcs} few h =
 
 -- ---- no network
 
-no-chain : (rows : List (List ℕ)) (key end place : ℕ) → place ≡ 0 → end ≡ 0 → Latest rows key end place
-no-chain rows key end place e f = record {
+no-chain : (heads : ℕ) (rows : List (List ℕ)) (head end place : ℕ) → place ≡ 0 → end ≡ 0
+    → Latest heads rows head end place
+no-chain heads rows head end place e f = record {
   within = omega arith;
   own = λ i g. absurd (omega (arith, e, g));
   none-after = λ i g h. absurd (omega (arith, f, h));
 }
 
-no-chains : Linked (cleared 131072) []
-no-chains = record {
-  sized = length-replicate {A = ℕ} 131072 0;
-  few = omega arith;
-  heads = λ key h.
-      let none : cleared 131072 ! key ≡ 0 = getD-replicate {A = ℕ} 131072 key 0 0 (omega arith) in
-      no-chain [] key 0 (cleared 131072 ! key) none refl;
-  nexts = λ i h. absurd (omega arith);
+no-chains : (heads size : ℕ) → 0 < heads → 2 * heads ≤ size → Linked heads (cleared size) []
+no-chains heads size h l = record {
+  sized = rw (length-replicate {A = ℕ} size 0) l;
+  few = h;
+  firsts = λ head b.
+      let none : cleared size ! head ≡ 0 = getD-replicate {A = ℕ} size head 0 0 (omega arith) in
+      no-chain heads [] head 0 (cleared size ! head) none refl;
+  nexts = λ i b. absurd (omega arith);
 }
 
 cleared-padded : (size : ℕ) → cleared size ≡ padded (length (cleared size)) []
 cleared-padded size = rw (length-replicate {A = ℕ} size 0) (padded-none size)
 
-pub held-empty : (half count m n : ℕ) → Holds half count noNetwork (cleared m) (cleared n) (cleared 131072)
+pub held-empty : (half count m n : ℕ) {chains : List ℕ} → chains ≡ cleared (length chains)
+    → metastateRoom (cleared m) < headsIn chains → Holds half count noNetwork (cleared m) (cleared n) chains
 unfolding concatMap roomIn
-held-empty half count m n = record {
+held-empty half count m n {chains} e h = record {
   metastate-words = cleared-padded m;
   arc-words = cleared-padded n;
   metastate-room = omega arith;
   arc-room = omega arith;
-  linked = no-chains;
+  link-room = h;
+  linked =
+      subst (λ (l : List ℕ). Linked (headsIn chains) l []) (sym e)
+      (no-chains (headsIn chains) (length chains) (omega (arith, h)) (omega arith));
   once = tt;
   numbers = λ x h. absurd h;
   widths = λ x h. absurd h;

@@ -125,6 +125,7 @@ module _ {half count : ℕ} {net : Network} {metastates arcs chains : List ℕ} 
                   ∙ sym (concatMap-append arcWords (net .arcs) added));
               metastate-room = holds .metastate-room;
               arc-room = rw (appended-length, length-append) room;
+              link-room = holds .link-room;
               linked = holds .linked;
               once = holds .once;
               numbers = holds .numbers;

@@ -3,7 +3,7 @@
 use mathlib.Core.Path.{_≡_, refl, sym, ap, ap₂, _∙_, subst}
 use mathlib.Core.Logic.{⊎-elim}
 use mathlib.Core.List.{List, [], _∷_, _++_, map, map-append}
-use Prim.Native.Nat.{ℕ, _+_, _-_, _*_, _≤_, _<_}
+use Prim.Native.Nat.{ℕ, _+_, _-_, _*_, _/_, _≤_, _<_}
 use native.Mathlib.Omega.{arith}
 use lib.ListN.{length, take, drop, length-append, length-replicate, length-map}
 use lib.Seq.{drop-append-add}
@@ -18,12 +18,12 @@ use Rattle.definitions.specs.laws.Limits.{withArc, withMetastate}
 use Rattle.definitions.specs.laws.Records.{flat-length, records-length, arc-sized}
 use Rattle.definitions.specs.laws.NetworkKnown.{arcs-length}
 use Rattle.network.specs.declared.Sizes.{Sizes}
-use Rattle.network.specs.Chains.{rowsIn, Linked}
+use Rattle.network.specs.Chains.{rowsIn, headsIn, Linked, linkedTo}
 use Rattle.matrix.specs.Shapes.{widthOf}
 use Rattle.network.specs.Networks.{metastateIn, metastatesIn, networkHeld, sizesOf}
 use Rattle.network.specs.Networks.{arcRoom, metastateRoom, Holds}
 use Rattle.network.specs.laws.HeldBack.{row-length, rows-words, rows-all}
-use Rattle.network.specs.laws.Linking.{linkedTo, linked-more}
+use Rattle.network.specs.laws.Linking.{chained-length, linked-more}
 
 -- ---- words after the used ones
 
@@ -110,6 +110,7 @@ module _ {half count : ℕ} {net : Network} {metastates arcs chains : List ℕ}
               let more : length (net .arcs ++ (a ∷ [])) ≡ length (net .arcs) + 1 =
               length-append (net .arcs) (a ∷ []) in
               omega (arith, more, size, e, h);
+          link-room = held .link-room;
           linked = held .linked;
           once = held .once;
           numbers = held .numbers;
@@ -143,7 +144,7 @@ module _ {half count : ℕ} {net : Network} {metastates arcs chains : List ℕ}
         → (isIn x xs → ⊥) → x .number < count → length (x .matrix) ≡ widthOf half
         → metastates′ ≡ take (metastateSize * n) metastates ++ metastateWords x
         ++ drop (metastateSize * n + metastateSize) metastates
-        → chains′ ≡ linkedTo chains n (metastateWords x)
+        → chains′ ≡ linkedTo (headsIn chains) chains n (metastateWords x)
         → (length metastates′ ≡ length metastates)
         × Holds half count (withMetastate net x) metastates′ arcs chains′
     unfolding roomIn
@@ -159,9 +160,15 @@ module _ {half count : ℕ} {net : Network} {metastates arcs chains : List ℕ}
         let size : length metastates′ ≡ length metastates =
         ap length there ∙ put-size metastates used row (held .metastate-words) room in
         let same : length (map metastateWords xs) ≡ n = omega (arith, length-map xs metastateWords, e) in
-        let chained : Linked (linkedTo chains (length (map metastateWords xs)) row)
-        (map metastateWords xs ++ (row ∷ [])) =
-        linked-more (held .linked) row (omega (arith, same, h)) in (
+        let rows : List (List ℕ) = map metastateWords xs in
+        let free : length rows + 1 < headsIn chains = omega (arith, same, h, held .link-room) in
+        let put : linkedTo (headsIn chains) chains (length rows) row ≡ chains′ =
+        ap (λ (k : ℕ). linkedTo (headsIn chains) chains k row) same ∙ sym g in
+        let as-many : length chains ≡ length chains′ =
+        sym (chained-length (held .linked) row free) ∙ ap length put in
+        let chained : Linked (headsIn chains) chains′ (rows ++ (row ∷ [])) =
+        subst (λ c. Linked (headsIn chains) c (rows ++ (row ∷ []))) put
+        (linked-more (held .linked) row free) in (
           size,
           record {
             metastate-words =
@@ -172,11 +179,11 @@ module _ {half count : ℕ} {net : Network} {metastates arcs chains : List ℕ}
                 let more : length (xs ++ (x ∷ [])) ≡ length xs + 1 = length-append xs (x ∷ []) in
                 omega (arith, more, size, e, h);
             arc-room = held .arc-room;
+            link-room = omega (arith, size, as-many, held .link-room);
             linked =
-                subst (λ c. Linked c (map metastateWords (xs ++ (x ∷ []))))
-                (ap (λ (k : ℕ). linkedTo chains k row) same ∙ sym g)
-                (subst (Linked (linkedTo chains (length (map metastateWords xs)) row))
-                (sym (map-append metastateWords xs (x ∷ []))) chained);
+                subst (λ (k : ℕ). Linked k chains′ (map metastateWords (xs ++ (x ∷ []))))
+                (ap (λ (k : ℕ). k / 2) as-many)
+                (subst (Linked (headsIn chains) chains′) (sym (map-append metastateWords xs (x ∷ []))) chained);
             once = distinct-more xs x (held .once) new;
             numbers = λ y i.
                 ⊎-elim (held .numbers y) (λ j. subst (λ z. z .number < count) (sym (of-single x y j)) number)

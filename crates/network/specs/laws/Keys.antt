@@ -1,22 +1,18 @@
--- Laws about a metastate's key: a loop over its columns takes them in one by one.
+-- Laws about a metastate's key: a loop over its columns takes them in one by one. And its head is one of the heads.
 use mathlib.Core.Path.{_≡_, refl, sym, _∙_, subst}
-use mathlib.Core.List.{List, [], _∷_}
-use Prim.Native.Nat.{ℕ, zero, suc, _+_, _*_, _%_, _≤_, _<_}
+use mathlib.Core.List.{List, _∷_}
+use Prim.Native.Nat.{ℕ, zero, suc, _+_, _-_, _*_, _%_, _≤_, _<_}
 use native.Mathlib.Numerals.{add-one}
 use native.Mathlib.Omega.{arith}
+use lib.Bits.{and-le-r}
 use lib.ListN.{length, drop, drop-of-length-le}
 use lib.Seq.{drop-cons}
 use Rattle.definitions.specs.Lists.{_!_}
-use Rattle.network.specs.Chains.{keyFrom, keyOf}
+use Rattle.network.specs.Chains.{keyFrom, keyOf, headOf}
 
-from-below : (key : ℕ) (columns : List ℕ) → keyFrom key columns < 65521
-unfolding keyFrom
-from-below key [] = omega arith
-from-below key (column ∷ columns) = from-below (31 * key + column % 65521) columns
-
-pub key-below : (row : List ℕ) → keyOf row < 65521
-unfolding keyOf
-key-below row = from-below ((row ! 0) % 65521) (drop 1 row)
+pub head-below : {heads : ℕ} (row : List ℕ) → 0 < heads → headOf heads row < heads
+unfolding headOf
+head-below {heads} row h = omega (arith, and-le-r (keyOf row) (heads - 1))
 
 -- how far a key grows over so many columns, before the last remainder is taken
 unfoldable pub keyBound : (columns : ℕ) → ℕ

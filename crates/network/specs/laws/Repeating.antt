@@ -89,6 +89,7 @@ module _ {half count : ℕ} {net : Network} {metastates arcs chains : List ℕ}
               w ∙ ap (λ (n : ℕ). padded n (concatMap arcWords (net .arcs ++ added))) (sym more-sized);
           metastate-room = held .metastate-room;
           arc-room = rw (more-sized, length-append) room;
+          link-room = held .link-room;
           linked = held .linked;
           once = held .once;
           numbers = held .numbers;

@@ -1,5 +1,5 @@
 -- `adding::enter` meets its contract, by what the search along the chain found and by the room.
-use mathlib.Core.Path.{sym}
+use mathlib.Core.Path.{refl, sym}
 use Prim.Native.Nat.{_*_, _≤_, _<_}
 use native.Mathlib.Omega.{arith}
 use lib.Seq.{length-take-le}
@@ -65,9 +65,11 @@ returns c =
     let test = call .before .before in
     let start = test .before .before .before .before .before .before .before .before .before .before in
     let a = start .args in
-    let s = entering (a .nodes .now) (a .sizes) (a .number) (start .pre) in
-    enter-known s (test .before .find .ensures) (a .nodes .now) (a .from) (test .if1 .taken)
-    (call .enter-at .ensures .0) (call .enter-at .ensures .1)
+    let s = entering (a .nodes .now) (a .sizes) (a .number) (start .pre) in (
+      enter-known s (test .before .find .ensures) (a .nodes .now) (a .from) (test .if1 .taken)
+          (call .enter-at .ensures .0) (call .enter-at .ensures .1),
+      refl,
+    )
 
 metastate-room-requires : tie.Need-metastate-room-requires
 metastate-room-requires c κs = search needs
@@ -86,7 +88,7 @@ returns-2 c =
     let s = entering (a .nodes .now) (a .sizes) (a .number) (start .pre) in
     let room : metastateRoom (a .metastates .now) ≤ a .sizes .metastates =
     omega (arith, c .if2 .taken, c .before .metastate-room .ensures) in
-    enter-crowded s (test .before .find .ensures) (a .nodes .now) (a .from) (test .if1 .left) room
+    (enter-crowded s (test .before .find .ensures) (a .nodes .now) (a .from) (test .if1 .left) room, refl)
 
 add-metastate-requires : tie.Need-add-metastate-requires
 add-metastate-requires c κs = search needs
@@ -123,10 +125,12 @@ returns-3 c =
     let a = start .args in
     let s = entering (a .nodes .now) (a .sizes) (a .number) (start .pre) in
     let room : a .sizes .metastates < metastateRoom (a .metastates .now) =
-    omega (arith, test .if2 .left, test .before .metastate-room .ensures) in
-    enter-new s (found .before .find .ensures) (a .nodes .now) (a .from) (found .if1 .left) room
-    (add .add-metastate .ensures .0) (add .add-metastate .ensures .1)
-    (call .enter-at2 .ensures .0) (call .enter-at2 .ensures .1)
+    omega (arith, test .if2 .left, test .before .metastate-room .ensures) in (
+      enter-new s (found .before .find .ensures) (a .nodes .now) (a .from) (found .if1 .left) room
+          (add .add-metastate .ensures .0) (add .add-metastate .ensures .1)
+          (call .enter-at2 .ensures .0) (call .enter-at2 .ensures .1),
+      search needs,
+    )
 
 pub enter-spec : {M : Type 1} → statement M
 enter-spec =

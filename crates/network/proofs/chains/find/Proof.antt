@@ -1,5 +1,5 @@
 -- `chains::find` meets its contract. The loop's invariant: the metastate stands nowhere from `at` on, and
--- `at` has its key.
+-- `at` has its head.
 use mathlib.Core.List.{_∷_}
 use native.Mathlib.Omega.{arith}
 use borrow.Author.Needs.{needs}
@@ -10,13 +10,14 @@ use Rattle.network.proofs.chains.find.Statement.{statement}
 use Rattle.network.proofs.chains.find.Tie as tie
 
 abbrev Inv-loop : tie.InvT-loop
-Inv-loop metastates chains number m at₀ at = Passed (rowsIn metastates) (number ∷ m .columns) at
+Inv-loop metastates chains number m heads at₀ at = Passed heads (rowsIn metastates) (number ∷ m .columns) at
 
 abbrev μ-loop : tie.MeasureT-loop
-μ-loop metastates chains number m at₀ at = at
+μ-loop metastates chains number m heads at₀ at = at
 
-key-of-requires : tie.Need-key-of-requires Inv-loop μ-loop
-key-of-requires c κs = search needs
+head-of-requires : tie.Need-head-of-requires Inv-loop μ-loop
+head-of-requires c κs =
+    let linked = c .before .before .pre in omega (arith, linked .few)
 
 mul-wide : tie.Need-mul-wide Inv-loop μ-loop
 mul-wide c = search needs
@@ -24,7 +25,7 @@ mul-wide c = search needs
 shared-slice-read-wide : tie.Need-shared-slice-read-wide Inv-loop μ-loop
 shared-slice-read-wide c =
     let linked = c .before .before .before .before .pre in
-    omega (arith, linked .sized, c .before .key-of .ensures .1)
+    omega (arith, linked .sized, c .before .head-of .ensures .1)
 
 wide-requires : tie.Need-wide-requires Inv-loop μ-loop
 wide-requires c κs = search needs
@@ -33,7 +34,7 @@ loop-holds : tie.Need-loop-holds Inv-loop μ-loop
 loop-holds c =
     let start = c .before .before .before .before .before in
     find-start (start .pre) (start .args .number ∷ start .args .m .columns)
-    (c .before .before .key-of .ensures .0) (c .wide .ensures)
+    (c .before .before .head-of .ensures .0) (c .wide .ensures)
 
 sub-from : tie.Need-sub-from Inv-loop μ-loop
 sub-from c = search needs
@@ -45,7 +46,10 @@ add-is-numbered : tie.Need-add-is-numbered Inv-loop μ-loop
 add-is-numbered c = search needs
 
 mul-is-numbered : tie.Need-mul-is-numbered Inv-loop μ-loop
-mul-is-numbered c = search needs
+mul-is-numbered c =
+    let start = c .before .before .before .before .before .before .before in
+    let within = part-within (start .args .metastates .now) (c .before .loop .inv) (c .loop-test .taken) in
+    search needs
 
 sub-is-numbered : tie.Need-sub-is-numbered Inv-loop μ-loop
 sub-is-numbered c = search needs
@@ -73,6 +77,9 @@ returns c =
 
 add-wide : tie.Need-add-wide Inv-loop μ-loop
 add-wide c = search needs
+
+sub-wide : tie.Need-sub-wide Inv-loop μ-loop
+sub-wide c = search needs
 
 mul-wide-2 : tie.Need-mul-wide-2 Inv-loop μ-loop
 mul-wide-2 c = search needs
@@ -115,7 +122,7 @@ find-spec =
     (tie.spec
     Inv-loop
     μ-loop
-    key-of-requires
+    head-of-requires
     mul-wide
     shared-slice-read-wide
     wide-requires
@@ -130,6 +137,7 @@ find-spec =
     is-numbered-requires
     returns
     add-wide
+    sub-wide
     mul-wide-2
     shared-slice-read-wide-2
     wide-requires-2

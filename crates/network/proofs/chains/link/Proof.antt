@@ -5,12 +5,12 @@ use native.Mathlib.Omega.{arith}
 use lib.ListN.{set, length-set}
 use borrow.Author.Needs.{needs}
 use Rattle.definitions.specs.Lists.{_!_}
-use Rattle.network.specs.Chains.{links}
+use Rattle.network.specs.Chains.{headsIn}
 use Rattle.network.proofs.chains.link.Statement.{statement}
 use Rattle.network.proofs.chains.link.Tie as tie
 
-key-of-requires : tie.Need-key-of-requires
-key-of-requires c κs = search needs
+head-of-requires : tie.Need-head-of-requires
+head-of-requires c κs = search needs
 
 mul-chains : tie.Need-mul-chains
 mul-chains c = search needs
@@ -39,7 +39,7 @@ mul-chains-3 c = search needs
 slice-write-chains-2 : tie.Need-slice-write-chains-2
 slice-write-chains-2 c =
     let start = c .before .before .before in
-    rw length-set (omega (arith, start .pre .0, c .before .key-of .ensures .1))
+    rw length-set (omega (arith, start .pre .0, c .before .head-of .ensures .1))
 
 same-length : tie.Need-same-length
 same-length c = search needs
@@ -47,14 +47,15 @@ same-length c = search needs
 returns : tie.Need-returns
 returns c =
     let a = c .before .before .before .args in
-    ap (λ (key : ℕ). set (set (a .chains .now) (links + a .place) (a .chains .now ! key)) key (a .place + 1))
-    (c .before .key-of .ensures .0)
+    let chains = a .chains .now in
+    ap (λ (head : ℕ). set (set chains (headsIn chains + a .place) (chains ! head)) head (a .place + 1))
+    (c .before .head-of .ensures .0)
 
 pub link-spec : {M : Type 1} → statement M
 link-spec =
     tie.close
     (tie.spec
-    key-of-requires
+    head-of-requires
     mul-chains
     slice-read-chains
     add-chains

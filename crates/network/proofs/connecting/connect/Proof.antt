@@ -1,6 +1,8 @@
--- `connecting::connect` meets its contract: whatever the number of slots, they are cleared.
+-- `connecting::connect` meets its contract: whatever the number of heads and slots, they are cleared, and there are more
+-- heads than metastates have room for.
 use native.Mathlib.Omega.{arith}
 use borrow.Author.Needs.{needs}
+use Rattle.network.specs.laws.Connecting.{cleared-chains}
 use Rattle.network.specs.laws.Spans.{cleared-spans}
 use Rattle.network.specs.laws.Indexing.{cleared-index}
 use Rattle.network.proofs.connecting.connect.Statement.{statement}
@@ -15,11 +17,17 @@ slice-aggregate-connect-with c = search needs
 slice-aggregate-connect-with-2 : tie.Need-slice-aggregate-connect-with-2
 slice-aggregate-connect-with-2 c = search needs
 
+slice-aggregate-connect-with-3 : tie.Need-slice-aggregate-connect-with-3
+slice-aggregate-connect-with-3 c = search needs
+
 connect-with-requires : tie.Need-connect-with-requires
 connect-with-requires c κs =
-    let p = entry (c .before .before .before .before .before) .pre in
+    let test = c .before .before .before .before .before in
+    let start = entry (test .before) in
+    let p = start .pre in
+    let short = cleared-chains 2048 (start .args .metastates .now) (omega (arith, test .if1 .taken)) in
     let few = cleared-spans 6144 (omega arith) in
-    (p .0, p .1, p .2, p .3, p .4, few .0, few .1, cleared-index 289 (omega arith))
+    (p .0, p .1, p .2, p .3, p .4, short .0, short .1, few .0, few .1, cleared-index 289 (omega arith))
 
 same-length : tie.Need-same-length
 same-length c = search needs
@@ -30,17 +38,22 @@ same-length-2 c = search needs
 returns : tie.Need-returns
 returns c = search needs
 
-slice-aggregate-connect-with-3 : tie.Need-slice-aggregate-connect-with-3
-slice-aggregate-connect-with-3 c = search needs
-
 slice-aggregate-connect-with-4 : tie.Need-slice-aggregate-connect-with-4
 slice-aggregate-connect-with-4 c = search needs
 
+slice-aggregate-connect-with-5 : tie.Need-slice-aggregate-connect-with-5
+slice-aggregate-connect-with-5 c = search needs
+
+slice-aggregate-connect-with-6 : tie.Need-slice-aggregate-connect-with-6
+slice-aggregate-connect-with-6 c = search needs
+
 connect-with-requires-2 : tie.Need-connect-with-requires-2
 connect-with-requires-2 c κs =
-    let p = entry (c .before .before .before .before .before) .pre in
+    let start = entry (c .before .before .before .before .before .before) in
+    let p = start .pre in
+    let long = cleared-chains 131072 (start .args .metastates .now) (omega arith) in
     let many = cleared-spans 196608 (omega arith) in
-    (p .0, p .1, p .2, p .3, p .4, many .0, many .1, cleared-index 14401 (omega arith))
+    (p .0, p .1, p .2, p .3, p .4, long .0, long .1, many .0, many .1, cleared-index 14401 (omega arith))
 
 same-length-3 : tie.Need-same-length-3
 same-length-3 c = search needs
@@ -57,12 +70,14 @@ connect-spec =
     (tie.spec
     slice-aggregate-connect-with
     slice-aggregate-connect-with-2
+    slice-aggregate-connect-with-3
     connect-with-requires
     same-length
     same-length-2
     returns
-    slice-aggregate-connect-with-3
     slice-aggregate-connect-with-4
+    slice-aggregate-connect-with-5
+    slice-aggregate-connect-with-6
     connect-with-requires-2
     same-length-3
     same-length-4

@@ -1,6 +1,6 @@
 -- `connecting::take_turns` meets its contract. The loop's invariant: after `turns` turns, what the words hold, and
 -- what is left of the build.
-use mathlib.Core.Path.{_≡_, refl, sym, _∙_}
+use mathlib.Core.Path.{_≡_, refl, _∙_}
 use Prim.Native.Nat.{_-_, _<_}
 use native.Mathlib.Omega.{arith}
 use lib.ListN.{length}
@@ -18,7 +18,7 @@ use Rattle.network.proofs.connecting.take_turns.Tie as tie
 abbrev Inv-loop : tie.InvT-loop
 Inv-loop header nodes combinations ends metastates₀ arcs₀ chains₀ spans₀ limit now₀ turns₀ metastates arcs chains spans now turns =
     Turned header nodes combinations metastates₀ arcs₀ now₀ limit metastates arcs chains now turns
-    × (length spans ≡ length spans₀)
+    × (length chains ≡ length chains₀) × (length spans ≡ length spans₀)
     × Spanned (nodesBook header nodes) (combinationsIn header combinations)
     (networkHeld (header .half) now metastates arcs) spans
 
@@ -41,11 +41,11 @@ inside c = c .before .before .before
 
 as-many-chains : (c : tie.At-loop Inv-loop μ-loop)
     → length (c .loop .chains) ≡ length (entry c .args .chains .now)
-as-many-chains c = c .loop .inv .0 .holds .linked .sized ∙ sym (entry c .pre .3 .linked .sized)
+as-many-chains c = c .loop .inv .1
 
 as-many-spans : (c : tie.At-loop Inv-loop μ-loop)
     → length (c .loop .spans) ≡ length (entry c .args .spans .now)
-as-many-spans c = c .loop .inv .1
+as-many-spans c = c .loop .inv .2
 
 -- the counts are words
 words : (c : tie.At-loop Inv-loop μ-loop)
@@ -61,7 +61,7 @@ listed c =
 
 loop-holds : tie.Need-loop-holds Inv-loop μ-loop
 loop-holds c =
-    let p = c .before .before .before .before .before .before .before .pre in (turned-none _ _ _ _ _ _ _ (p .3), refl, p .5)
+    let p = c .before .before .before .before .before .before .before .pre in (turned-none _ _ _ _ _ _ _ (p .3), refl, refl, p .5)
 
 wide-requires : tie.Need-wide-requires Inv-loop μ-loop
 wide-requires c κs = search needs
@@ -95,7 +95,7 @@ expand-requires : tie.Need-expand-requires Inv-loop μ-loop
 expand-requires c κs =
     let head = inside (unexpanded c) .before in
     let p = entry head .pre in
-    (p .0, p .1, p .2, listed c, head .loop .inv .0 .holds, omega (arith, p .4, head .loop .inv .1), head .loop .inv .2)
+    (p .0, p .1, p .2, listed c, head .loop .inv .0 .holds, omega (arith, p .4, head .loop .inv .2), head .loop .inv .3)
 
 enum-known-step : tie.Need-enum-known-step Inv-loop μ-loop
 enum-known-step c = search needs
@@ -146,7 +146,8 @@ loop-again c =
     let is = c .before .step .given .1 in (
       turned-more _ _ _ _ _ _ _ (turn .before .loop .inv .0) (turn .loop-test .taken)
           (call .before .wide2 .ensures) (listed (call .before)) (call .expand .ensures .0) few is,
-      c .before .before .before .before .spans .given ∙ turn .before .loop .inv .1,
+      c .before .before .before .before .before .before .chains .given ∙ turn .before .loop .inv .1,
+      c .before .before .before .before .spans .given ∙ turn .before .loop .inv .2,
       call .expand .ensures .1 _ (next-answered few (call .expand .ensures .0) is),
     )
 
