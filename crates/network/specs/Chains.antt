@@ -3,19 +3,23 @@
 -- Places count from 1, and 0 ends a chain.
 use mathlib.Core.Path.{_≡_}
 use mathlib.Core.List.{List, [], _∷_}
-use Prim.Native.Nat.{ℕ, suc, _+_, _-_, _*_, _/_, _%_, _≤_, _<_}
-use lib.Bits.{bitAnd}
+use Prim.Native.Nat.{ℕ, suc, _+_, _-_, _*_, _/_, _%_, _^_, _≤_, _<_}
+use lib.Bits.{bitAnd, bitXor}
 use lib.ListN.{length, set, drop, getD}
 use Rattle.definitions.specs.Lists.{_!_, records}
 use Rattle.definitions.specs.Metastates.{metastateSize}
 
+-- a word turned by nine bits
+abbrev pub turned : (word : ℕ) → ℕ
+turned word = bitXor (word * 2 ^ 9 % 2 ^ 64) (word / 2 ^ 55)
+
 -- a key, below 65521, of a number and columns
 unfoldable pub keyFrom : (key : ℕ) → (columns : List ℕ) → ℕ
 keyFrom key [] = key % 65521
-keyFrom key (column ∷ columns) = keyFrom (31 * key + column % 65521) columns
+keyFrom key (column ∷ columns) = keyFrom (bitXor (turned key) column) columns
 
 unfoldable pub keyOf : (row : List ℕ) → ℕ
-keyOf row = keyFrom ((row ! 0) % 65521) (drop 1 row)
+keyOf row = keyFrom (row ! 0) (drop 1 row)
 
 -- the records of metastates in words
 abbrev pub rowsIn : (words : List ℕ) → List (List ℕ)

@@ -4,7 +4,7 @@ use Prim.Native.Nat.{_-_}
 use native.Mathlib.Omega.{arith}
 use lib.ListN.{length}
 use borrow.Author.Needs.{needs}
-use Rattle.network.specs.laws.Keys.{Keyed, keyed-start, keyed-small, keyed-more, keyed-end}
+use Rattle.network.specs.laws.Keys.{Keyed, keyed-start, keyed-more, keyed-end}
 use Rattle.network.proofs.chains.key_of.Statement.{statement}
 use Rattle.network.proofs.chains.key_of.Tie as tie
 
@@ -18,16 +18,10 @@ loop-holds : tie.Need-loop-holds Inv-loop μ-loop
 loop-holds c = keyed-start (c .args .number) (c .args .t2 .columns)
 
 mul-key : tie.Need-mul-key Inv-loop μ-loop
-mul-key c = record { fits = omega (arith, keyed-small (c .before .loop .inv)) }
-
-mul-key-2 : tie.Need-mul-key-2 Inv-loop μ-loop
-mul-key-2 c = search needs
+mul-key c = search needs
 
 element-copy-out-key : tie.Need-element-copy-out-key Inv-loop μ-loop
 element-copy-out-key c = search needs
-
-add-key : tie.Need-add-key Inv-loop μ-loop
-add-key c = record { fits = omega (arith, keyed-small (c .before .before .loop .inv)) }
 
 add-c : tie.Need-add-c Inv-loop μ-loop
 add-c c = search needs
@@ -56,9 +50,7 @@ key-of-spec =
     μ-loop
     loop-holds
     mul-key
-    mul-key-2
     element-copy-out-key
-    add-key
     add-c
     loop-less
     loop-again
