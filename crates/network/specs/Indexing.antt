@@ -1,46 +1,66 @@
--- An index of combinations: where those of each phone end, then for each block of 32 the union of their matrices. A
--- matrix that does not meet the union of a block validly meets none of its combinations so.
+-- An index of combinations: where those of each phone end, then rows of bits. The row of a column and a phone has the
+-- bit of each combination that has the phone in that column. A word of a row is a set of places, 1 to 64.
 use mathlib.Core.Path.{_≡_}
 use mathlib.Core.List.{List}
-use Prim.Native.Nat.{ℕ, _+_, _*_, _/_, _≤_, _<_}
+use mathlib.Core.Bool.{false}
+use Prim.Native.Nat.{ℕ, _+_, _*_, _/_, _%_, _≤_, _<_}
 use lib.Dec.{T}
 use lib.ListN.{length}
 use Rattle.definitions.specs.declared.Header.{Header}
 use Rattle.definitions.specs.Lists.{_!_}
 use Rattle.definitions.specs.PhoneSets.{has}
-use Rattle.definitions.specs.Matrices.{matrixSize}
 use Rattle.definitions.specs.Combinations.{combinationSize}
 use Rattle.network.specs.Combinations.{combinationsIn, EndsAt}
 
--- how many words the ends take, and how many combinations are a block
+-- how many words the ends take, and how many combinations have their bits in one word
 abbrev pub endsSize : ℕ
 endsSize = 65
 
 abbrev pub blockSize : ℕ
-blockSize = 32
+blockSize = 64
 
--- where the union of a combination's block stands
-abbrev pub unionAt : (number : ℕ) → ℕ
-unionAt number = endsSize + matrixSize * (number / blockSize)
+-- how many words a row takes
+abbrev pub blocksIn : (words : List ℕ) → ℕ
+blocksIn words = length words / combinationSize / blockSize + 1
 
--- the union of each block that the index has room for holds the columns of its combinations, of the first `count`
-abbrev pub Unites : (words : List ℕ) → (count : ℕ) → (index : List ℕ) → Type 0
-Unites words count index =
-    (number column p : ℕ) → number < count → column < matrixSize → unionAt number + matrixSize ≤ length index
-    → T (has p (words ! (combinationSize * number + 4 + column))) → T (has p (index ! (unionAt number + column)))
+-- where the row of a column and a phone begins
+abbrev pub rowAt : (phones blocks column p : ℕ) → ℕ
+rowAt phones blocks column p = endsSize + (column * phones + p) * blocks
+
+-- a place of a word is set; in words beyond the index all are
+abbrev pub IsSet : (index : List ℕ) → (at place : ℕ) → Type 0
+IsSet index at place = at < length index → T (has place (index ! at))
+
+-- the bit of a combination in a row
+abbrev pub IsMarked : (index : List ℕ) → (row number : ℕ) → Type 0
+IsMarked index row number = IsSet index (row + number / blockSize) (number % blockSize + 1)
+
+-- a combination's bit in the rows of the phones that a column's set has, of those below one
+pub record MarkedBelow (phones blocks number column set below : ℕ) (index : List ℕ) : Type 0 where
+  pub each : (p : ℕ) → p < below → T (has p set) → IsMarked index (rowAt phones blocks column p) number
+
+-- the bits of the first `count` combinations in the rows of their columns left of the centre
+abbrev pub Marks : Header → (words : List ℕ) → (count : ℕ) → (index : List ℕ) → Type 0
+Marks header words count index =
+    (number column : ℕ) → number < count → column < header .half
+    → MarkedBelow (header .phones) (blocksIn words) number column (words ! (combinationSize * number + 4 + column)) 65
+    index
 
 pub record Indexed (header : Header) (words index : List ℕ) : Type 0 where
   pub sized : endsSize ≤ length index
+  pub small : length index ≤ 262144
   pub ends-at : (number : ℕ) → number < length (combinationsIn header words)
       → EndsAt (combinationsIn header words) index number
-  pub unites : Unites words (length (combinationsIn header words)) index
+  pub marks : Marks header words (length (combinationsIn header words)) index
 
--- what is left where a combination's columns before one were added to words from a place on: the words before it are
--- as they were, no phone is lost, and these columns' phones are there
-pub record United (words : List ℕ) (number at : ℕ) (index₀ : List ℕ) (column : ℕ) (index : List ℕ) : Type 0 where
-  pub within : column ≤ matrixSize
+-- what setting bits leaves: the ends are as they were, and no bit is lost
+pub record Marking (index₀ index : List ℕ) : Type 0 where
   pub sized : length index ≡ length index₀
-  pub before : (i : ℕ) → i < at → (index ! i) ≡ (index₀ ! i)
+  pub before : (i : ℕ) → i < endsSize → (index ! i) ≡ (index₀ ! i)
   pub kept : (i p : ℕ) → T (has p (index₀ ! i)) → T (has p (index ! i))
-  pub added : (c p : ℕ) → c < column → T (has p (words ! (combinationSize * number + 4 + c)))
-      → T (has p (index ! (at + c)))
+
+-- the next member of a set, from one on: none stands before it; 65 where there is none
+pub record NextMember (set from next : ℕ) : Type 0 where
+  pub after : from ≤ next
+  pub within : next ≤ 65
+  pub passed : (p : ℕ) → from ≤ p → p < next → has p set ≡ false

@@ -5,6 +5,7 @@ pub mod Combinations
 pub mod Networks
 pub mod Indexing
 pub mod Following
+pub mod Rows
 pub mod Spans
 pub mod Steps
 pub mod Repeating

@@ -15,6 +15,7 @@ pub mod ArcInto
 pub mod Entering
 pub mod Followers
 pub mod Indexing
+pub mod Rows
 pub mod Following
 pub mod OwnArcs
 pub mod PlainArcs

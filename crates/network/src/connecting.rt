@@ -336,7 +336,7 @@ fn connect_with(
         × (now metastates ≡ cleared (length (now metastates))) × (now arcs ≡ cleared (length (now arcs)))
         × (now chains ≡ cleared (length (now chains))) × (metastateRoom (now metastates) < headsIn (now chains))
         × (spanSize ≤ length (now spans)) × (now spans ≡ cleared (length (now spans)))
-        × (endsSize ≤ length (now index))
+        × (endsSize ≤ length (now index)) × (length (now index) ≤ 262144)
         ⌝ }
     ensures { λ r. ⌜
         Connected (header .states) (now (metastates .entry)) (now (arcs .entry))
@@ -345,7 +345,7 @@ fn connect_with(
         r (now (metastates .exit)) (now (arcs .exit))
         ⌝ }
 {
-    fill_index(combinations, ends, index);
+    fill_index(header, combinations, ends, index);
     let step = start(header, nodes, combinations, index, metastates, arcs, chains);
     match step {
         Step::Next(sizes) => {
@@ -394,7 +394,7 @@ pub fn connect(
     if metastates.len() < 8192 {
         let mut chains = [0u32; 2048];
         let mut few = [0u32; 6144];
-        let mut short = [0u64; 289];
+        let mut short = [0u64; 1024];
         return connect_with(
             header,
             nodes,
@@ -410,7 +410,7 @@ pub fn connect(
     }
     let mut chains = [0u32; 131072];
     let mut many = [0u32; 196608];
-    let mut long = [0u64; 14401];
+    let mut long = [0u64; 65601];
     connect_with(
         header,
         nodes,

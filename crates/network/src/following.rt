@@ -2,29 +2,28 @@
 use crate::Sizes;
 use crate::Step;
 use crate::adding::enter;
-use crate::indexing::BLOCK_SIZE;
-use crate::indexing::begins_block;
-use crate::indexing::union_at;
 use crate::records::matrix_of;
 use crate::records::meets;
 use crate::records::phone_of;
+use crate::rows::Rows;
+use crate::rows::next_marked;
+use crate::rows::rows_for;
 use definitions::COMBINATION_SIZE;
 use definitions::Header;
 use definitions::wide;
 use matrix::Matrix;
 use matrix::meeting::meet;
-use matrix::meeting::meets_at;
 use matrix::sets::has_phone;
 ghost use mathlib.Core.Path.{_≡_};
 ghost use mathlib.Core.Bool.{false};
 ghost use Prim.Native.Nat.{_≤_, _<_};
 ghost use lib.ListN.{length};
 ghost use Rattle.definitions.specs.Metastates.{followersFrom};
-ghost use Rattle.definitions.specs.laws.Searching.{NoneFrom};
 ghost use Rattle.matrix.specs.Shapes.{widthOf, matrixIn, HasWidth};
 ghost use Rattle.network.specs.Combinations.{combinationsIn, Usable, Modelled};
 ghost use Rattle.network.specs.Indexing.{Indexed};
 ghost use Rattle.network.specs.Networks.{networkHeld, Holds};
+ghost use Rattle.network.specs.Rows.{Admitting};
 ghost use Rattle.network.specs.Steps.{AfterStep, enteringAll};
 ghost use Rattle.network.specs.Following.{followsAt, Beyond, NextFollower};
 
@@ -73,49 +72,13 @@ fn after(
     index[wide(phone)] as usize
 }
 
-// Where to look from a combination on: where one begins a block whose union does not meet a matrix validly, the whole
-// block is passed over.
-fn past_blocks(
-    header: Header,
-    combinations: &[u64],
-    index: &[u64],
-    from: usize,
-    shifted: Matrix,
-) -> usize
-    requires { ⌜
-        Usable header (now combinations) × Indexed header (now combinations) (now index)
-        × (from ≤ length (combinationsIn header (now combinations)))
-        × HasWidth (widthOf (header .half)) (shifted .columns)
-        ⌝ }
-    ensures { λ r. ⌜
-        NoneFrom (followsAt (matrixIn (header .half) (shifted .columns))
-        (combinationsIn header (now (combinations .entry))))
-        (length (combinationsIn header (now (combinations .entry)))) from r
-        ⌝ }
-{
-    let count = combinations.len() / COMBINATION_SIZE;
-    let mut number = from;
-    while number < count {
-        let at = union_at(number);
-        if !begins_block(index, number, at) {
-            return number;
-        }
-        if meets_at(index, at, shifted, 2 * wide(header.half) + 1) {
-            return number;
-        }
-        if count - number < BLOCK_SIZE {
-            return count;
-        }
-        number += BLOCK_SIZE;
-    }
-    number
-}
-
-// The first combination from one on that meets a matrix validly, or the number of combinations.
+// The first combination from one on that meets a matrix validly, or the number of combinations. Only those in the rows for
+// the matrix are tried.
 fn next_follower(
     header: Header,
     combinations: &[u64],
     index: &[u64],
+    rows: Rows,
     from: usize,
     shifted: Matrix,
 ) -> usize
@@ -123,19 +86,22 @@ fn next_follower(
         Usable header (now combinations) × Indexed header (now combinations) (now index)
         × (from ≤ length (combinationsIn header (now combinations)))
         × HasWidth (widthOf (header .half)) (shifted .columns)
+        × Admitting (matrixIn (header .half) (shifted .columns)) (combinationsIn header (now combinations))
+        (now index) rows
         ⌝ }
     ensures { λ r. ⌜
         NextFollower (matrixIn (header .half) (shifted .columns))
         (combinationsIn header (now (combinations .entry))) from r
         ⌝ }
 {
-    let mut number = past_blocks(header, combinations, index, from, shifted);
-    while number < combinations.len() / COMBINATION_SIZE {
+    let count = combinations.len() / COMBINATION_SIZE;
+    let mut number = next_marked(index, rows, from, count);
+    while number < count {
         if follows(header, combinations, number, shifted) {
             return number;
         }
         let next = after(header, combinations, index, number, shifted);
-        number = past_blocks(header, combinations, index, next, shifted);
+        number = next_marked(index, rows, next, count);
     }
     number
 }
@@ -171,8 +137,9 @@ pub fn follow(
         r (now (metastates .exit)) (now (arcs .exit)) (now (chains .exit))
         ⌝ }
 {
+    let rows = rows_for(header, combinations, index, shifted);
     let mut now = sizes;
-    let mut number = next_follower(header, combinations, index, 0, shifted);
+    let mut number = next_follower(header, combinations, index, rows, 0, shifted);
     while number < combinations.len() / COMBINATION_SIZE {
         let own = matrix_of(combinations, number);
         let met = meet(shifted, own);
@@ -196,7 +163,7 @@ pub fn follow(
                 return Step::Stop(fault);
             }
         }
-        number = next_follower(header, combinations, index, number + 1, shifted);
+        number = next_follower(header, combinations, index, rows, number + 1, shifted);
     }
     Step::Next(now)
 }

@@ -1,79 +1,138 @@
-// An index of the combinations, made once for a build: where those of each phone end, then for each block of 32 the union
-// of their matrices. A block whose union does not meet a matrix validly is passed over whole.
+// An index of the combinations, made once for a build: where those of each phone end, then rows of bits. There is a row for
+// each column left of the centre and each phone; it has a bit for each combination, set where that column has the
+// phone. Each word of a row is a set of places, 1 to 64. What has no room in the index is left out.
 use definitions::COMBINATION_SIZE;
+use definitions::Header;
 use definitions::wide;
-ghost use mathlib.Core.Bool.{true};
+use matrix::sets::alone;
 ghost use mathlib.Core.Path.{_≡_};
-ghost use Prim.Native.Nat.{ℕ, _+_, _*_, _/_, _%_, _≤_, _<_};
+ghost use Prim.Native.Nat.{ℕ, _+_, _*_, _/_, _≤_, _<_};
+ghost use lib.Dec.{T};
 ghost use lib.ListN.{length};
 ghost use Rattle.definitions.specs.Combinations.{combinationSize};
+ghost use Rattle.definitions.specs.ForeignTables.{headerKnown};
 ghost use Rattle.definitions.specs.Lists.{_!_};
-ghost use Rattle.definitions.specs.Matrices.{matrixSize};
-ghost use Rattle.network.specs.Indexing.{endsSize, blockSize, unionAt, Unites, United};
+ghost use Rattle.definitions.specs.PhoneSets.{has};
+ghost use Rattle.network.specs.Indexing.{endsSize, blocksIn, rowAt, Marking, NextMember, MarkedBelow, Marks};
 
-// How many combinations are a block, and how many words the ends take.
-pub const BLOCK_SIZE: usize = 32;
+// How many combinations have their bits in one word, and how many words the ends take.
+pub const BLOCK_SIZE: usize = 64;
 
 const ENDS_SIZE: usize = 65;
 
-// Where the union of a combination's block stands.
-pub fn union_at(number: usize) -> usize
-    requires { ⌜ number ≤ 65535 ⌝ }
-    ensures { λ r. ⌜ r ≡ unionAt number ⌝ }
+// The first member of a set, from one on, or 65 where there is none.
+pub fn next_member(set: u64, from: u32) -> u32
+    requires { ⌜ (1 ≤ from) × (from ≤ 65) ⌝ }
+    ensures { λ r. ⌜ NextMember set from r ⌝ }
 {
-    ENDS_SIZE + 7 * (number / BLOCK_SIZE)
-}
-
-// Whether a combination is the first of its block, and the index has its union.
-pub fn begins_block(index: &[u64], number: usize, at: usize) -> bool
-    requires { ⌜ at ≤ 65535 ⌝ }
-    ensures { λ r. ⌜
-        (r ≡ true → (number % blockSize ≡ 0) × (at + matrixSize ≤ length (now (index .entry))))
-        ⌝ }
-{
-    if number % BLOCK_SIZE != 0 {
-        return false;
+    if 64 < from {
+        return 65;
     }
-    at + 7 <= index.len()
+    let rest = set >> (from - 1);
+    let next = from + u64::trailing_zeros(rest);
+    if 64 < next {
+        return 65;
+    }
+    next
 }
 
-// Adds the columns of a combination to the seven words from a place on.
-fn unite(combinations: &[u64], number: usize, index: &mut [u64], at: usize)
+// How many words a row takes.
+pub fn blocks_in(combinations: &[u64]) -> usize
+    ensures { λ r. ⌜ r ≡ blocksIn (now (combinations .entry)) ⌝ }
+{
+    combinations.len() / COMBINATION_SIZE / BLOCK_SIZE + 1
+}
+
+// Where the row of a column and a phone begins.
+pub fn row_at(header: Header, blocks: usize, column: usize, phone: u32) -> usize
+    requires { ⌜ (header .phones ≤ 64) × (blocks ≤ 1024) × (column < 3) × (phone ≤ 65) ⌝ }
+    ensures { λ r. ⌜ (r ≡ rowAt (header .phones) blocks column phone) × (r ≤ 262144) ⌝ }
+{
+    ENDS_SIZE + (column * wide(header.phones) + wide(phone)) * blocks
+}
+
+// Sets the bit at a place of a word, if the index has the word.
+fn mark(index: &mut [u64], at: usize, place: u32)
+    requires { ⌜ (endsSize ≤ at) × (1 ≤ place) × (place ≤ 64) ⌝ }
+    ensures marking { λ r. ⌜ Marking (now (index .entry)) (now (index .exit)) ⌝ }
+    ensures marked { λ r. ⌜ (at < length (now (index .entry)) → T (has place (now (index .exit) ! at))) ⌝ }
+{
+    if index.len() <= at {
+        return;
+    }
+    index[at] = index[at] | alone(place);
+}
+
+// Sets a combination's bit in the rows of the phones that one of its columns has.
+fn mark_column(
+    header: Header,
+    blocks: usize,
+    number: usize,
+    column: usize,
+    set: u64,
+    index: &mut [u64],
+)
+    requires { ⌜ (header .phones ≤ 64) × (blocks ≤ 1024) × (column < 3) × (number ≤ 65535) ⌝ }
+    ensures marking { λ r. ⌜ Marking (now (index .entry)) (now (index .exit)) ⌝ }
+    ensures marked { λ r. ⌜ MarkedBelow (header .phones) blocks number column set 65 (now (index .exit)) ⌝ }
+{
+    let mut phone = next_member(set, 1);
+    while phone <= 64 {
+        let at = row_at(header, blocks, column, phone) + number / BLOCK_SIZE;
+        mark(index, at, (number % BLOCK_SIZE) as u32 + 1);
+        phone = next_member(set, phone + 1);
+    }
+}
+
+// Sets a combination's bit in the rows of its columns left of the centre.
+fn mark_columns(
+    header: Header,
+    combinations: &[u64],
+    blocks: usize,
+    number: usize,
+    index: &mut [u64],
+)
     requires { ⌜
-        (combinationSize * number + combinationSize ≤ length (now combinations))
-        × (at + matrixSize ≤ length (now index))
+        (header .phones ≤ 64) × (header .half ≤ 3) × (blocks ≤ 1024) × (number ≤ 65535)
+        × (combinationSize * number + combinationSize ≤ length (now combinations))
         ⌝ }
-    ensures { λ r. ⌜
-        United (now (combinations .entry)) number at (now (index .entry)) matrixSize (now (index .exit))
+    ensures marking { λ r. ⌜ Marking (now (index .entry)) (now (index .exit)) ⌝ }
+    ensures marked { λ r. ⌜
+        ((column : ℕ) → column < header .half
+        → MarkedBelow (header .phones) blocks number column
+        (now (combinations .entry) ! (combinationSize * number + 4 + column)) 65 (now (index .exit)))
         ⌝ }
 {
     let from = COMBINATION_SIZE * number + 4;
-    let mut c = 0;
-    while c < 7 {
-        index[at + c] = index[at + c] | combinations[from + c];
-        c += 1;
+    let mut column = 0;
+    while column < wide(header.half) {
+        mark_column(
+            header,
+            blocks,
+            number,
+            column,
+            combinations[from + column],
+            index,
+        );
+        column += 1;
     }
 }
 
-// Adds the columns of all combinations to the unions of their blocks, as many blocks as there is room for.
-fn unite_all(combinations: &[u64], index: &mut [u64])
-    requires { ⌜ length (now combinations) / combinationSize ≤ 65535 ⌝ }
-    ensures before { λ r. ⌜
-        (length (now (index .exit)) ≡ length (now (index .entry)))
-        × ((i : ℕ) → i < endsSize → (now (index .exit) ! i) ≡ (now (index .entry) ! i))
+// Sets the bits of all combinations.
+fn mark_all(header: Header, combinations: &[u64], index: &mut [u64])
+    requires { ⌜
+        (header .phones ≤ 64) × (header .half ≤ 3) × (length (now combinations) / combinationSize ≤ 65535)
         ⌝ }
-    ensures unions { λ r. ⌜
-        Unites (now (combinations .entry)) (length (now (combinations .entry)) / combinationSize)
+    ensures marking { λ r. ⌜ Marking (now (index .entry)) (now (index .exit)) ⌝ }
+    ensures marks { λ r. ⌜
+        Marks header (now (combinations .entry)) (length (now (combinations .entry)) / combinationSize)
         (now (index .exit))
         ⌝ }
 {
+    let blocks = blocks_in(combinations);
     let mut number = 0;
     while number < combinations.len() / COMBINATION_SIZE {
-        let at = union_at(number);
-        if index.len() < at + 7 {
-            return;
-        }
-        unite(combinations, number, index, at);
+        mark_columns(header, combinations, blocks, number, index);
         number += 1;
     }
 }
@@ -94,20 +153,20 @@ fn note_ends(ends: &[u32], index: &mut [u64])
 }
 
 // Fills the index.
-pub fn fill_index(combinations: &[u64], ends: &[u32], index: &mut [u64])
+pub fn fill_index(header: Header, combinations: &[u64], ends: &[u32], index: &mut [u64])
     requires { ⌜
-        (length (now combinations) / combinationSize ≤ 65535) × (length (now ends) ≡ endsSize)
-        × (endsSize ≤ length (now index))
+        T (headerKnown header) × (length (now combinations) / combinationSize ≤ 65535)
+        × (length (now ends) ≡ endsSize) × (endsSize ≤ length (now index))
         ⌝ }
     ensures ends { λ r. ⌜
         (length (now (index .exit)) ≡ length (now (index .entry)))
         × ((i : ℕ) → i < endsSize → (now (index .exit) ! i) ≡ (now (ends .entry) ! i))
         ⌝ }
-    ensures unions { λ r. ⌜
-        Unites (now (combinations .entry)) (length (now (combinations .entry)) / combinationSize)
+    ensures marks { λ r. ⌜
+        Marks header (now (combinations .entry)) (length (now (combinations .entry)) / combinationSize)
         (now (index .exit))
         ⌝ }
 {
     note_ends(ends, index);
-    unite_all(combinations, index);
+    mark_all(header, combinations, index);
 }

@@ -9,6 +9,7 @@ pub mod known;
 pub mod leaving;
 mod records;
 mod repeating;
+mod rows;
 
 use definitions::Counts;
 use definitions::Fault;

@@ -1,160 +1,287 @@
--- Laws about the index of combinations: how it is filled, and that a block whose union does not meet a matrix validly
--- has no combination that does. The idea: a phone in a column of a combination is in that column of its block's union.
+-- Laws about the index of combinations: the next member of a set, how bits are set, and what a filled index has. The idea:
+-- bits are only ever set, so what was marked stays marked, whatever rows share a word.
 use mathlib.Core.Path.{_≡_, refl, sym, ap, _∙_, subst}
 use mathlib.Core.Logic.{inl, inr}
 use mathlib.Core.List.{List}
-use mathlib.Core.Bool.{Bool, true, false}
-use Prim.Native.Nat.{ℕ, _+_, _*_, _/_, _%_, _≤_, _<_}
+use mathlib.Core.Bool.{false}
+use Prim.Native.Nat.{ℕ, zero, suc, _+_, _-_, _*_, _/_, _%_, _^_, _≤_, _<_}
+use native.Mathlib.Nat.{div-one, mul-le-mul}
 use native.Mathlib.Omega.{arith}
 use lib.Bits.{bitOr}
-use lib.Dec.{T, eqb, ltb}
-use lib.ListN.{length, take, drop, set, length-set, length-replicate}
-use lib.Seq.{getD-set-same, getD-set-other, getD-take, length-take-le}
-use borrow.Author.Tests.{eqb-true, eqb-false, ltb-true, ltb-false}
+use lib.Count.{trailingZeros, under}
+use lib.Dec.{T, leb, ltb, eqb, eqb-refl}
+use lib.ListN.{length, set, length-set, length-replicate}
+use lib.Pow.{shr-shr}
+use lib.Seq.{getD-set-same, getD-set-other}
+use borrow.Author.Tests.{eqb-true, eqb-false, ltb-true, ltb-false, le-leb}
 use Rattle.definitions.specs.declared.Header.{Header}
-use Rattle.definitions.specs.Lists.{_!_, cleared}
-use Rattle.definitions.specs.PhoneSets.{has}
-use Rattle.definitions.specs.Matrices.{Matrix, matrixSize, matrixWords, valid, meet}
+use Rattle.definitions.specs.Lists.{_!_, if_then_else_, cleared}
+use Rattle.definitions.specs.PhoneSets.{has, alone}
 use Rattle.definitions.specs.Combinations.{Combination, combinationSize}
-use Rattle.definitions.specs.laws.Tests.{by-test, T-and, T-or}
-use Rattle.definitions.specs.laws.Lists.{part-at}
-use Rattle.definitions.specs.laws.PhoneSets.{has-or}
-use Rattle.definitions.specs.laws.Matrices.{valid-columns, meet-has, meet-length}
+use Rattle.definitions.specs.laws.Tests.{by-test, T-or}
+use Rattle.definitions.specs.laws.PhoneSets.{has-or, has-alone}
 use Rattle.definitions.specs.laws.Metastates.{numbered}
-use Rattle.definitions.specs.laws.Searching.{NoneFrom}
-use Rattle.definitions.specs.laws.SevenWords.{words-length, words-take}
-use Rattle.matrix.specs.Shapes.{widthOf, matrixIn, HasWidth}
-use Rattle.matrix.specs.laws.Words.{firstSeven, seven-there, seven-length}
-use Rattle.matrix.specs.laws.Widths.{width-taken}
 use Rattle.network.specs.Combinations.{combinationsIn, Usable, EndsAt, Ending}
-use Rattle.network.specs.Following.{followsAt}
-use Rattle.network.specs.Indexing.{endsSize, blockSize, unionAt, Unites, Indexed, United}
-use Rattle.network.specs.laws.RecordWords.{combinations-length, matrix-word, phone-few}
-use Rattle.network.specs.laws.Followers.{narrow}
+use Rattle.network.specs.Indexing.{endsSize, blockSize, blocksIn, rowAt, IsSet, IsMarked, MarkedBelow, Marks}
+use Rattle.network.specs.Indexing.{Indexed, Marking, NextMember}
+use Rattle.network.specs.laws.RecordWords.{combinations-length, phone-few}
 
--- ---- a combination's columns added to words
+-- ---- the next member of a set
 
--- a phone of either is in their union
-in-either : (p a b : ℕ) → T (has p a) → T (has p (bitOr a b))
-in-either p a b h = subst T (sym (has-or p a b)) (T-or (has p a) (has p b) .1 (inl h))
+-- the zeros at a number's end are places that the set lacks
+zeros-lack : (d s j : ℕ) → j < trailingZeros d s → has (suc j) s ≡ false
+unfolding trailingZeros has
+zeros-lack zero s j h = absurd (omega arith)
+zeros-lack (suc d) s j h = go (s % 2) refl j h (λ i l. zeros-lack d (s / 2) i l)
+  where
+    go : (r : ℕ) → s % 2 ≡ r → (j : ℕ) → j < under r (trailingZeros d (s / 2))
+        → ((i : ℕ) → i < trailingZeros d (s / 2) → eqb (s / 2 / 2 ^ i % 2) 1 ≡ false)
+        → eqb (s / 2 ^ j % 2) 1 ≡ false
+    go zero e zero h ih = rw (div-one, e)
+    go zero e (suc j) h ih =
+        ap (λ (k : ℕ). eqb (k % 2) 1)
+        (ap (λ (k : ℕ). s / 2 ^ k) {x = suc j} {y = 1 + j} (omega arith) ∙ sym (shr-shr s 1 j))
+        ∙ ih j (omega arith)
+    go (suc r) e j h ih = absurd (omega arith)
 
-in-other : (p a b : ℕ) → T (has p b) → T (has p (bitOr a b))
-in-other p a b h = subst T (sym (has-or p a b)) (T-or (has p a) (has p b) .1 (inr h))
+-- so a set lacks all from one on, as many as there are zeros in what is left of it from there
+lacks-from : (s from p : ℕ) → 1 ≤ from → from ≤ p → p < from + trailingZeros 64 (s / 2 ^ (from - 1)) → has p s ≡ false
+unfolding has
+lacks-from s from zero f h l = absurd (omega arith)
+lacks-from s from (suc i) f h l =
+    let at : (from - 1) + (i - (from - 1)) ≡ i = omega arith in
+    let short : i - (from - 1) < trailingZeros 64 (s / 2 ^ (from - 1)) = omega arith in
+    ap (λ (k : ℕ). eqb (k % 2) 1)
+    (ap (λ (k : ℕ). s / 2 ^ k) (sym at) ∙ sym (shr-shr s (from - 1) (i - (from - 1))))
+    ∙ zeros-lack 64 (s / 2 ^ (from - 1)) (i - (from - 1)) short
 
-pub united-none : (words : List ℕ) (number at : ℕ) (index : List ℕ) → United words number at index 0 index
-united-none words number at index =
+module _ (s from : ℕ) (f : 1 ≤ from) where
+  -- none is left
+  pub next-past : 64 < from → from ≤ 65 → NextMember s from 65
+  next-past h l = record { after = l; within = omega arith; passed = λ p a b. absurd (omega arith) }
+
+  pub next-none : from ≤ 64 → 64 < from + trailingZeros 64 (s / 2 ^ (from - 1)) → NextMember s from 65
+  next-none l h =
+      record {
+        after = omega arith;
+        within = omega arith;
+        passed = λ p a b. lacks-from s from p f a (omega (arith, b, h));
+      }
+
+  pub next-found : from + trailingZeros 64 (s / 2 ^ (from - 1)) ≤ 64
+      → NextMember s from (from + trailingZeros 64 (s / 2 ^ (from - 1)))
+  next-found h =
+      record {
+        after = omega arith;
+        within = omega (arith, h);
+        passed = λ p a b. lacks-from s from p f a b;
+      }
+
+-- ---- setting bits
+
+pub marking-none : (index : List ℕ) → Marking index index
+marking-none index = record { sized = refl; before = λ i h. refl; kept = λ i p h. h }
+
+pub marking-more : {index₀ index index′ : List ℕ} → Marking index₀ index → Marking index index′ → Marking index₀ index′
+marking-more m n =
     record {
-      within = omega arith;
-      sized = refl;
-      before = λ i h. refl;
-      kept = λ i p h. h;
-      added = λ c p h. absurd (omega arith);
+      sized = n .sized ∙ m .sized;
+      before = λ i h. n .before i h ∙ m .before i h;
+      kept = λ i p h. n .kept i p (m .kept i p h);
     }
 
-module _ {words index₀ index : List ℕ} {number at column : ℕ} (u : United words number at index₀ column index)
-    (l : column < matrixSize) (room : at + matrixSize ≤ length index₀)
-  where
-    abbrev new : ℕ
-    new = words ! (combinationSize * number + 4 + column)
+-- what was set stays set
+pub set-stays : {index index′ : List ℕ} → Marking index index′ → (at place : ℕ) → IsSet index at place
+    → IsSet index′ at place
+set-stays m at place s h = m .kept at place (s (omega (arith, h, m .sized)))
 
+-- the word with a place more
+module _ (index : List ℕ) (at place word : ℕ) (later : endsSize ≤ at) (there : at < length index) (some : 1 ≤ place)
+    (few : place ≤ 64) (e : word ≡ (if leb place 64 then alone place else 0))
+  where
     abbrev old : ℕ
-    old = index ! (at + column)
+    old = index ! at
 
     abbrev after : List ℕ
-    after = set index (at + column) (bitOr old new)
+    after = set index at (bitOr old word)
 
-    there : at + column < length index
-    there = omega (arith, l, room, u .sized)
-
-    here : (after ! (at + column)) ≡ bitOr old new
-    here = getD-set-same index (at + column) (bitOr old new) 0 there
-
-    elsewhere : (i : ℕ) → (i ≡ at + column → ⊥) → (after ! i) ≡ (index ! i)
-    elsewhere i n = getD-set-other index (at + column) i (bitOr old new) 0 n
+    here : (after ! at) ≡ bitOr old word
+    here = getD-set-same index at (bitOr old word) 0 there
 
     still : (i p : ℕ) → T (has p (index ! i)) → T (has p (after ! i))
     still i p h =
-        by-test (eqb i (at + column))
+        by-test (eqb i at)
         (λ t.
-        let e : i ≡ at + column = eqb-true i (at + column) t in
-        subst (λ (j : ℕ). T (has p (after ! j))) (sym e)
+        let same : i ≡ at = eqb-true i at t in
+        subst (λ (j : ℕ). T (has p (after ! j))) (sym same)
         (subst (λ (z : ℕ). T (has p z)) (sym here)
-        (in-either p old new (subst (λ (j : ℕ). T (has p (index ! j))) e h))))
-        (λ t. subst (λ (z : ℕ). T (has p z)) (sym (elsewhere i (eqb-false i (at + column) t))) h)
+        (subst T (sym (has-or p old word))
+        (T-or (has p old) (has p word) .1 (inl (subst (λ (j : ℕ). T (has p (index ! j))) same h))))))
+        (λ t.
+        subst (λ (z : ℕ). T (has p z)) (sym (getD-set-other index at i (bitOr old word) 0 (eqb-false i at t))) h)
 
-    now-there : (c p : ℕ) → c < column + 1 → T (has p (words ! (combinationSize * number + 4 + c)))
-        → T (has p (after ! (at + c)))
-    now-there c p h t =
-        by-test (eqb c column)
-        (λ e.
-        let same : c ≡ column = eqb-true c column e in
-        subst (λ (j : ℕ). T (has p (after ! (at + j)))) (sym same)
-        (subst (λ (z : ℕ). T (has p z)) (sym here)
-        (in-other p old new
-        (subst (λ (j : ℕ). T (has p (words ! (combinationSize * number + 4 + j)))) same t))))
-        (λ e.
-        let less : c < column = omega (arith, h, eqb-false c column e) in
-        still (at + c) p (u .added c p less t))
-
-    pub united-more : United words number at index₀ (column + 1)
-        (set index (at + column) (bitOr (index ! (at + column)) (words ! (combinationSize * number + 4 + column))))
-    united-more =
+    pub set-marking : Marking index (set index at (bitOr (index ! at) word))
+    set-marking =
         record {
-          within = omega arith;
-          sized = length-set index (at + column) (bitOr old new) ∙ u .sized;
-          before = λ i h. elsewhere i (λ e. omega (arith, e, h)) ∙ u .before i h;
-          kept = λ i p h. still i p (u .kept i p h);
-          added = now-there;
+          sized = length-set index at (bitOr old word);
+          before = λ i h. getD-set-other index at i (bitOr old word) 0 (λ s. omega (arith, s, h, later));
+          kept = still;
         }
 
-pub united-all : {words index₀ index : List ℕ} {number at column : ℕ} → United words number at index₀ column index
-    → matrixSize ≤ column → United words number at index₀ matrixSize index
-united-all {words} {index₀} {index} {number} {at} {column} u h =
-    let all : column ≡ matrixSize = omega (arith, h, u .within) in
-    subst (λ (c : ℕ). United words number at index₀ c index) all u
+    own : T (has place word)
+    own =
+        subst (λ (z : ℕ). T (has place z)) (sym (e ∙ rw (le-leb place 64 few)))
+        (subst T (sym (has-alone place place (omega arith))) (eqb-refl place))
 
--- ---- the columns of all
+    pub set-marked : T (has place (set index at (bitOr (index ! at) word) ! at))
+    set-marked =
+        subst (λ (z : ℕ). T (has place z)) (sym here)
+        (subst T (sym (has-or place old word)) (T-or (has place old) (has place word) .1 (inr own)))
 
-pub record Uniting (words index₀ : List ℕ) (number : ℕ) (index : List ℕ) : Type 0 where
-  pub sized : length index ≡ length index₀
-  pub before : (i : ℕ) → i < endsSize → (index ! i) ≡ (index₀ ! i)
-  pub unites : Unites words number index
+-- ---- a combination's bit in the rows of a column's phones
 
-pub uniting-none : (words index : List ℕ) → Uniting words index 0 index
-uniting-none words index =
-    record { sized = refl; before = λ i h. refl; unites = λ number column p h. absurd (omega arith) }
+pub marked-stays : {phones blocks number column s below : ℕ} {index index′ : List ℕ} → Marking index index′
+    → MarkedBelow phones blocks number column s below index → MarkedBelow phones blocks number column s below index′
+marked-stays {phones} {blocks} {number} {column} m marked =
+    record {
+      each = λ p h t.
+          set-stays m (rowAt phones blocks column p + number / blockSize) (number % blockSize + 1)
+          (marked .each p h t);
+    }
 
-module _ {words index₀ index : List ℕ} {number : ℕ} (u : Uniting words index₀ number index) where
-  pub uniting-more : {index′ : List ℕ} {at : ℕ} → at ≡ unionAt number
-      → United words number at index matrixSize index′ → Uniting words index₀ (number + 1) index′
-  uniting-more {index′} {at} e v =
+-- the phones below one are marked
+pub record PhonesMarked (phones blocks number column s : ℕ) (index₀ : List ℕ) (phone : ℕ) (index : List ℕ) : Type 0
+  where
+    pub marking : Marking index₀ index
+    pub some : 1 ≤ phone
+    pub within : phone ≤ 65
+    pub marked : MarkedBelow phones blocks number column s phone index
+
+-- what the search for the next member passes is no member, and 0 is none
+lacked : {s from next p : ℕ} → NextMember s from next → from ≤ p → p < next → T (has p s) → ⊥
+lacked {s} {from} {next} {p} n a b t = subst T (n .passed p a b) t
+
+no-zero : (s : ℕ) → T (has 0 s) → ⊥
+unfolding has
+no-zero s t = t
+
+module _ {phones blocks number column s : ℕ} where
+  pub phones-first : {next : ℕ} (index : List ℕ) → NextMember s 1 next
+      → PhonesMarked phones blocks number column s index next index
+  phones-first {next} index n =
       record {
-        sized = v .sized ∙ u .sized;
-        before = λ i h. v .before i (omega (arith, e, h)) ∙ u .before i h;
-        unites = λ other column p h l room t.
-            by-test (eqb other number)
-            (λ f.
-            let same : other ≡ number = eqb-true other number f in
-            subst (λ (j : ℕ). T (has p (index′ ! (unionAt j + column)))) (sym same)
-            (subst (λ (j : ℕ). T (has p (index′ ! (j + column)))) e
-            (v .added column p l
-            (subst (λ (j : ℕ). T (has p (words ! (combinationSize * j + 4 + column)))) same t))))
-            (λ f.
-            let less : other < number = omega (arith, h, eqb-false other number f) in
-            v .kept (unionAt other + column) p
-            (u .unites other column p less l (omega (arith, room, v .sized)) t));
+        marking = marking-none index;
+        some = n .after;
+        within = n .within;
+        marked = record { each = below };
+      }
+    where
+      below : (p : ℕ) → p < next → T (has p s) → IsMarked index (rowAt phones blocks column p) number
+      below zero h t = absurd (no-zero s t)
+      below (suc p) h t = absurd (lacked n (omega arith) h t)
+
+  module _ {index₀ index : List ℕ} {phone : ℕ} (m : PhonesMarked phones blocks number column s index₀ phone index) where
+    pub phones-next : {index′ : List ℕ} {at place next : ℕ} → at ≡ rowAt phones blocks column phone + number / blockSize
+        → place ≡ number % blockSize + 1 → Marking index index′
+        → (at < length index → T (has place (index′ ! at))) → NextMember s (phone + 1) next
+        → PhonesMarked phones blocks number column s index₀ next index′
+    phones-next {index′} {at} {place} {next} e f more here n =
+        record {
+          marking = marking-more (m .marking) more;
+          some = omega (arith, n .after);
+          within = n .within;
+          marked = record { each = below };
+        }
+      where
+        own : (p : ℕ) → p ≡ phone → IsMarked index′ (rowAt phones blocks column p) number
+        own p b =
+            subst (λ (q : ℕ). IsMarked index′ (rowAt phones blocks column q) number) (sym b)
+            (λ h.
+            subst (λ (q : ℕ). T (has (number % blockSize + 1) (index′ ! q))) e
+            (subst (λ (q : ℕ). T (has q (index′ ! at))) f (here (omega (arith, h, e, more .sized)))))
+
+        below : (p : ℕ) → p < next → T (has p s) → IsMarked index′ (rowAt phones blocks column p) number
+        below p h t =
+            by-test (ltb phone p)
+            (λ a. absurd (lacked n (omega (arith, ltb-true phone p a)) h t))
+            (λ a.
+            by-test (eqb p phone)
+            (λ b. own p (eqb-true p phone b))
+            (λ b.
+            set-stays more (rowAt phones blocks column p + number / blockSize) (number % blockSize + 1)
+            (m .marked .each p (omega (arith, ltb-false phone p a, eqb-false p phone b)) t)))
+
+    pub phones-last : 64 < phone → MarkedBelow phones blocks number column s 65 index
+    phones-last h = record { each = λ p l t. m .marked .each p (omega (arith, h, l)) t }
+
+-- ---- in the rows of its columns, and the bits of all
+
+-- the columns before one are marked
+pub record ColumnsMarked (phones blocks : ℕ) (words : List ℕ) (number : ℕ) (index₀ : List ℕ) (column : ℕ)
+    (index : List ℕ) : Type 0 where
+  pub marking : Marking index₀ index
+  pub marked : (c : ℕ) → c < column
+      → MarkedBelow phones blocks number c (words ! (combinationSize * number + 4 + c)) 65 index
+
+module _ {phones blocks number : ℕ} {words : List ℕ} where
+  pub columns-none : (index : List ℕ) → ColumnsMarked phones blocks words number index 0 index
+  columns-none index = record { marking = marking-none index; marked = λ c h. absurd (omega arith) }
+
+  pub columns-more : {index₀ index index′ : List ℕ} {column : ℕ}
+      → ColumnsMarked phones blocks words number index₀ column index → Marking index index′
+      → MarkedBelow phones blocks number column (words ! (combinationSize * number + 4 + column)) 65 index′
+      → ColumnsMarked phones blocks words number index₀ (column + 1) index′
+  columns-more {index₀} {index} {index′} {column} m more own =
+      record {
+        marking = marking-more (m .marking) more;
+        marked = λ c h.
+            by-test (eqb c column)
+            (λ t.
+            subst (λ (k : ℕ).
+            MarkedBelow phones blocks number k (words ! (combinationSize * number + 4 + k)) 65 index′)
+            (sym (eqb-true c column t)) own)
+            (λ t. marked-stays more (m .marked c (omega (arith, h, eqb-false c column t))));
       }
 
-  -- no later combination has room
-  pub uniting-full : {at count : ℕ} → at ≡ unionAt number → length index < at + matrixSize
-      → Unites words count index
-  uniting-full e full other column p h l room t =
-      by-test (ltb other number)
-      (λ f. u .unites other column p (ltb-true other number f) l room t)
-      (λ f. absurd (omega (arith, e, full, room, ltb-false other number f)))
+-- the combinations before one are marked
+pub record AllMarked (header : Header) (words index₀ : List ℕ) (number : ℕ) (index : List ℕ) : Type 0 where
+  pub marking : Marking index₀ index
+  pub marks : Marks header words number index
 
-  pub uniting-all : {count : ℕ} → count ≤ number → Unites words count index
-  uniting-all few other column p h = u .unites other column p (omega (arith, few, h))
+pub all-none : (header : Header) (words index : List ℕ) → AllMarked header words index 0 index
+all-none header words index = record { marking = marking-none index; marks = λ number column h. absurd (omega arith) }
+
+pub all-more : {header : Header} {words index₀ index index′ : List ℕ} {number blocks : ℕ}
+    → AllMarked header words index₀ number index → blocks ≡ blocksIn words → Marking index index′
+    → ((column : ℕ) → column < header .half
+    → MarkedBelow (header .phones) blocks number column (words ! (combinationSize * number + 4 + column)) 65 index′)
+    → AllMarked header words index₀ (number + 1) index′
+all-more {header} {words} {index₀} {index} {index′} {number} {blocks} m e more own =
+    record {
+      marking = marking-more (m .marking) more;
+      marks = λ other column h c.
+          by-test (eqb other number)
+          (λ t.
+          subst (λ (k : ℕ).
+          MarkedBelow (header .phones) (blocksIn words) k column (words ! (combinationSize * k + 4 + column)) 65 index′)
+          (sym (eqb-true other number t))
+          (subst (λ (b : ℕ).
+          MarkedBelow (header .phones) b number column (words ! (combinationSize * number + 4 + column)) 65 index′) e
+          (own column c)))
+          (λ t. marked-stays more (m .marks other column (omega (arith, h, eqb-false other number t)) c));
+    }
+
+-- ---- where a row begins
+
+-- not too far
+pub row-near : (phones blocks column p : ℕ) → phones ≤ 64 → blocks ≤ 1024 → column < 3 → p ≤ 65
+    → (column * phones ≤ 128) × ((column * phones + p) * blocks ≤ 197632)
+row-near phones blocks column p a b c d =
+    let few : column ≤ 2 = omega arith in
+    let first : column * phones ≤ 2 * 64 = mul-le-mul few a in
+    let further : column * phones + p ≤ 193 = omega (arith, first, d) in
+    let all : (column * phones + p) * blocks ≤ 193 * 1024 = mul-le-mul further b in
+    (omega (arith, first), omega (arith, all))
 
 -- ---- the ends
 
@@ -185,18 +312,21 @@ noted-more {ends} {index₀} {index} {place} {word} n h room e =
     }
 
 -- cleared words are words for an index
-pub cleared-index : (size : ℕ) → endsSize ≤ size → endsSize ≤ length (cleared size)
-cleared-index size h = subst (λ (n : ℕ). endsSize ≤ n) (sym (length-replicate {A = ℕ} size 0)) h
+pub cleared-index : (size : ℕ) → endsSize ≤ size → size ≤ 262144
+    → (endsSize ≤ length (cleared size)) × (length (cleared size) ≤ 262144)
+cleared-index size h l =
+    let e : length (cleared size) ≡ size = length-replicate {A = ℕ} size 0 in (omega (arith, e, h), omega (arith, e, l))
 
 -- ---- the index of a book's combinations
 
 pub indexed : (header : Header) (words ends index : List ℕ) → Usable header words → Ending header words ends
-    → endsSize ≤ length index → ((i : ℕ) → i < endsSize → (index ! i) ≡ (ends ! i))
-    → Unites words (length words / combinationSize) index → Indexed header words index
-indexed header words ends index usable ending room same unites =
+    → endsSize ≤ length index → length index ≤ 262144 → ((i : ℕ) → i < endsSize → (index ! i) ≡ (ends ! i))
+    → Marks header words (length words / combinationSize) index → Indexed header words index
+indexed header words ends index usable ending room small same marks =
     let cs : List Combination = combinationsIn header words in
     record {
       sized = room;
+      small = small;
       ends-at = λ number h.
           let at : EndsAt cs ends number = ending .ends-at number h in
           let e : (index ! (numbered cs number .phone)) ≡ (ends ! (numbered cs number .phone)) =
@@ -206,108 +336,5 @@ indexed header words ends index usable ending room same unites =
             within = omega (arith, e, at .within);
             same-phone = λ i a b. at .same-phone i a (omega (arith, e, b));
           };
-      unites = λ number column p h. unites number column p (omega (arith, h, combinations-length header words));
+      marks = λ number column h. marks number column (omega (arith, h, combinations-length header words));
     }
-
--- ---- a block that is passed over
-
-module _ (header : Header) (words index : List ℕ) (usable : Usable header words) (ix : Indexed header words index)
-    (columns : List ℕ) (w : HasWidth (widthOf (header .half)) columns)
-  where
-    abbrev cs : List Combination
-    cs = combinationsIn header words
-
-    abbrev shifted : Matrix
-    shifted = matrixIn (header .half) columns
-
-    abbrev width : ℕ
-    width = widthOf (header .half)
-
-    thin : width ≤ matrixSize
-    thin = omega (arith, narrow header words usable)
-
-    seven : length columns ≡ matrixSize
-    seven = ap length w ∙ words-length (take width columns) (omega (arith, width-taken thin w, thin))
-
-    module _ (number : ℕ) (h : number < length cs) (room : unionAt number + matrixSize ≤ length index) where
-      abbrev own : Matrix
-      own = numbered cs number .matrix
-
-      abbrev union : List ℕ
-      union = firstSeven (drop (unionAt number) index)
-
-      union-is : (c : ℕ) → c < matrixSize → (union ! c) ≡ (index ! (unionAt number + c))
-      union-is c l =
-          ap (λ (m : List ℕ). m ! c) (seven-there index (unionAt number) room)
-          ∙ part-at matrixSize (unionAt number) index c 0 l
-
-      own-is : (c : ℕ) → c < width → (own ! c) ≡ (words ! (combinationSize * number + 4 + c))
-      own-is c l =
-          ap (λ (m : List ℕ). m ! c) (sym (words-take own (usable .each number h .width)))
-          ∙ getD-take width (matrixWords own) c 0 l
-          ∙ ap (λ (m : List ℕ). m ! c) (sym (matrix-word header words usable number h))
-          ∙ part-at matrixSize (combinationSize * number + 4) words c 0 (omega (arith, l, thin))
-
-      -- the meet with the union, in the columns that count
-      abbrev met : Matrix
-      met = take width (meet columns union)
-
-      met-length : length met ≡ width
-      met-length =
-          length-take-le width (meet columns union)
-          (omega (
-            arith,
-            thin,
-            meet-length columns union (seven ∙ sym (seven-length (drop (unionAt number) index))),
-            seven,
-          ))
-
-      met-has : (c p : ℕ) → c < width → T (has p (columns ! c)) → T (has p (union ! c)) → T (has p (met ! c))
-      met-has c p l a b =
-          subst (λ (z : ℕ). T (has p z)) (sym (getD-take width (meet columns union) c 0 l))
-          (subst T (sym (meet-has p columns union c)) (T-and (has p (columns ! c)) (has p (union ! c)) .1 (a, b)))
-
-      -- where a combination meets the matrix validly, so does its block's union
-      union-meets : T (valid (meet shifted own)) → T (valid met)
-      union-meets v =
-          valid-columns met .1
-          (λ c l.
-          let inside : c < width = omega (arith, l, met-length) in
-          let long : length (meet shifted own) ≡ width =
-          meet-length shifted own (width-taken thin w ∙ sym (usable .each number h .width)) ∙ width-taken thin w in
-          let (p, t) = valid-columns (meet shifted own) .0 v c (omega (arith, inside, long)) in
-          let (a, b) = T-and (has p (shifted ! c)) (has p (own ! c)) .0 (subst T (meet-has p shifted own c) t) in (
-            p,
-            met-has c p inside
-                (subst (λ (z : ℕ). T (has p z)) (getD-take width columns c 0 inside) a)
-                (subst (λ (z : ℕ). T (has p z)) (sym (union-is c (omega (arith, inside, thin))))
-                (ix .unites number c p h (omega (arith, inside, thin)) room
-                (subst (λ (z : ℕ). T (has p z)) (own-is c inside) b))),
-          ))
-
-      pub not-in-block : valid met ≡ false → followsAt shifted cs number ≡ false
-      not-in-block e =
-          by-test (valid (meet shifted own))
-          (λ t. absurd (subst T e (union-meets (subst T (sym t) tt))))
-          (λ t. t)
-
-    -- ---- whole blocks
-
-    abbrev Passed : (from place : ℕ) → Type 0
-    Passed from place = NoneFrom (followsAt shifted cs) (length cs) from place
-
-    -- from the first combination of a block up to the next block, or to the end
-    pub block-passed : {at end : ℕ} {answer : Bool} (from : ℕ) → from < length cs → from % blockSize ≡ 0
-        → at ≡ unionAt from → at + matrixSize ≤ length index → end ≤ from + blockSize → from ≤ end → end ≤ length cs
-        → answer ≡ valid (take width (meet columns (firstSeven (drop at index)))) → answer ≡ false
-        → Passed from end
-    block-passed {at} from h first e room fits later inside a unmet =
-        record {
-          after = later;
-          within = inside;
-          passed = λ i k l.
-              let same : unionAt i ≡ unionAt from = omega (arith, k, l, first, fits) in
-              not-in-block i (omega (arith, l, inside)) (omega (arith, same, e, room))
-              (ap (λ (z : ℕ). valid (take width (meet columns (firstSeven (drop z index))))) (same ∙ sym e)
-              ∙ sym a ∙ unmet);
-        }

@@ -27,7 +27,8 @@ connect-with-requires c κs =
     let p = start .pre in
     let short = cleared-chains 2048 (start .args .metastates .now) (omega (arith, test .if1 .taken)) in
     let few = cleared-spans 6144 (omega arith) in
-    (p .0, p .1, p .2, p .3, p .4, short .0, short .1, few .0, few .1, cleared-index 289 (omega arith))
+    let index = cleared-index 1024 (omega arith) (omega arith) in
+    (p .0, p .1, p .2, p .3, p .4, short .0, short .1, few .0, few .1, index .0, index .1)
 
 same-length : tie.Need-same-length
 same-length c = search needs
@@ -53,7 +54,8 @@ connect-with-requires-2 c κs =
     let p = start .pre in
     let long = cleared-chains 131072 (start .args .metastates .now) (omega arith) in
     let many = cleared-spans 196608 (omega arith) in
-    (p .0, p .1, p .2, p .3, p .4, long .0, long .1, many .0, many .1, cleared-index 14401 (omega arith))
+    let index = cleared-index 65601 (omega arith) (omega arith) in
+    (p .0, p .1, p .2, p .3, p .4, long .0, long .1, many .0, many .1, index .0, index .1)
 
 same-length-3 : tie.Need-same-length-3
 same-length-3 c = search needs

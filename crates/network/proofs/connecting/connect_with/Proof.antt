@@ -23,12 +23,12 @@ entry c = began (filled c)
 
 -- the index that was filled
 ready : (c : tie.After-fill-index)
-    → Indexed (began c .args .header) (began c .args .combinations .now) (c .fill-index .last .1 .1 .0)
+    → Indexed (began c .args .header) (began c .args .combinations .now) (c .fill-index .last .1 .1 .1 .0)
 ready c =
     let start = began c in
     let left = c .fill-index .ensures in
     indexed _ _ (start .args .ends .now) _ (start .pre .0) (start .pre .2)
-    (omega (arith, left .0 .0, start .pre .9)) (left .0 .1) (left .1)
+    (omega (arith, left .0 .0, start .pre .9)) (omega (arith, left .0 .0, start .pre .10)) (left .0 .1) (left .1)
 
 -- from either arm: the call that started
 abbrev called : tie.After-slice-known9 → tie.After-start
@@ -41,8 +41,12 @@ fill-index-requires : tie.Need-fill-index-requires
 fill-index-requires c κs =
     let start = c .before .before .before .before .before .before .before .before .before in
     let a = start .args in
-    let p = start .pre in
-    (omega (arith, p .0 .few, combinations-length (a .header) (a .combinations .now)), p .2 .sized, p .9)
+    let p = start .pre in (
+      p .0 .header-known,
+      omega (arith, p .0 .few, combinations-length (a .header) (a .combinations .now)),
+      p .2 .sized,
+      p .9,
+    )
 
 start-requires : tie.Need-start-requires
 start-requires c κs =

@@ -17,13 +17,13 @@ use Rattle.network.proofs.following.follow.Statement.{statement}
 use Rattle.network.proofs.following.follow.Tie as tie
 
 abbrev Inv-loop : tie.InvT-loop
-Inv-loop header nodes combinations ends metastates₀ arcs₀ chains₀ from shifted now₀ number₀
+Inv-loop header nodes combinations ends metastates₀ arcs₀ chains₀ from shifted rows now₀ number₀
     metastates arcs chains now number =
     Followed header nodes combinations (shifted .columns) from metastates₀ arcs₀ chains₀ now₀
     metastates arcs chains now number
 
 abbrev μ-loop : tie.MeasureT-loop
-μ-loop header nodes combinations ends metastates₀ arcs₀ chains₀ from shifted now₀ number₀
+μ-loop header nodes combinations ends metastates₀ arcs₀ chains₀ from shifted rows now₀ number₀
     metastates arcs chains now number =
     length combinations / combinationSize - number
 
@@ -35,21 +35,26 @@ abbrev inside : tie.After-enter Inv-loop μ-loop → tie.In-loop Inv-loop μ-loo
 inside c = c .before .before .before .before .before .before
 
 abbrev start : tie.In-loop Inv-loop μ-loop → tie.Start Inv-loop μ-loop
-start c = c .before .before .before .before .before .before .before .before .before
+start c = c .before .before .before .before .before .before .before .before .before .before
 
 -- a follower that was entered: its number is that of a combination, and what its words hold
 here : (c : tie.In-loop Inv-loop μ-loop)
     → c .before .loop .number < length (combinationsIn (start c .args .header) (start c .args .combinations .now))
 here c = number-in _ _ (c .loop-test .taken)
 
+rows-for-requires : tie.Need-rows-for-requires Inv-loop μ-loop
+rows-for-requires c κs =
+    let pre = c .before .before .before .before .before .before .pre in
+    (pre .0, pre .2, pre .3)
+
 next-follower-requires : tie.Need-next-follower-requires Inv-loop μ-loop
 next-follower-requires c κs =
-    let pre = c .before .before .before .before .before .before .pre in
-    (pre .0, pre .2, search needs, pre .3)
+    let pre = c .before .before .before .before .before .before .before .pre in
+    (pre .0, pre .2, search needs, pre .3, c .rows-for .ensures)
 
 loop-holds : tie.Need-loop-holds Inv-loop μ-loop
 loop-holds c =
-    let pre = c .before .before .before .before .before .before .before .pre in
+    let pre = c .before .before .before .before .before .before .before .before .pre in
     followed-start _ _ (pre .4) (c .next-follower .ensures)
 
 matrix-of-requires : tie.Need-matrix-of-requires Inv-loop μ-loop
@@ -113,7 +118,7 @@ next-follower-requires-2 : tie.Need-next-follower-requires-2 Inv-loop μ-loop
 next-follower-requires-2 c κs =
     let turn = inside (called (c .before .before .before)) in
     let pre = start turn .pre in
-    (pre .0, pre .2, omega (arith, here turn), pre .3)
+    (pre .0, pre .2, omega (arith, here turn), pre .3, turn .before .before .before .rows-for .ensures)
 
 loop-less : tie.Need-loop-less Inv-loop μ-loop
 loop-less c = search needs
@@ -144,6 +149,7 @@ follow-spec =
     (tie.spec
     Inv-loop
     μ-loop
+    rows-for-requires
     next-follower-requires
     loop-holds
     matrix-of-requires

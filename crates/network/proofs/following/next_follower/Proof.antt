@@ -8,26 +8,34 @@ use Rattle.definitions.specs.laws.Searching.{NoneFrom, none-more, none-found, n
 use Rattle.matrix.specs.Shapes.{matrixIn}
 use Rattle.network.specs.Combinations.{combinationsIn}
 use Rattle.network.specs.Following.{followsAt}
-use Rattle.network.specs.laws.RecordWords.{number-in, number-out}
+use Rattle.network.specs.laws.RecordWords.{combinations-length, number-in, number-out}
+use Rattle.network.specs.laws.Rows.{admitting-near, marked-none}
 use Rattle.network.proofs.following.next_follower.Statement.{statement}
 use Rattle.network.proofs.following.next_follower.Tie as tie
 
 abbrev Inv-loop : tie.InvT-loop
-Inv-loop header combinations index from shifted number₀ number =
+Inv-loop header combinations index rows from shifted count number₀ number =
     NoneFrom (followsAt (matrixIn (header .half) (shifted .columns)) (combinationsIn header combinations))
     (length (combinationsIn header combinations)) from number
 
 abbrev μ-loop : tie.MeasureT-loop
-μ-loop header combinations index from shifted number₀ number = length combinations / combinationSize - number
+μ-loop header combinations index rows from shifted count number₀ number = length combinations / combinationSize - number
 
 abbrev entry : tie.At-loop Inv-loop μ-loop → tie.Start Inv-loop μ-loop
 entry c = c .before .before .before .before
 
-past-blocks-requires : tie.Need-past-blocks-requires Inv-loop μ-loop
-past-blocks-requires c κs = let p = c .before .before .pre in (p .0, p .1, p .2, p .3)
+next-marked-requires : tie.Need-next-marked-requires Inv-loop μ-loop
+next-marked-requires c κs =
+    let start = c .before .before in
+    let a = start .args in
+    let few = combinations-length (a .header) (a .combinations .now) in
+    (admitting-near (start .pre .4), omega (arith, few, start .pre .2), omega (arith, few, start .pre .0 .few))
 
 loop-holds : tie.Need-loop-holds Inv-loop μ-loop
-loop-holds c = c .past-blocks .ensures
+loop-holds c =
+    let start = c .before .before .before in
+    let a = start .args in
+    marked-none (start .pre .4) (sym (combinations-length (a .header) (a .combinations .now))) (c .next-marked .ensures)
 
 follows-requires : tie.Need-follows-requires Inv-loop μ-loop
 follows-requires c κs =
@@ -35,8 +43,7 @@ follows-requires c κs =
     (start .pre .0, number-in _ _ (c .loop-test .taken), start .pre .3)
 
 returns : tie.Need-returns Inv-loop μ-loop
-returns c =
-    none-found (c .before .before .before .loop .inv) (sym (c .before .follows .ensures) ∙ c .if1 .taken)
+returns c = none-found (c .before .before .before .loop .inv) (sym (c .before .follows .ensures) ∙ c .if1 .taken)
 
 after-requires : tie.Need-after-requires Inv-loop μ-loop
 after-requires c κs =
@@ -49,19 +56,25 @@ after-requires c κs =
       sym (c .before .follows .ensures) ∙ c .if1 .left,
     )
 
-past-blocks-requires-2 : tie.Need-past-blocks-requires-2 Inv-loop μ-loop
-past-blocks-requires-2 c κs =
-    let p = entry (c .before .before .before .before) .pre in (p .0, p .1, c .after .ensures .1 .within, p .3)
+next-marked-requires-2 : tie.Need-next-marked-requires-2 Inv-loop μ-loop
+next-marked-requires-2 c κs =
+    let start = entry (c .before .before .before .before) in
+    let a = start .args in
+    let few = combinations-length (a .header) (a .combinations .now) in
+    (admitting-near (start .pre .4), omega (arith, few, c .after .ensures .1 .within), omega (arith, few, start .pre .0 .few))
 
 loop-less : tie.Need-loop-less Inv-loop μ-loop
 loop-less c =
     let turn = c .before .before .before .before in
-    omega (arith, c .before .after .ensures .0, c .past-blocks2 .ensures .after, turn .loop-test .taken)
+    omega (arith, c .before .after .ensures .0, c .next-marked2 .ensures .after, turn .loop-test .taken)
 
 loop-again : tie.Need-loop-again Inv-loop μ-loop
 loop-again c =
-    none-more (none-more (c .before .before .before .before .before .loop .inv) (c .before .after .ensures .1))
-    (c .past-blocks2 .ensures)
+    let turn = c .before .before .before .before in
+    let start = entry (turn .before) in
+    let a = start .args in
+    none-more (none-more (turn .before .loop .inv) (c .before .after .ensures .1))
+    (marked-none (start .pre .4) (sym (combinations-length (a .header) (a .combinations .now))) (c .next-marked2 .ensures))
 
 returns-2 : tie.Need-returns-2 Inv-loop μ-loop
 returns-2 c = none-all (c .before .loop .inv) (number-out _ _ (c .loop-test .left))
@@ -72,12 +85,12 @@ next-follower-spec =
     (tie.spec
     Inv-loop
     μ-loop
-    past-blocks-requires
+    next-marked-requires
     loop-holds
     follows-requires
     returns
     after-requires
-    past-blocks-requires-2
+    next-marked-requires-2
     loop-less
     loop-again
     returns-2)
