@@ -145,7 +145,7 @@ fn choose_phones(
     count
 }
 
-// The combinations of all phones, with working lists for at most 256 nodes.
+// The combinations of all phones, with working lists for at most 1024 nodes.
 fn choose_few(
     header: Header,
     nodes: &[u32],
@@ -157,7 +157,7 @@ fn choose_few(
     requires { ⌜
         T (tablesKnown header (lentTables (now nodes) (now classes) (now roots)))
         × (now space ≡ cleared (length (now space))) × (now ends ≡ cleared 65)
-        × (header .nodes ≤ 256)
+        × (header .nodes ≤ 1024)
         ⌝ }
     ensures space { λ r. ⌜
         Grown (now (space .entry)) 0
@@ -171,10 +171,10 @@ fn choose_few(
         (tablesBook header (lentTables (now (nodes .entry)) (now (classes .entry)) (now (roots .entry))))))
         ⌝ }
 {
-    let mut table = [0u64; 2048];
-    let mut first = [0u64; 2048];
-    let mut second = [0u64; 2048];
-    let mut third = [0u64; 2048];
+    let mut table = [0u64; 8192];
+    let mut first = [0u64; 8192];
+    let mut second = [0u64; 8192];
+    let mut third = [0u64; 8192];
     let size = LEAF_SIZE * wide(header.nodes);
     choose_phones(
         header,
@@ -259,7 +259,7 @@ fn choose_all(
         (tablesBook header (lentTables (now (nodes .entry)) (now (classes .entry)) (now (roots .entry))))))
         ⌝ }
 {
-    if header.nodes <= 256 {
+    if header.nodes <= 1024 {
         return choose_few(header, nodes, classes, roots, space, ends);
     }
     choose_many(header, nodes, classes, roots, space, ends)

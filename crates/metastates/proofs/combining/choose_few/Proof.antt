@@ -1,4 +1,4 @@
--- `combining::choose_few` meets its contract: the lists have room for 256 nodes.
+-- `combining::choose_few` meets its contract: the lists have room for 1024 nodes.
 use mathlib.Core.Path.{_≡_, refl, sym}
 use Prim.Native.Nat.{_*_, _≤_}
 use native.Mathlib.Omega.{arith}
@@ -15,13 +15,13 @@ abbrev entry : tie.After-wide → tie.Start
 entry c = c .before .before .before .before .before .before
 
 -- the records of the nodes fit into the lists
-fits : (c : tie.After-wide) → 8 * c .wide .result ≤ 2048
+fits : (c : tie.After-wide) → 8 * c .wide .result ≤ 8192
 fits c = omega (arith, c .wide .ensures, entry c .pre .3)
 
 -- the part of the table that is lent has a record for each node
-lent : (c : tie.After-wide) → length (take (8 * c .wide .result) (cleared 2048)) ≡ 8 * c .wide .result
+lent : (c : tie.After-wide) → length (take (8 * c .wide .result) (cleared 8192)) ≡ 8 * c .wide .result
 lent c =
-    let sized : length (cleared 2048) ≡ 2048 = refl in
+    let sized : length (cleared 8192) ≡ 8192 = refl in
     length-take-le _ _ (omega (arith, sized, fits c))
 
 wide-requires : tie.Need-wide-requires
@@ -49,11 +49,11 @@ choose-phones-requires : tie.Need-choose-phones-requires
 choose-phones-requires c κs =
     let wide = c .before .before .before .before .before .before in
     let p = entry wide .pre in
-    let sized : length (take (8 * wide .wide .result) (cleared 2048)) ≡ leafSize * entry wide .args .header .nodes =
+    let sized : length (take (8 * wide .wide .result) (cleared 8192)) ≡ leafSize * entry wide .args .header .nodes =
     omega (arith, lent wide, wide .wide .ensures) in
-    let room : length (take (8 * wide .wide .result) (cleared 2048)) ≤ length (cleared 2048) =
+    let room : length (take (8 * wide .wide .result) (cleared 8192)) ≤ length (cleared 8192) =
     omega (arith, lent wide, fits wide) in
-    (p .0, p .1, p .2, sized, room, room, room, none-cleared 2048 (8 * wide .wide .result))
+    (p .0, p .1, p .2, sized, room, room, room, none-cleared 8192 (8 * wide .wide .result))
 
 same-length : tie.Need-same-length
 same-length c = search needs
