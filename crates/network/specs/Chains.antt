@@ -9,9 +9,9 @@ use lib.ListN.{length, set, drop, getD}
 use Rattle.definitions.specs.Lists.{_!_, records}
 use Rattle.definitions.specs.Metastates.{metastateSize}
 
--- a word turned by nine bits
+-- a word turned by 26 bits
 abbrev pub turned : (word : ℕ) → ℕ
-turned word = bitXor (word * 2 ^ 9 % 2 ^ 64) (word / 2 ^ 55)
+turned word = bitXor (word * 2 ^ 26 % 2 ^ 64) (word / 2 ^ 38)
 
 -- a key, below 65521, of a number and columns
 unfoldable pub keyFrom : (key : ℕ) → (columns : List ℕ) → ℕ

@@ -1,7 +1,8 @@
 // Metastates are found through chains: the first half of `chains` has for each head the latest metastate of that head,
 // the second half for each metastate the one before it of the same head. Places in it count from 1; 0 ends a chain. A
-// metastate's head is its key, cut to the number of heads. A key takes in the columns one by one, turned by nine bits
-// for each; its remainder by 65521, the largest prime below 65536, spreads.
+// metastate's head is its key, cut to the number of heads. A key takes in the columns one by one, turned by 26 bits
+// for each, so that the phones of neighbouring columns seldom meet; its remainder by 65521, the largest prime below
+// 65536, spreads.
 use definitions::METASTATE_SIZE;
 use definitions::wide;
 use matrix::Matrix;
@@ -18,7 +19,7 @@ pub fn key_of(number: u64, m: Matrix) -> usize
     let mut key = number;
     let mut c = 0;
     while c < 7 {
-        key = (key << 9) ^ (key >> 55) ^ m.columns[c];
+        key = (key << 26) ^ (key >> 38) ^ m.columns[c];
         c += 1;
     }
     (key % 65521) as usize

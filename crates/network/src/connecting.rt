@@ -391,10 +391,10 @@ pub fn connect(
         r (now (metastates .exit)) (now (arcs .exit))
         ⌝ }
 {
-    if metastates.len() < 8192 {
-        let mut chains = [0u32; 2048];
-        let mut few = [0u32; 6144];
-        let mut short = [0u64; 1024];
+    if metastates.len() < 32768 {
+        let mut chains = [0u32; 8192];
+        let mut few = [0u32; 12288];
+        let mut short = [0u64; 4096];
         return connect_with(
             header,
             nodes,

@@ -25,9 +25,9 @@ connect-with-requires c κs =
     let test = c .before .before .before .before .before in
     let start = entry (test .before) in
     let p = start .pre in
-    let short = cleared-chains 2048 (start .args .metastates .now) (omega (arith, test .if1 .taken)) in
-    let few = cleared-spans 6144 (omega arith) in
-    let index = cleared-index 1024 (omega arith) (omega arith) in
+    let short = cleared-chains 8192 (start .args .metastates .now) (omega (arith, test .if1 .taken)) in
+    let few = cleared-spans 12288 (omega arith) in
+    let index = cleared-index 4096 (omega arith) (omega arith) in
     (p .0, p .1, p .2, p .3, p .4, short .0, short .1, few .0, few .1, index .0, index .1)
 
 same-length : tie.Need-same-length
