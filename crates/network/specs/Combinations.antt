@@ -61,15 +61,15 @@ Modelled header nodes words =
     × (nodeAt (nodesBook header nodes .nodes) (numbered (combinationsIn header words) number .leaves ! state)
     ≡ leaf model))
 
--- where the combinations of a phone end: from any of them on up to there, all have that phone
-pub record EndsAt (combinations : List Combination) (ends : List ℕ) (number : ℕ) : Type 0 where
-  pub later : number < (ends ! (numbered combinations number .phone))
-  pub within : (ends ! (numbered combinations number .phone)) ≤ length combinations
-  pub same-phone : (i : ℕ) → number ≤ i → i < (ends ! (numbered combinations number .phone))
-      → numbered combinations i .phone ≡ numbered combinations number .phone
+-- where the combinations of the phones up to one end: those before there have such phones, those from there on greater
+-- ones
+pub record EndsAt (combinations : List Combination) (ends : List ℕ) (phone : ℕ) : Type 0 where
+  pub within : (ends ! phone) ≤ length combinations
+  pub before : (number : ℕ) → number < (ends ! phone) → numbered combinations number .phone ≤ phone
+  pub after : (number : ℕ) → (ends ! phone) ≤ number → number < length combinations
+      → phone < numbered combinations number .phone
 
 -- where the combinations of each phone end
 pub record Ending (header : Header) (words ends : List ℕ) : Type 0 where
   pub sized : length ends ≡ 65
-  pub ends-at : (number : ℕ) → number < length (combinationsIn header words)
-      → EndsAt (combinationsIn header words) ends number
+  pub ends-at : (phone : ℕ) → phone ≤ header .phones → EndsAt (combinationsIn header words) ends phone

@@ -49,8 +49,7 @@ Marks header words count index =
 pub record Indexed (header : Header) (words index : List ℕ) : Type 0 where
   pub sized : endsSize ≤ length index
   pub small : length index ≤ 262144
-  pub ends-at : (number : ℕ) → number < length (combinationsIn header words)
-      → EndsAt (combinationsIn header words) index number
+  pub ends-at : (phone : ℕ) → phone ≤ header .phones → EndsAt (combinationsIn header words) index phone
   pub marks : Marks header words (length (combinationsIn header words)) index
 
 -- what setting bits leaves: the ends are as they were, and no bit is lost

@@ -2,6 +2,7 @@
 use crate::Sizes;
 use crate::Step;
 use crate::adding::enter;
+use crate::indexing::next_member;
 use crate::records::matrix_of;
 use crate::records::meets;
 use crate::records::phone_of;
@@ -45,7 +46,8 @@ fn follows(header: Header, combinations: &[u64], number: usize, shifted: Matrix)
     meets(combinations, number, shifted, 2 * wide(header.half) + 1)
 }
 
-// Where to look after a combination: at the next, or after all of its phone where the centre lacks that phone.
+// Where to look after a combination: at the next, or, where the centre lacks its phone, at the first of the next phone that
+// the centre has.
 fn after(
     header: Header,
     combinations: &[u64],
@@ -69,7 +71,11 @@ fn after(
     if has_phone(centre, phone) {
         return number + 1;
     }
-    index[wide(phone)] as usize
+    let next = next_member(centre, phone + 1);
+    if header.phones < next {
+        return combinations.len() / COMBINATION_SIZE;
+    }
+    index[wide(next) - 1] as usize
 }
 
 // The first combination from one on that meets a matrix validly, or the number of combinations. Only those in the rows for

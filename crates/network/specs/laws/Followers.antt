@@ -6,9 +6,10 @@ use mathlib.Core.List.{List, [], _∷_}
 use mathlib.Core.Bool.{Bool, true, false}
 use Prim.Native.Nat.{ℕ, zero, suc, _+_, _-_, _*_, _≤_, _<_}
 use native.Mathlib.Omega.{arith}
-use lib.Dec.{T}
+use lib.Dec.{T, ltb, eqb}
 use lib.ListN.{length, take, drop, drop-of-length-le}
 use lib.Seq.{drop-cons, getD-take}
+use borrow.Author.Tests.{ltb-true, ltb-false, eqb-true, eqb-false}
 use Rattle.definitions.specs.declared.Header.{Header}
 use Rattle.definitions.specs.Lists.{_!_}
 use Rattle.definitions.specs.PhoneSets.{has}
@@ -23,7 +24,7 @@ use Rattle.matrix.specs.Shapes.{widthOf, matrixIn, HasWidth}
 use Rattle.matrix.specs.laws.Widths.{width-taken, met-matrix, met-width}
 use Rattle.definitions.specs.laws.Metastates.{numbered}
 use Rattle.network.specs.Combinations.{combinationsIn, IsCombination, Usable, EndsAt}
-use Rattle.network.specs.Indexing.{Indexed}
+use Rattle.network.specs.Indexing.{Indexed, NextMember}
 use Rattle.network.specs.Following.{followsAt, Beyond, NextFollower}
 use Rattle.network.specs.laws.RecordWords.{phone-word, matrix-word}
 
@@ -136,24 +137,75 @@ module _ (header : Header) (words : List ℕ) (usable : Usable header words) (co
       → Beyond shifted cs number (number + 1)
   beyond-one number h invalid = (omega arith, none-one h invalid)
 
-  pub beyond-phone : (ends : List ℕ) (number : ℕ) {phone place entry next : ℕ} → Indexed header words ends
-      → number < length cs → phone ≡ words ! (combinationSize * number) → place ≡ header .half
-      → has phone (columns ! place) ≡ false → entry ≡ phone → next ≡ ends ! entry → Beyond shifted cs number next
-  beyond-phone ends number {phone} {place} {entry} {next} ending h p q missing r n =
-      let at : EndsAt cs ends number = ending .ends-at number h in
-      let end : next ≡ ends ! (numbered cs number .phone) =
-      n ∙ ap (λ (k : ℕ). ends ! k) (r ∙ p ∙ phone-word header words usable number h) in
-      let later : number < next = omega (arith, end, at .later) in
-      let within : next ≤ length cs = omega (arith, end, at .within) in (
-        later,
+  -- where the centre lacks the phone of a combination and those after it, up to one: none follows before that one's
+  -- combinations
+  module _ (index : List ℕ) (ix : Indexed header words index) (number : ℕ) (h : number < length cs)
+      {phone place next : ℕ} (p : phone ≡ words ! (combinationSize * number)) (q : place ≡ header .half)
+      (missing : has phone (columns ! place) ≡ false) (n : NextMember (columns ! place) (phone + 1) next)
+    where
+      its-phone : phone ≡ numbered cs number .phone
+      its-phone = p ∙ phone-word header words usable number h
+
+      -- phones do not descend
+      above : (i : ℕ) → number ≤ i → i < length cs → phone ≤ numbered cs i .phone
+      above i a l =
+          let least : 1 ≤ phone = omega (arith, its-phone, usable .each number h .phone) in
+          let few : phone - 1 ≤ header .phones = omega (arith, its-phone, usable .each number h .phones) in
+          let at : EndsAt cs index (phone - 1) = ix .ends-at (phone - 1) few in
+          by-test (ltb number (index ! (phone - 1)))
+          (λ t. absurd (omega (arith, at .before number (ltb-true number (index ! (phone - 1)) t), its-phone, least)))
+          (λ t.
+          omega (
+            arith,
+            at .after i (omega (arith, ltb-false number (index ! (phone - 1)) t, a)) l,
+            least,
+          ))
+
+      -- a phone from the combination's own on, below the next member
+      not-there : (i : ℕ) → number ≤ i → i < length cs → numbered cs i .phone < next
+          → followsAt shifted cs i ≡ false
+      not-there i a l below =
+          let from : phone ≤ numbered cs i .phone = above i a l in
+          let lacked : has (numbered cs i .phone) (columns ! place) ≡ false =
+          by-test (eqb (numbered cs i .phone) phone)
+          (λ t. ap (λ (k : ℕ). has k (columns ! place)) (eqb-true (numbered cs i .phone) phone t) ∙ missing)
+          (λ t.
+          n .passed (numbered cs i .phone)
+          (omega (arith, from, eqb-false (numbered cs i .phone) phone t)) below) in
+          not-following i l (sym (phone-word header words usable i l)) q lacked
+
+      -- no phone is left
+      pub beyond-all : header .phones < next → Beyond shifted cs number (length cs)
+      beyond-all last = (
+        h,
         record {
-          after = omega (arith, later);
-          within = within;
-          passed = λ i a b.
-              let inside : i < length cs = omega (arith, within) in
-              let same : phone ≡ words ! (combinationSize * i) =
-              p ∙ phone-word header words usable number h ∙ sym (at .same-phone i a (omega (arith, end)))
-              ∙ sym (phone-word header words usable i inside) in
-              not-following i inside same q missing;
+          after = omega (arith, h);
+          within = omega arith;
+          passed = λ i a b. not-there i a b (omega (arith, usable .each i b .phones, last));
         },
       )
+
+      -- the combinations of the next member
+      pub beyond-phones : {end : ℕ} → next ≤ header .phones → end ≡ index ! (next - 1)
+          → Beyond shifted cs number end
+      beyond-phones {end} listed e =
+          let at : EndsAt cs index (next - 1) = ix .ends-at (next - 1) (omega (arith, listed)) in
+          let within : end ≤ length cs = omega (arith, e, at .within) in
+          let later : number < end =
+          by-test (ltb number end) (ltb-true number end)
+          (λ t.
+          absurd (omega (
+            arith,
+            at .after number (omega (arith, ltb-false number end t, e)) h,
+            its-phone,
+            n .after,
+          ))) in (
+            later,
+            record {
+              after = omega (arith, later);
+              within = within;
+              passed = λ i a b.
+                  not-there i a (omega (arith, b, within))
+                  (omega (arith, at .before i (omega (arith, b, e)), n .after));
+            },
+          )

@@ -20,11 +20,11 @@ use Rattle.definitions.specs.PhoneSets.{has, alone}
 use Rattle.definitions.specs.Combinations.{Combination, combinationSize}
 use Rattle.definitions.specs.laws.Tests.{by-test, T-or}
 use Rattle.definitions.specs.laws.PhoneSets.{has-or, has-alone}
-use Rattle.definitions.specs.laws.Metastates.{numbered}
+use Rattle.definitions.specs.laws.Known.{header-ranges}
 use Rattle.network.specs.Combinations.{combinationsIn, Usable, EndsAt, Ending}
 use Rattle.network.specs.Indexing.{endsSize, blockSize, blocksIn, rowAt, IsSet, IsMarked, MarkedBelow, Marks}
 use Rattle.network.specs.Indexing.{Indexed, Marking, NextMember}
-use Rattle.network.specs.laws.RecordWords.{combinations-length, phone-few}
+use Rattle.network.specs.laws.RecordWords.{combinations-length}
 
 -- ---- the next member of a set
 
@@ -327,14 +327,15 @@ indexed header words ends index usable ending room small same marks =
     record {
       sized = room;
       small = small;
-      ends-at = λ number h.
-          let at : EndsAt cs ends number = ending .ends-at number h in
-          let e : (index ! (numbered cs number .phone)) ≡ (ends ! (numbered cs number .phone)) =
-          same (numbered cs number .phone) (omega (arith, phone-few header words usable number h)) in
+      ends-at = λ phone h.
+          let at : EndsAt cs ends phone = ending .ends-at phone h in
+          let few : phone ≤ 64 =
+          omega (arith, h, header-ranges header (usable .header-known) .phones-range .high) in
+          let e : (index ! phone) ≡ (ends ! phone) = same phone (omega (arith, few)) in
           record {
-            later = omega (arith, e, at .later);
             within = omega (arith, e, at .within);
-            same-phone = λ i a b. at .same-phone i a (omega (arith, e, b));
+            before = λ number l. at .before number (omega (arith, e, l));
+            after = λ number l. at .after number (omega (arith, e, l));
           };
       marks = λ number column h. marks number column (omega (arith, h, combinations-length header words));
     }

@@ -4,15 +4,12 @@ use mathlib.Core.Path.{_≡_, refl, ap, ap₂, _∙_, subst}
 use mathlib.Core.List.{List, [], _++_}
 use Prim.Native.Nat.{ℕ, suc, _+_, _-_, _≤_, _<_}
 use native.Mathlib.Omega.{arith}
-use lib.Dec.{ltb}
 use lib.ListN.{length, length-append, List·getD-append}
 use lib.Seq.{getD-append-add}
-use borrow.Author.Tests.{ltb-true, ltb-false}
 use Rattle.definitions.specs.Lists.{_!_, concatMap, upFrom, padded}
 use Rattle.definitions.specs.Tables.{Book}
 use Rattle.definitions.specs.Combinations.{Combination, combinationsOf, combinations}
 use Rattle.definitions.specs.Metastates.{noCombination}
-use Rattle.definitions.specs.laws.Tests.{by-test}
 use Rattle.definitions.specs.laws.Lists.{concatMap-append, map-upFrom-length, map-upFrom-at, padded-length, upFrom-parts}
 use Rattle.definitions.specs.laws.Members.{isIn, in-at, of-concatMap, of-upFrom}
 use Rattle.definitions.specs.laws.SevenWords.{padded-column}
@@ -49,11 +46,11 @@ module _ (book : Book) (sound : Sound book) where
         ∙ ap (concatMap (combinationsOf book)) (upFrom-parts 1 q (book .phones - q))
         ∙ concatMap-append (combinationsOf book) (upFrom 1 q) (upFrom (1 + q) (book .phones - q))
 
-    pub end-within : endOf book q ≤ length (combinations book)
+    end-within : endOf book q ≤ length (combinations book)
     unfolding endOf
     end-within = rw parts (omega (arith, length-append (ofPhones 1 q) others))
 
-    pub before-end : (i : ℕ) → i < endOf book q → numbered (combinations book) i .phone ≤ q
+    before-end : (i : ℕ) → i < endOf book q → numbered (combinations book) i .phone ≤ q
     unfolding endOf
     before-end i k =
         let c : Combination = numbered (ofPhones 1 q) i in
@@ -61,7 +58,7 @@ module _ (book : Book) (sound : Sound book) where
         ap (λ cs. numbered cs i) parts ∙ List·getD-append (ofPhones 1 q) others noCombination i k in
         rw same (omega (arith, phone-range 1 q c (in-at (ofPhones 1 q) i noCombination k)))
 
-    pub from-end : (i : ℕ) → endOf book q ≤ i → i < length (combinations book)
+    from-end : (i : ℕ) → endOf book q ≤ i → i < length (combinations book)
         → q < numbered (combinations book) i .phone
     unfolding endOf
     from-end i k l =
@@ -91,45 +88,11 @@ module _ (book : Book) (sound : Sound book) where
       padded-column 65 (endsOf book) q
       ∙ map-upFrom-at (endOf book) 0 (suc (book .phones)) q q (omega arith) (omega arith)
 
-  -- a combination stands before the end of its phone, and none of its phone before the end of the one below
-  module _ (number : ℕ) (h : number < length (combinations book)) where
-    abbrev own : ℕ
-    own = numbered (combinations book) number .phone
-
-    own-range : (1 ≤ own) × (own ≤ book .phones)
-    unfolding combinations
-    own-range =
-        let c : Combination = numbered (combinations book) number in
-        omega (arith, phone-range 1 (book .phones) c (in-at (combinations book) number noCombination h))
-
-    later : number < endOf book own
-    later =
-        by-test (ltb number (endOf book own)) (ltb-true number (endOf book own)) λ t.
-        let after = from-end own (own-range .1) number (ltb-false number (endOf book own) t) h in
-        absurd (omega arith)
-
-    earlier : endOf book (own - 1) ≤ number
-    earlier =
-        by-test (ltb number (endOf book (own - 1)))
-        (λ t.
-        let below : own - 1 ≤ book .phones = omega (arith, own-range) in
-        let before = before-end (own - 1) below number (ltb-true number (endOf book (own - 1)) t) in
-        absurd (omega (arith, own-range)))
-        (ltb-false number (endOf book (own - 1)))
-
-    same-phone : (i : ℕ) → number ≤ i → i < endOf book own → numbered (combinations book) i .phone ≡ own
-    same-phone i from to =
-        let listed : i < length (combinations book) = omega (arith, end-within own (own-range .1)) in
-        let up-to = before-end own (own-range .1) i to in
-        let below : own - 1 ≤ book .phones = omega (arith, own-range) in
-        let above = from-end (own - 1) below i (omega (arith, earlier)) listed in
-        omega (arith, own-range)
-
-    pub ends-at : EndsAt (combinations book) ends number
-    ends-at =
-        let end : ends ! own ≡ endOf book own = end-at own (own-range .1) in
-        record {
-          later = rw end later;
-          within = rw end (end-within own (own-range .1));
-          same-phone = λ i from to. same-phone i from (subst (λ (e : ℕ). i < e) end to);
-        }
+  pub ends-at : (q : ℕ) → q ≤ book .phones → EndsAt (combinations book) ends q
+  ends-at q h =
+      let end : ends ! q ≡ endOf book q = end-at q h in
+      record {
+        within = rw end (end-within q h);
+        before = λ i to. before-end q h i (subst (λ (e : ℕ). i < e) end to);
+        after = λ i from l. from-end q h i (subst (λ (e : ℕ). e ≤ i) end from) l;
+      }

@@ -172,6 +172,6 @@ module _ (header : Header) (nodes classes roots : List ℕ)
       record {
         sized = ends-sized book sound (ranged .phones-range .high);
         ends-at =
-            back (λ cs. (number : ℕ) → number < length cs → EndsAt cs (padded 65 (endsOf book)) number)
+            back (λ cs. (phone : ℕ) → phone ≤ header .phones → EndsAt cs (padded 65 (endsOf book)) phone)
             (ends-at book sound);
       }

@@ -1,11 +1,24 @@
--- `following::after` meets its contract: where the centre lacks the phone, so it does up to the phone's end.
-use mathlib.Core.Path.{refl, sym, _∙_}
+-- `following::after` meets its contract: where the centre lacks the phone, so it does up to the next phone that it has.
+use mathlib.Core.Path.{sym, ap, subst, _∙_}
+use Prim.Native.Nat.{ℕ, _-_, _≤_}
 use native.Mathlib.Omega.{arith}
+use Rattle.definitions.specs.Lists.{_!_}
+use Rattle.network.specs.Combinations.{combinationsIn}
+use Rattle.network.specs.Following.{Beyond}
+use Rattle.matrix.specs.Shapes.{matrixIn}
+use Rattle.network.specs.laws.RecordWords.{combinations-length, record-phone}
+use Rattle.network.specs.laws.Followers.{narrow, beyond-one, beyond-all, beyond-phones}
 use borrow.Author.Needs.{needs}
-use Rattle.network.specs.laws.RecordWords.{record-phone}
-use Rattle.network.specs.laws.Followers.{narrow, beyond-one, beyond-phone}
 use Rattle.network.proofs.following.after.Statement.{statement}
 use Rattle.network.proofs.following.after.Tie as tie
+
+abbrev entry : tie.After-phone-of → tie.Start
+entry c = c .before .before .before .before .before
+
+phone-few : (c : tie.After-phone-of) → c .phone-of .result ≤ 64
+phone-few c =
+    let start = entry c in
+    omega (arith, c .phone-of .ensures, record-phone _ _ (start .pre .0) _ (start .pre .2) .1)
 
 wide-requires : tie.Need-wide-requires
 wide-requires c κs = search needs
@@ -36,8 +49,32 @@ returns c =
     let start = c .before .before .before .before .before .before .before in
     beyond-one _ _ (start .pre .0) _ (start .pre .3) _ (start .pre .2) (start .pre .4)
 
+add-next-member : tie.Need-add-next-member
+add-next-member c = omega (arith, phone-few (c .before .before))
+
+next-member-requires : tie.Need-next-member-requires
+next-member-requires c κs = (omega arith, omega (arith, phone-few (c .before .before)))
+
+returns-2 : tie.Need-returns-2
+returns-2 c =
+    let member = c .before .before in
+    let left = member .before in
+    let tested = left .before in
+    let known = tested .before in
+    let start = entry known in
+    let a = start .args in
+    subst (λ (n : ℕ).
+    Beyond (matrixIn (a .header .half) (a .t5 .columns)) (combinationsIn (a .header) (a .combinations .now)) (a .number) n)
+    (combinations-length (a .header) (a .combinations .now))
+    (beyond-all _ _ (start .pre .0) _ (start .pre .3) _ (start .pre .1) _ (start .pre .2) (known .phone-of .ensures)
+    (known .before .before .wide .ensures) (sym (tested .has-phone .ensures) ∙ left .if1 .left)
+    (member .next-member .ensures) (c .if2 .taken))
+
 wide-requires-2 : tie.Need-wide-requires-2
 wide-requires-2 c κs = search needs
+
+sub-result : tie.Need-sub-result
+sub-result c = omega (arith, c .wide2 .ensures, c .before .before .before .next-member .ensures .after)
 
 mul-result : tie.Need-mul-result
 mul-result c = search needs
@@ -45,21 +82,29 @@ mul-result c = search needs
 shared-slice-read-result : tie.Need-shared-slice-read-result
 shared-slice-read-result c =
     let widened = c .before in
-    let known = widened .before .before .before in
-    let start = known .before .before .before .before .before in
-    let phone = record-phone _ _ (start .pre .0) _ (start .pre .2) .1 in
-    omega (arith, widened .wide2 .ensures, known .phone-of .ensures, phone, start .pre .1 .sized)
+    let member = widened .before .before .before in
+    let start = entry (member .before .before .before) in
+    omega (
+      arith,
+      widened .wide2 .ensures,
+      member .next-member .ensures .within,
+      member .next-member .ensures .after,
+      start .pre .1 .sized,
+    )
 
-returns-2 : tie.Need-returns-2
-returns-2 c =
+returns-3 : tie.Need-returns-3
+returns-3 c =
     let widened = c .before in
-    let left = widened .before in
+    let test = widened .before in
+    let member = test .before .before in
+    let left = member .before in
     let tested = left .before in
     let known = tested .before in
-    let start = known .before .before .before .before .before in
-    beyond-phone _ _ (start .pre .0) _ (start .pre .3) _ _ (start .pre .1) (start .pre .2)
-    (known .phone-of .ensures) (known .before .before .wide .ensures)
-    (sym (tested .has-phone .ensures) ∙ left .if1 .left) (widened .wide2 .ensures) refl
+    let start = entry known in
+    let a = start .args in
+    beyond-phones _ _ (start .pre .0) _ (start .pre .3) _ (start .pre .1) _ (start .pre .2) (known .phone-of .ensures)
+    (known .before .before .wide .ensures) (sym (tested .has-phone .ensures) ∙ left .if1 .left)
+    (member .next-member .ensures) (test .if2 .left) (ap (λ (k : ℕ). a .index .now ! (k - 1)) (widened .wide2 .ensures))
 
 pub after-spec : {M : Type 1} → statement M
 after-spec =
@@ -72,7 +117,11 @@ after-spec =
     has-phone-requires
     add-result
     returns
+    add-next-member
+    next-member-requires
+    returns-2
     wide-requires-2
+    sub-result
     mul-result
     shared-slice-read-result
-    returns-2)
+    returns-3)
