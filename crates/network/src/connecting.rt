@@ -368,7 +368,7 @@ fn connect_with(
     }
 }
 
-// Connects the combinations into cleared space. Small space gets short chains, few slots for spans and few blocks, so
+// Connects the combinations into cleared space. Small space gets short chains, few slots for spans and a short index, so
 // that a small build clears few words.
 pub fn connect(
     header: Header,
