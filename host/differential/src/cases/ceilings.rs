@@ -1,4 +1,5 @@
-//! Cases at the ceilings: exactly as much as document 01 allows, and one more.
+//! Cases at the ceilings: exactly as much as document 01 allows, and one more. And on both sides of the sizes at which the
+//! library takes other working space.
 
 use super::arcs::{Leaving, OwnNetwork, Writing};
 use super::building::{Building, BuildingBook, Room};
@@ -10,7 +11,7 @@ use super::tables::OwnTables;
 use super::transcription::Transcription;
 use super::Case;
 use fulgwerz::Space;
-use plain::books::{ceilings::*, Book};
+use plain::books::{ceilings::*, recipes::question_free, Book};
 use plain::limits::*;
 
 pub fn cases() -> Vec<Box<dyn Case>> {
@@ -20,6 +21,7 @@ pub fn cases() -> Vec<Box<dyn Case>> {
     arcs(&mut cases);
     largest(&mut cases);
     network(&mut cases);
+    working_space(&mut cases);
     cases
 }
 
@@ -32,7 +34,14 @@ fn combinations(cases: &mut Vec<Box<dyn Case>>) {
 }
 
 fn building(book: &Book, metastates: usize, arcs: usize, turn_limit: u32) -> Box<dyn Case> {
-    let room = Room { combinations: COMBINATION * 50, metastates: METASTATE * metastates, arcs: ARC * arcs };
+    building_with(book, 50, metastates, arcs, turn_limit)
+}
+
+fn building_with(
+    book: &Book, combinations: usize, metastates: usize, arcs: usize, turn_limit: u32,
+) -> Box<dyn Case> {
+    let room =
+        Room { combinations: COMBINATION * combinations, metastates: METASTATE * metastates, arcs: ARC * arcs };
     Box::new(Building { tables: OwnTables::of(book, 0), room, turn_limit })
 }
 
@@ -89,4 +98,19 @@ fn network(cases: &mut Vec<Box<dyn Case>>) {
     cases.push(Box::new(Writing { network, text: text.len() - 1 }));
     cases.push(Box::new(ReadingNetwork { text: text.clone(), arcs: ARC * MOST_ARCS }));
     cases.push(Box::new(ReadingNetwork { text, arcs: ARC * MOST_ARCS - 1 }));
+}
+
+/// 1024 nodes and one more; room for 4095 metastates and one more, with far more combinations than the short index of them
+/// has room for, and with as many metastates as there is room for.
+fn working_space(cases: &mut Vec<Box<dyn Case>>) {
+    for book in [nodes_1024(), nodes_1025()] {
+        cases.push(building_with(&book, 5000, 5000, 100_000, u32::MAX));
+    }
+    let many = combinations_65535();
+    for (metastates, turns) in [(4095, 200), (4096, 200), (65535, 1000)] {
+        cases.push(building_with(&many, 65535, metastates, 50_000, turns));
+    }
+    for (phones, metastates) in [(63, 3969), (63, 4095), (64, 4095), (64, 4096)] {
+        cases.push(building_with(&question_free(1, 2, phones), 64, metastates, 300_000, u32::MAX));
+    }
 }

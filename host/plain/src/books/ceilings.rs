@@ -106,6 +106,21 @@ pub fn deepest_tree() -> Book {
     Ground { half: 1, states: 1, phones: 1, classes: vec![1] }.plant(&[tree])
 }
 
+/// The first phone's tree has 1023 nodes, those of the others are leaves.
+pub fn nodes_1024() -> Book {
+    one_large_tree(2)
+}
+
+pub fn nodes_1025() -> Book {
+    one_large_tree(3)
+}
+
+fn one_large_tree(phones: u32) -> Book {
+    let mut trees = vec![Tree::Leaf; phones as usize];
+    trees[0] = chain(511, |depth| (depth % 3 + 1, depth % 3));
+    Ground { half: 1, states: 1, phones, classes: vec![1, 2, 3] }.plant(&trees)
+}
+
 /// So many questions, each in the yes of the one above, about the class and position that its depth from below gives.
 fn chain(questions: u32, about: impl Fn(u32) -> (u32, u32)) -> Tree {
     (0..questions).fold(Tree::Leaf, |below, depth| {
