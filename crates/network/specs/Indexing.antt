@@ -27,6 +27,10 @@ blocksIn words = length words / combinationSize / blockSize + 1
 abbrev pub rowAt : (phones blocks column p : ℕ) → ℕ
 rowAt phones blocks column p = endsSize + (column * phones + p) * blocks
 
+-- how long an index may be, and how far a row may begin: both are far below what a word holds
+abbrev pub farthest : ℕ
+farthest = 262144
+
 -- a place of a word is set; in words beyond the index all are
 abbrev pub IsSet : (index : List ℕ) → (at place : ℕ) → Type 0
 IsSet index at place = at < length index → T (has place (index ! at))
@@ -48,7 +52,7 @@ Marks header words count index =
 
 pub record Indexed (header : Header) (words index : List ℕ) : Type 0 where
   pub sized : endsSize ≤ length index
-  pub small : length index ≤ 262144
+  pub small : length index ≤ farthest
   pub ends-at : (phone : ℕ) → phone ≤ header .phones → EndsAt (combinationsIn header words) index phone
   pub marks : Marks header words (length (combinationsIn header words)) index
 

@@ -7,12 +7,12 @@ use lib.ListN.{length}
 use Rattle.definitions.specs.Matrices.{Matrix}
 use Rattle.definitions.specs.Combinations.{Combination}
 use Rattle.network.specs.declared.rows.Rows.{Rows}
-use Rattle.network.specs.Indexing.{IsMarked}
+use Rattle.network.specs.Indexing.{farthest, IsMarked}
 use Rattle.network.specs.Following.{followsAt}
 
 -- a row has the bit of each combination that follows
 pub record Admits (shifted : Matrix) (combinations : List Combination) (index : List ℕ) (row : ℕ) : Type 0 where
-  pub near : row ≤ 262144
+  pub near : row ≤ farthest
   pub marked : (number : ℕ) → number < length combinations → followsAt shifted combinations number ≡ true
       → IsMarked index row number
 
@@ -23,7 +23,7 @@ pub record Admitting (shifted : Matrix) (combinations : List Combination) (index
 
 -- rows that begin not too far
 abbrev pub Near : Rows → Type 0
-Near rows = (rows .first ≤ 262144) × (rows .second ≤ 262144) × (rows .third ≤ 262144)
+Near rows = (rows .first ≤ farthest) × (rows .second ≤ farthest) × (rows .third ≤ farthest)
 
 -- the bit of a combination in all three
 pub record AllMarked (index : List ℕ) (rows : Rows) (number : ℕ) : Type 0 where

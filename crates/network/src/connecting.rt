@@ -36,7 +36,7 @@ ghost use Rattle.matrix.specs.Shapes.{widthOf, matrixIn, HasWidth};
 ghost use Rattle.network.specs.Chains.{headsIn};
 ghost use Rattle.network.specs.Combinations.{combinationsIn, nodesBook};
 ghost use Rattle.network.specs.Combinations.{Usable, Modelled, Ending};
-ghost use Rattle.network.specs.Indexing.{endsSize, Indexed};
+ghost use Rattle.network.specs.Indexing.{endsSize, farthest, Indexed};
 ghost use Rattle.network.specs.Networks.{networkHeld, metastateRoom, roomOf, Holds};
 ghost use Rattle.network.specs.Spans.{spanSize, Spanned};
 ghost use Rattle.network.specs.Repeating.{SpannedAfter};
@@ -336,7 +336,7 @@ fn connect_with(
         × (now metastates ≡ cleared (length (now metastates))) × (now arcs ≡ cleared (length (now arcs)))
         × (now chains ≡ cleared (length (now chains))) × (metastateRoom (now metastates) < headsIn (now chains))
         × (spanSize ≤ length (now spans)) × (now spans ≡ cleared (length (now spans)))
-        × (endsSize ≤ length (now index)) × (length (now index) ≤ 262144)
+        × (endsSize ≤ length (now index)) × (length (now index) ≤ farthest)
         ⌝ }
     ensures { λ r. ⌜
         Connected (header .states) (now (metastates .entry)) (now (arcs .entry))
@@ -368,8 +368,8 @@ fn connect_with(
     }
 }
 
-// Connects the combinations into cleared space. Small space gets short chains, few slots for spans and a short index, so
-// that a small build clears few words.
+// Connects the combinations into cleared space. Space for fewer than 4096 metastates gets short chains, few slots for spans
+// and a short index, so that a small build clears few words.
 pub fn connect(
     header: Header,
     nodes: &[u32],

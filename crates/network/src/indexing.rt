@@ -13,7 +13,7 @@ ghost use Rattle.definitions.specs.Combinations.{combinationSize};
 ghost use Rattle.definitions.specs.ForeignTables.{headerKnown};
 ghost use Rattle.definitions.specs.Lists.{_!_};
 ghost use Rattle.definitions.specs.PhoneSets.{has};
-ghost use Rattle.network.specs.Indexing.{endsSize, blocksIn, rowAt, Marking, NextMember, MarkedBelow, Marks};
+ghost use Rattle.network.specs.Indexing.{endsSize, blocksIn, rowAt, farthest, Marking, NextMember, MarkedBelow, Marks};
 
 // How many combinations have their bits in one word, and how many words the ends take.
 pub const BLOCK_SIZE: usize = 64;
@@ -46,7 +46,7 @@ pub fn blocks_in(combinations: &[u64]) -> usize
 // Where the row of a column and a phone begins.
 pub fn row_at(header: Header, blocks: usize, column: usize, phone: u32) -> usize
     requires { ⌜ (header .phones ≤ 64) × (blocks ≤ 1024) × (column < 3) × (phone ≤ 65) ⌝ }
-    ensures { λ r. ⌜ (r ≡ rowAt (header .phones) blocks column phone) × (r ≤ 262144) ⌝ }
+    ensures { λ r. ⌜ (r ≡ rowAt (header .phones) blocks column phone) × (r ≤ farthest) ⌝ }
 {
     ENDS_SIZE + (column * wide(header.phones) + wide(phone)) * blocks
 }

@@ -22,7 +22,7 @@ use Rattle.definitions.specs.laws.Tests.{by-test, T-or}
 use Rattle.definitions.specs.laws.PhoneSets.{has-or, has-alone}
 use Rattle.definitions.specs.laws.Known.{header-ranges}
 use Rattle.network.specs.Combinations.{combinationsIn, Usable, EndsAt, Ending}
-use Rattle.network.specs.Indexing.{endsSize, blockSize, blocksIn, rowAt, IsSet, IsMarked, MarkedBelow, Marks}
+use Rattle.network.specs.Indexing.{endsSize, blockSize, blocksIn, rowAt, farthest, IsSet, IsMarked, MarkedBelow, Marks}
 use Rattle.network.specs.Indexing.{Indexed, Marking, NextMember}
 use Rattle.network.specs.laws.RecordWords.{combinations-length}
 
@@ -244,18 +244,18 @@ module _ {phones blocks number : ℕ} {words : List ℕ} where
       }
 
 -- the combinations before one are marked
-pub record AllMarked (header : Header) (words index₀ : List ℕ) (number : ℕ) (index : List ℕ) : Type 0 where
+pub record CombinationsMarked (header : Header) (words index₀ : List ℕ) (number : ℕ) (index : List ℕ) : Type 0 where
   pub marking : Marking index₀ index
   pub marks : Marks header words number index
 
-pub all-none : (header : Header) (words index : List ℕ) → AllMarked header words index 0 index
+pub all-none : (header : Header) (words index : List ℕ) → CombinationsMarked header words index 0 index
 all-none header words index = record { marking = marking-none index; marks = λ number column h. absurd (omega arith) }
 
 pub all-more : {header : Header} {words index₀ index index′ : List ℕ} {number blocks : ℕ}
-    → AllMarked header words index₀ number index → blocks ≡ blocksIn words → Marking index index′
+    → CombinationsMarked header words index₀ number index → blocks ≡ blocksIn words → Marking index index′
     → ((column : ℕ) → column < header .half
     → MarkedBelow (header .phones) blocks number column (words ! (combinationSize * number + 4 + column)) 65 index′)
-    → AllMarked header words index₀ (number + 1) index′
+    → CombinationsMarked header words index₀ (number + 1) index′
 all-more {header} {words} {index₀} {index} {index′} {number} {blocks} m e more own =
     record {
       marking = marking-more (m .marking) more;
@@ -312,15 +312,15 @@ noted-more {ends} {index₀} {index} {place} {word} n h room e =
     }
 
 -- cleared words are words for an index
-pub cleared-index : (size : ℕ) → endsSize ≤ size → size ≤ 262144
-    → (endsSize ≤ length (cleared size)) × (length (cleared size) ≤ 262144)
+pub cleared-index : (size : ℕ) → endsSize ≤ size → size ≤ farthest
+    → (endsSize ≤ length (cleared size)) × (length (cleared size) ≤ farthest)
 cleared-index size h l =
     let e : length (cleared size) ≡ size = length-replicate {A = ℕ} size 0 in (omega (arith, e, h), omega (arith, e, l))
 
 -- ---- the index of a book's combinations
 
 pub indexed : (header : Header) (words ends index : List ℕ) → Usable header words → Ending header words ends
-    → endsSize ≤ length index → length index ≤ 262144 → ((i : ℕ) → i < endsSize → (index ! i) ≡ (ends ! i))
+    → endsSize ≤ length index → length index ≤ farthest → ((i : ℕ) → i < endsSize → (index ! i) ≡ (ends ! i))
     → Marks header words (length words / combinationSize) index → Indexed header words index
 indexed header words ends index usable ending room small same marks =
     let cs : List Combination = combinationsIn header words in

@@ -27,7 +27,7 @@ use Rattle.matrix.specs.laws.Widths.{width-taken}
 use Rattle.network.specs.declared.rows.Rows.{Rows}
 use Rattle.network.specs.Combinations.{combinationsIn, Usable}
 use Rattle.network.specs.Following.{followsAt}
-use Rattle.network.specs.Indexing.{blockSize, blocksIn, rowAt, IsSet, IsMarked, Indexed, NextMember}
+use Rattle.network.specs.Indexing.{blockSize, blocksIn, rowAt, farthest, IsSet, IsMarked, Indexed, NextMember}
 use Rattle.network.specs.Rows.{Admits, Admitting, Near, AllMarked, NextMarked}
 use Rattle.network.specs.laws.RecordWords.{matrix-word}
 use Rattle.network.specs.laws.Followers.{narrow}
@@ -90,7 +90,7 @@ module _ (header : Header) (words index : List ℕ) (usable : Usable header word
     -- the row of the phone that a column has alone
     pub row-admits : {column phone one row blocks : ℕ} → column < header .half → 1 ≤ phone
         → one ≡ (if leb phone 64 then alone phone else 0) → columns ! column ≡ one → blocks ≡ blocksIn words
-        → row ≡ rowAt (header .phones) blocks column phone → row ≤ 262144 → Admits shifted cs index row
+        → row ≡ rowAt (header .phones) blocks column phone → row ≤ farthest → Admits shifted cs index row
     row-admits {column} {phone} {one} {row} {blocks} left some e f b r near =
         record {
           near = near;

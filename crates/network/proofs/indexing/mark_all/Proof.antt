@@ -3,13 +3,13 @@ use Prim.Native.Nat.{_-_, _/_}
 use native.Mathlib.Omega.{arith}
 use lib.ListN.{length}
 use Rattle.definitions.specs.Combinations.{combinationSize}
-use Rattle.network.specs.laws.Indexing.{AllMarked, all-none, all-more}
+use Rattle.network.specs.laws.Indexing.{CombinationsMarked, all-none, all-more}
 use borrow.Author.Needs.{needs}
 use Rattle.network.proofs.indexing.mark_all.Statement.{statement}
 use Rattle.network.proofs.indexing.mark_all.Tie as tie
 
 abbrev Inv-loop : tie.InvT-loop
-Inv-loop header combinations index₀ blocks number₀ index number = AllMarked header combinations index₀ number index
+Inv-loop header combinations index₀ blocks number₀ index number = CombinationsMarked header combinations index₀ number index
 
 abbrev μ-loop : tie.MeasureT-loop
 μ-loop header combinations index₀ blocks number₀ index number = length combinations / combinationSize - number
