@@ -20,6 +20,7 @@ pub mod WrittenTexts
 pub mod RefusalLines
 pub mod Ranges
 pub mod Tables
+pub mod SaidLines
 pub mod Books
 pub mod Walks
 pub mod Sound

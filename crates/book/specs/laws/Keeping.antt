@@ -1,6 +1,6 @@
 -- Laws about what every line that is taken keeps: counts within the header's, tables wide enough, node lines
 -- that stand together. The next line has room, and its tests and counts are safe.
-use mathlib.Core.Path.{_≡_, refl, sym, _∙_}
+use mathlib.Core.Path.{_≡_, refl, sym, ap, _∙_}
 use mathlib.Core.Logic.{⊎-elim}
 use mathlib.Core.List.{List, [], _∷_, _++_}
 use mathlib.Core.Bool.{Bool, not}
@@ -10,18 +10,17 @@ use lib.Dec.{T, leb, ltb, eqb, leb→le, ltb→lt, eqb→eq}
 use lib.ListN.{length, length-append}
 use borrow.Author.Tests.{lt-ltb, eqb-false, ltb-true, ltb-false, eq-eqb, ne-eqb}
 use Rattle.definitions.specs.declared.Header.{Header}
-use Rattle.definitions.specs.Lists.{concatMap}
 use Rattle.definitions.specs.BookLines.{BookLine, H, Q, N, L, R, headerIn, headerOf, rootCount}
 use Rattle.definitions.specs.BookLines.{nodesOf, nodeIn, rootsOf, rootIn}
 use Rattle.definitions.specs.BookReading.{Lent, nodeSize, wideEnough, bookFollows, bookInOrder, bookComplete}
 use Rattle.definitions.specs.BookReading.{withinHeader, isLineOf, lineNumberFrom}
 use Rattle.definitions.specs.laws.Tests.{T-and, by-test}
-use Rattle.definitions.specs.laws.Lists.{concatMap-snoc-length}
-use Rattle.definitions.specs.laws.Books.{Fits, InRange, roots-few, roomy}
+use Rattle.definitions.specs.laws.SaidLines.{none-says, line-says, nodes-count, roots-count, header-parts}
+use Rattle.definitions.specs.laws.Books.{Fits, InRange, node-started, test-started, roots-few, roomy}
 use Rattle.book.specs.States.{firstNodeFrom, stateOf, HasStates}
 use Rattle.book.specs.Storing.{HasRoom}
 use Rattle.book.specs.laws.Judged.{no-header-fits}
-use Rattle.book.specs.laws.States.{header-more, first-other, first-node, node-started, test-started}
+use Rattle.book.specs.laws.States.{first-other, first-node}
 use Rattle.book.specs.laws.NodeLines.{OfNode, number-early, number-late, number-next, none-or-some}
 
 pub record Kept (lent : Lent) (before : List BookLine) : Type 0 where
@@ -41,15 +40,15 @@ pub record Kept (lent : Lent) (before : List BookLine) : Type 0 where
 
 -- before the first line nothing is asked
 pub kept-none : (lent : Lent) → Kept lent []
-unfolding rootCount headerOf nodesOf rootsOf concatMap
+unfolding rootCount headerOf
 kept-none lent = record {
   in-range = λ l. absurd (omega arith);
   wide = rw (no-header-fits lent) tt;
-  nodes = omega arith;
-  roots = omega arith;
-  after-nodes = λ l. absurd (omega arith);
-  together = λ l. absurd (omega arith);
-  node-lines = λ node l. absurd (omega arith);
+  nodes = rw (none-says .nodes-said) (omega arith);
+  roots = rw (none-says .roots-said) (omega arith);
+  after-nodes = λ l. absurd (omega (arith, ap length (none-says .roots-said)));
+  together = λ l. absurd (omega (arith, ap length (none-says .nodes-said)));
+  node-lines = λ node l. absurd (omega (arith, ap length (none-says .nodes-said)));
 }
 
 -- what one more line must keep
@@ -67,7 +66,7 @@ module _ (lent : Lent) (before : List BookLine) (line : BookLine) where
       → lineNumberFrom 1 node after ≡ firstNodeFrom 1 after + node)
       → Kept lent after
   kept-line k started nodes roots full together numbers =
-      let same : headerOf after ≡ headerOf before = header-more before line started in
+      let same : headerOf after ≡ headerOf before = header-parts before (line ∷ []) started in
       record {
         in-range = λ l. rw same (k .in-range started);
         wide = rw same (k .wide);
@@ -77,14 +76,6 @@ module _ (lent : Lent) (before : List BookLine) (line : BookLine) where
         together = together;
         node-lines = numbers;
       }
-
-  nodes-count : length (nodesOf after) ≡ length (nodesOf before) + length (nodeIn line)
-  unfolding nodesOf
-  nodes-count = concatMap-snoc-length nodeIn before line
-
-  roots-count : length (rootsOf after) ≡ length (rootsOf before) + length (rootIn line)
-  unfolding rootsOf
-  roots-count = concatMap-snoc-length rootIn before line
 
   -- a node's line that was there
   early : Kept lent before → (node : ℕ) → node < length (nodesOf before)
@@ -102,14 +93,14 @@ module _ (lent : Lent) (before : List BookLine) (line : BookLine) where
       → Kept lent after
   kept-other k started none roots full root =
       let count : length (nodesOf after) ≡ length (nodesOf before) + 0 =
-      nodes-count ∙ rw none in
+      nodes-count before line ∙ rw none in
       let first = first-other 1 before line none in
       kept-line k started (omega (arith, k .nodes)) roots (λ l. omega (arith, full l))
       (λ l. omega (
         arith,
         first,
         length-append before (line ∷ []),
-        roots-count,
+        roots-count before line,
         root (omega arith),
         k .together (omega arith),
       ))
@@ -136,8 +127,8 @@ module _ (lent : Lent) (before : List BookLine) (line : BookLine) where
       ⊎-elim (λ e. e) (λ l. absurd (omega (arith, k .after-nodes l)))
       (none-or-some (length (rootsOf before))) in
       let nodes : length (nodesOf after) ≡ length (nodesOf before) + 1 =
-      nodes-count ∙ rw (n .one) in
-      let roots : length (rootsOf after) ≡ 0 = omega (arith, roots-count) in
+      nodes-count before line ∙ rw (n .one) in
+      let roots : length (rootsOf after) ≡ 0 = omega (arith, roots-count before line) in
       let first : firstNodeFrom 1 after + length (nodesOf before) ≡ length before + 1 =
       ⊎-elim (λ e. omega (arith, first-new n e)) (λ l. omega (arith, first-old n l, k .together l))
       (none-or-some (length (nodesOf before))) in
@@ -166,16 +157,20 @@ roots-missing lent before k started t =
 
 pub kept-more : (lent : Lent) (before : List BookLine) (line : BookLine) → Kept lent before
     → T (not (bookComplete before)) → Fits lent before line → Kept lent (before ++ (line ∷ []))
-unfolding bookFollows bookInOrder headerOf headerIn nodesOf nodeIn rootsOf rootIn concatMap isLineOf
-kept-more lent [] (H half states phones classes nodes) k u f = record {
-  in-range = λ l. f .ranged;
-  wide = f .wide;
-  nodes = omega arith;
-  roots = omega arith;
-  after-nodes = λ l. absurd (omega arith);
-  together = λ l. absurd (omega arith);
-  node-lines = λ node l. absurd (omega arith);
-}
+unfolding bookFollows bookInOrder headerOf headerIn nodeIn rootIn isLineOf
+kept-more lent [] (H half states phones classes nodes) k u f =
+    let says = line-says (H half states phones classes nodes) in
+    let no-nodes = ap length (says .nodes-said) in
+    let no-roots = ap length (says .roots-said) in
+    record {
+      in-range = λ l. f .ranged;
+      wide = f .wide;
+      nodes = omega (arith, no-nodes);
+      roots = omega (arith, no-roots);
+      after-nodes = λ l. absurd (omega (arith, no-roots));
+      together = λ l. absurd (omega (arith, no-nodes));
+      node-lines = λ node l. absurd (omega (arith, no-nodes));
+    }
 kept-more lent (x ∷ before) (H half states phones classes nodes) k u f =
     absurd (omega (arith, eqb→eq (suc (length before)) 0 (f .follows)))
 kept-more lent before (Q class phone) k u f =
@@ -183,8 +178,8 @@ kept-more lent before (Q class phone) k u f =
     let no-nodes : length (nodesOf before) ≡ 0 = eqb→eq _ _ none in
     let line : BookLine = Q class phone in
     kept-other lent before line k (ltb→lt _ _ first) refl
-    (omega (arith, k .roots, roots-count lent before line))
-    (λ l. k .after-nodes (omega (arith, roots-count lent before line))) (λ l. absurd (omega arith))
+    (omega (arith, k .roots, roots-count before line))
+    (λ l. k .after-nodes (omega (arith, roots-count before line))) (λ l. absurd (omega arith))
 kept-more lent before (N node class position yesNode noNode) k u f =
     kept-node lent before (N node class position yesNode noNode) k
     (record { number = node; one = refl; line-of = λ other. refl }) refl (f .follows) (f .in-order)
@@ -197,7 +192,7 @@ kept-more lent before (R phone state root) k u f =
     let (first, full) = T-and (ltb 0 (length before)) all .0 (f .follows) in
     let started : 0 < length before = ltb→lt _ _ first in
     kept-other lent before line k started refl
-    (omega (arith, roots-missing lent before k started u, roots-count lent before line))
+    (omega (arith, roots-missing lent before k started u, roots-count before line))
     (λ l. eqb→eq _ _ full) (λ l. refl)
 
 -- ---- what follows
@@ -237,8 +232,8 @@ kept-room lent before (R phone state root) k u f =
 
 pub kept-few : (lent : Lent) (before : List BookLine) → Kept lent before
     → (length (nodesOf before) ≤ 4096) × (length (rootsOf before) ≤ 192)
-unfolding nodesOf rootsOf concatMap
-kept-few lent [] k = (omega arith, omega arith)
+kept-few lent [] k =
+    (rw (none-says .nodes-said) (omega arith), rw (none-says .roots-said) (omega arith))
 kept-few lent (x ∷ before) k =
     let header : Header = headerOf (x ∷ before) in
     let range : InRange header = k .in-range (omega arith) in

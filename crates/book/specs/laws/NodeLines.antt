@@ -9,10 +9,10 @@ use native.Mathlib.Omega.{arith}
 use lib.Dec.{eqb}
 use lib.ListN.{length, length-append}
 use borrow.Author.Tests.{eqb-true, ne-eqb}
-use Rattle.definitions.specs.Lists.{concatMap}
 use Rattle.definitions.specs.BookLines.{BookLine, H, Q, N, L, R, nodesOf, nodeIn}
 use Rattle.definitions.specs.BookReading.{isLineOf, lineNumberFrom}
 use Rattle.definitions.specs.laws.Tests.{by-test}
+use Rattle.definitions.specs.laws.SaidLines.{line-says, nodes-parts}
 use Rattle.book.specs.States.{firstNodeFrom}
 
 -- ---- lines without a node, and others
@@ -41,8 +41,9 @@ none-or-some (suc n) = inr (omega arith)
 
 nodes-cons : (line : BookLine) (lines : List BookLine)
     → length (nodesOf (line ∷ lines)) ≡ length (nodeIn line) + length (nodesOf lines)
-unfolding nodesOf concatMap
-nodes-cons line lines = length-append (nodeIn line) (nodesOf lines)
+nodes-cons line lines =
+    ap length (nodes-parts (line ∷ []) lines) ∙ rw (line-says line .nodes-said)
+    (length-append (nodeIn line) (nodesOf lines))
 
 -- ---- the number of a node's line
 

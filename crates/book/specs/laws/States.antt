@@ -2,13 +2,13 @@
 -- and after one more line it is again what is kept of the lines.
 use mathlib.Core.Path.{_≡_, refl, sym, ap, _∙_}
 use mathlib.Core.List.{List, [], _∷_, _++_, append-nil}
-use mathlib.Core.Bool.{Bool, false, _&&_}
+use mathlib.Core.Bool.{false}
 use Prim.Native.Nat.{ℕ, suc, _+_, _<_}
 use native.Mathlib.Omega.{arith}
-use lib.Dec.{T, ltb, eqb, eqb→eq, ltb→lt}
+use lib.Dec.{T, eqb, eqb→eq}
 use lib.ListN.{length, length-append}
 use borrow.Author.Tests.{ne-eqb}
-use Rattle.definitions.specs.Lists.{if_then_else_, lastPasses, concatMap}
+use Rattle.definitions.specs.Lists.{if_then_else_, lastPasses}
 use Rattle.definitions.specs.Lines.{Line}
 use Rattle.definitions.specs.Reading.{lineTests}
 use Rattle.definitions.specs.BookLines.{BookLine, H, Q, N, L, R, bookLine, headerOf}
@@ -16,8 +16,9 @@ use Rattle.definitions.specs.BookLines.{Member, membersOf, memberIn}
 use Rattle.definitions.specs.BookLines.{TreeNode, nodesOf, nodeIn, rootsOf, rootIn}
 use Rattle.definitions.specs.BookReading.{Lent, bookKind, bookFollows, comesBefore, bookInOrder}
 use Rattle.definitions.specs.BookReading.{bookComplete}
-use Rattle.definitions.specs.laws.Tests.{T-and}
-use Rattle.definitions.specs.laws.Lists.{concatMap-snoc, concatMap-snoc-length}
+use Rattle.definitions.specs.laws.SaidLines.{none-says, line-says, nodes-parts, members-more, nodes-count}
+use Rattle.definitions.specs.laws.SaidLines.{roots-count, header-parts}
+use Rattle.definitions.specs.laws.Books.{node-started, test-started}
 use Rattle.book.specs.declared.State.{State}
 use Rattle.book.specs.declared.Last.the-variants as last
 use Rattle.book.specs.States.{lastOf, firstNodeFrom, stateOf, followsIn, afterLastMember, inOrderIn}
@@ -68,13 +69,6 @@ last-snoc [] m = refl
 last-snoc (a ∷ []) m = refl
 last-snoc (a ∷ b ∷ members) m = last-snoc (b ∷ members) m
 
--- the header stays after the first line
-pub header-more : (before : List BookLine) (line : BookLine) → 0 < length before
-    → headerOf (before ++ (line ∷ [])) ≡ headerOf before
-unfolding headerOf
-header-more [] line h = absurd (omega arith)
-header-more (first ∷ before) line h = refl
-
 -- the first node's line, where one more line has no node
 pub first-other : (at : ℕ) (before : List BookLine) (line : BookLine) → nodeIn line ≡ []
     → firstNodeFrom at (before ++ (line ∷ [])) ≡ firstNodeFrom at before
@@ -86,9 +80,11 @@ first-other at (x ∷ before) line e = rw (first-other (suc at) before line e)
 pub first-node : (at : ℕ) (before : List BookLine) (line : BookLine) → eqb (length (nodeIn line)) 0 ≡ false
     → firstNodeFrom at (before ++ (line ∷ []))
     ≡ (if eqb (length (nodesOf before)) 0 then length before + at else firstNodeFrom at before)
-unfolding firstNodeFrom nodesOf concatMap
-first-node at [] line e = let start : 0 + at ≡ at = omega arith in rw (e, start)
-first-node at (x ∷ before) line e = go (nodeIn x) (first-node (suc at) before line e)
+unfolding firstNodeFrom
+first-node at [] line e = let start : 0 + at ≡ at = omega arith in rw (e, start, none-says .nodes-said)
+first-node at (x ∷ before) line e =
+    rw (nodes-parts (x ∷ []) before, line-says x .nodes-said)
+    (go (nodeIn x) (first-node (suc at) before line e))
   where
     go : (nodes : List TreeNode)
         → firstNodeFrom (suc at) (before ++ (line ∷ []))
@@ -117,53 +113,50 @@ module _ (before : List BookLine) (line : BookLine) where
   lines-more = sym (length-append before (line ∷ []))
 
   last-same : memberIn line ≡ [] → lastOf (membersOf before) ≡ lastOf (membersOf (before ++ (line ∷ [])))
-  unfolding membersOf
-  last-same e = rw (concatMap-snoc memberIn before line, e, append-nil (concatMap memberIn before))
+  last-same e = rw (members-more before line, e, append-nil (membersOf before))
 
-  count-more : {A : Type 0} (f : BookLine → List A) (more : ℕ) → length (f line) ≡ more
-      → length (concatMap f before) + more ≡ length (concatMap f (before ++ (line ∷ [])))
-  count-more f more e = sym (concatMap-snoc-length f before line ∙ rw e)
+  -- as many as before, and one more
+  nodes-same : length (nodeIn line) ≡ 0 → length (nodesOf before) ≡ length (nodesOf (before ++ (line ∷ [])))
+  nodes-same e = omega (arith, nodes-count before line)
 
-  count-same : {A : Type 0} (f : BookLine → List A) → length (f line) ≡ 0
-      → length (concatMap f before) ≡ length (concatMap f (before ++ (line ∷ [])))
-  count-same f e = omega (arith, count-more f 0 e)
+  roots-same : length (rootIn line) ≡ 0 → length (rootsOf before) ≡ length (rootsOf (before ++ (line ∷ [])))
+  roots-same e = omega (arith, roots-count before line)
+
+  nodes-next : length (nodeIn line) ≡ 1
+      → length (nodesOf before) + 1 ≡ length (nodesOf (before ++ (line ∷ [])))
+  nodes-next e = omega (arith, nodes-count before line)
+
+  roots-next : length (rootIn line) ≡ 1
+      → length (rootsOf before) + 1 ≡ length (rootsOf (before ++ (line ∷ [])))
+  roots-next e = omega (arith, roots-count before line)
 
   node-state : 0 < length before → memberIn line ≡ [] → length (nodeIn line) ≡ 1 → length (rootIn line) ≡ 0
       → withNode (stateOf before) ≡ stateOf (before ++ (line ∷ []))
-  unfolding withNode stateOf nodesOf rootsOf
+  unfolding withNode stateOf
   node-state started m n r =
-      same-state lines-more (sym (header-more before line started)) (last-same m) (count-more nodeIn 1 n)
-      (sym (first-node 1 before line (rw n))) (count-same rootIn r)
-
--- a line other than H is never the first
-pub node-started : (before : List BookLine) → T (ltb (length (nodesOf before)) (headerOf before .nodes))
-    → 0 < length before
-unfolding headerOf nodesOf concatMap
-node-started [] t = absurd t
-node-started (x ∷ before) t = omega arith
-
-pub test-started : (before : List BookLine) (b : Bool) → T (ltb 0 (length before) && b) → 0 < length before
-test-started before b t = ltb→lt 0 (length before) (T-and (ltb 0 (length before)) b .0 t .0)
+      same-state lines-more (sym (header-parts before (line ∷ []) started)) (last-same m) (nodes-next n)
+      (sym (first-node 1 before line (rw n))) (roots-same r)
 
 pub next-state : (before : List BookLine) (line : BookLine) → T (bookFollows before line)
     → nextState (stateOf before) line ≡ stateOf (before ++ (line ∷ []))
-unfolding nextState stateOf bookFollows headerOf lastOf firstNodeFrom
-    membersOf memberIn nodesOf nodeIn rootsOf rootIn concatMap
-next-state [] (H half states phones classes nodes) f = refl
+unfolding nextState stateOf bookFollows headerOf lastOf firstNodeFrom memberIn nodeIn rootIn
+next-state [] (H half states phones classes nodes) f =
+    let line : BookLine = H half states phones classes nodes in
+    same-state refl refl (last-same [] line refl) (nodes-same [] line refl) refl (roots-same [] line refl)
 next-state (x ∷ before) (H half states phones classes nodes) f =
     absurd (omega (arith, eqb→eq (suc (length before)) 0 f))
 next-state before (Q class phone) f =
     let line : BookLine = Q class phone in
     let newest : lastOf (membersOf (before ++ (line ∷ []))) ≡ last.Member class phone =
-    ap lastOf (concatMap-snoc memberIn before line) ∙ last-snoc (membersOf before) _ in
-    same-state (lines-more before line) (sym (header-more before line (test-started before _ f))) (sym newest)
-    (count-same before line nodeIn refl) (sym (first-other 1 before line refl))
-    (count-same before line rootIn refl)
+    ap lastOf (members-more before line) ∙ last-snoc (membersOf before) _ in
+    same-state (lines-more before line) (sym (header-parts before (line ∷ []) (test-started before _ f)))
+    (sym newest) (nodes-same before line refl) (sym (first-other 1 before line refl))
+    (roots-same before line refl)
 next-state before (N node class position yesNode noNode) f =
     node-state before (N node class position yesNode noNode) (node-started before f) refl refl refl
 next-state before (L node model) f = node-state before (L node model) (node-started before f) refl refl refl
 next-state before (R phone state root) f =
     let line : BookLine = R phone state root in
-    same-state (lines-more before line) (sym (header-more before line (test-started before _ f)))
-    (last-same before line refl) (count-same before line nodeIn refl)
-    (sym (first-other 1 before line refl)) (count-more before line rootIn 1 refl)
+    same-state (lines-more before line) (sym (header-parts before (line ∷ []) (test-started before _ f)))
+    (last-same before line refl) (nodes-same before line refl)
+    (sym (first-other 1 before line refl)) (roots-next before line refl)

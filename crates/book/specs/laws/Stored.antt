@@ -31,14 +31,15 @@ use Rattle.definitions.specs.laws.PhoneSets.{has-or, same-members}
 use Rattle.definitions.specs.laws.SevenWords.{padded-column}
 use Rattle.definitions.specs.laws.Records.{flat-length}
 use Rattle.definitions.specs.laws.Tables.{node-sized}
-use Rattle.definitions.specs.laws.Books.{Fits, roomy}
+use Rattle.definitions.specs.laws.SaidLines.{none-says, line-says, members-more, nodes-more, roots-more}
+use Rattle.definitions.specs.laws.SaidLines.{header-parts}
+use Rattle.definitions.specs.laws.Books.{Fits, node-started, test-started, roomy}
 use Rattle.tables.specs.Naming.{countsOf}
 use Rattle.tables.specs.laws.Naming.{counts-none, counts-length, counts-named, children-length}
 use Rattle.lines.specs.Putting.{putAt}
 use Rattle.lines.specs.laws.Putting.{put-after, set-after, padded-set, padded-zeros}
 use Rattle.book.specs.Storing.{nodesAfter, classesAfter, rootsAfter, namesIn, countsAfter}
 use Rattle.book.specs.Storing.{nodesStored, classesStored, rootsStored, namesOf, countsStored}
-use Rattle.book.specs.laws.States.{header-more, node-started, test-started}
 use Rattle.book.specs.laws.Keeping.{Kept, kept-few, roots-missing}
 
 -- ---- what each of the numbers counted up gives
@@ -73,23 +74,6 @@ unfolding upFrom
 upFrom-zeros f a zero h = refl
 upFrom-zeros f a (suc count) h =
     ap₂ (λ (x : ℕ) (l : List ℕ). x ∷ l) (h a) (upFrom-zeros f (suc a) count h)
-
--- ---- what a line adds
-
-nodes-more : (before : List BookLine) (line : BookLine)
-    → nodesOf (before ++ (line ∷ [])) ≡ nodesOf before ++ nodeIn line
-unfolding nodesOf
-nodes-more before line = concatMap-snoc nodeIn before line
-
-members-more : (before : List BookLine) (line : BookLine)
-    → membersOf (before ++ (line ∷ [])) ≡ membersOf before ++ memberIn line
-unfolding membersOf
-members-more before line = concatMap-snoc memberIn before line
-
-roots-more : (before : List BookLine) (line : BookLine)
-    → rootsOf (before ++ (line ∷ [])) ≡ rootsOf before ++ rootIn line
-unfolding rootsOf
-roots-more before line = concatMap-snoc rootIn before line
 
 -- ---- the table of nodes
 
@@ -220,12 +204,17 @@ class-put size classes members m low high =
 first-stored : (lent : Lent) (before : List BookLine) (half states phones classes nodes : ℕ)
     → Fits lent before (H half states phones classes nodes)
     → classesStored lent before ≡ classesStored lent (before ++ (H half states phones classes nodes ∷ []))
-unfolding classesStored bookFollows headerOf headerIn membersOf memberIn concatMap
+unfolding classesStored bookFollows headerOf headerIn memberIn
 first-stored lent [] half states phones classes nodes f =
     let size : ℕ = lent .classes in
     let header : Header = headerIn (H half states phones classes nodes) in
     let room : classes ≤ size = roomy lent header (f .wide) .classes in
-    rw (no-members 0, no-members classes)
+    rw (
+      none-says .members-said,
+      line-says (H half states phones classes nodes) .members-said,
+      no-members 0,
+      no-members classes,
+    )
     (padded-zeros size 0 (omega arith) ∙ sym (padded-zeros size classes room))
 first-stored lent (first ∷ before) half states phones classes nodes f =
     absurd (omega (arith, eqb→eq (suc (length before)) 0 (f .follows)))
@@ -240,20 +229,20 @@ classes-stored lent before (Q class phone) k c f =
     let header : Header = headerOf before in
     let parts = T-and (leb class (header .classes)) (leb phone (header .phones)) .0 (f .within) in
     let m : Member = record { class = class; phone = phone } in
-    rw (header-more before (Q class phone) (test-started before _ (f .follows)), members-more)
+    rw (header-parts before (Q class phone ∷ []) (test-started before _ (f .follows)), members-more)
     (class-put (lent .classes) (header .classes) (membersOf before) m (f .ranged .0 .low)
     (leb→le _ _ (parts .0)))
 classes-stored lent before (N node class position yesNode noNode) k c f =
     rw (
-      header-more before (N node class position yesNode noNode) (node-started before (f .follows)),
+      header-parts before (N node class position yesNode noNode ∷ []) (node-started before (f .follows)),
       members-more,
       append-nil,
     )
 classes-stored lent before (L node model) k c f =
-    rw (header-more before (L node model) (node-started before (f .follows)), members-more, append-nil)
+    rw (header-parts before (L node model ∷ []) (node-started before (f .follows)), members-more, append-nil)
 classes-stored lent before (R phone state root) k c f =
     rw (
-      header-more before (R phone state root) (test-started before _ (f .follows)),
+      header-parts before (R phone state root ∷ []) (test-started before _ (f .follows)),
       members-more,
       append-nil,
     )
@@ -318,13 +307,12 @@ pub record NothingStored (lent : Lent) : Type 0 where
   pub counts : countsStored [] ≡ replicate 4096 0
 
 pub stored-none : (lent : Lent) → NothingStored lent
-unfolding nodesStored classesStored rootsStored countsStored namesOf nodesOf membersOf rootsOf headerOf
-    concatMap
+unfolding nodesStored classesStored rootsStored countsStored namesOf headerOf concatMap
 stored-none lent = record {
-  nodes = padded-zeros (lent .nodes) 0 (omega arith);
-  classes = rw (no-members 0) (padded-zeros (lent .classes) 0 (omega arith));
-  roots = padded-zeros (lent .roots) 0 (omega arith);
-  counts = counts-none 4096;
+  nodes = rw (none-says .nodes-said) (padded-zeros (lent .nodes) 0 (omega arith));
+  classes = rw (none-says .members-said, no-members 0) (padded-zeros (lent .classes) 0 (omega arith));
+  roots = rw (none-says .roots-said) (padded-zeros (lent .roots) 0 (omega arith));
+  counts = rw (none-says .nodes-said, none-says .roots-said) (counts-none 4096);
 }
 
 pub record StoredLengths (lent : Lent) (before : List BookLine) : Type 0 where

@@ -9,7 +9,7 @@ use native.Mathlib.Omega.{arith}
 use lib.Dec.{leb, ltb, leb→le, ltb→lt, eqb→eq}
 use lib.ListN.{length, getD}
 use Rattle.definitions.specs.declared.Header.{Header}
-use Rattle.definitions.specs.Lists.{_!_, concatMap}
+use Rattle.definitions.specs.Lists.{_!_}
 use Rattle.definitions.specs.Faults.{answered}
 use Rattle.definitions.specs.Forms.{_‥_}
 use Rattle.definitions.specs.BookLines.{BookLine, H, Q, N, L, R, headerOf, TreeNode, question, leaf}
@@ -19,9 +19,9 @@ use Rattle.definitions.specs.Tables.{Book, bookOf}
 use Rattle.definitions.specs.Lookup.{nodeAt}
 use Rattle.definitions.specs.Tables.{rootOf}
 use Rattle.definitions.specs.laws.Tests.{T-and, T-three}
-use Rattle.definitions.specs.laws.Lists.{concatMap-snoc}
 use Rattle.definitions.specs.laws.Ranges.{Within}
 use Rattle.definitions.specs.laws.Tables.{Heads}
+use Rattle.definitions.specs.laws.SaidLines.{line-says, members-more, nodes-more, roots-more}
 use Rattle.definitions.specs.laws.Books.{InRange, Fits, Orderly, accepted-holds, accepted-orderly}
 use Rattle.definitions.specs.laws.Books.{orderly-heads}
 use Rattle.definitions.specs.laws.Walks.{Forward}
@@ -38,12 +38,10 @@ all-append : {A : Type 0} (P : ℕ → A → Type 0) (at next : ℕ) (k l : List
 all-append P at next [] l e h i = subst (λ n. allFrom P n l) {x = next} {y = at} (omega arith) i
 all-append P at next (x ∷ k) l e h i = (h .0, all-append P (suc at) next k l (omega arith) (h .1) i)
 
--- one line more
-all-more : {A B : Type 0} (P : ℕ → A → Type 0) (f : B → List A) (before : List B) (line : B)
-    → allFrom P 0 (concatMap f before) → allFrom P (length (concatMap f before)) (f line)
-    → allFrom P 0 (concatMap f (before ++ (line ∷ [])))
-all-more P f before line h i =
-    rw (concatMap-snoc f before line) (all-append P 0 _ (concatMap f before) (f line) (omega arith) h i)
+-- a list that one line makes longer
+all-more : {A : Type 0} (P : ℕ → A → Type 0) (k x : List A) {l : List A} → l ≡ k ++ x
+    → allFrom P 0 k → allFrom P (length k) x → allFrom P 0 l
+all-more P k x e h i = rw e (all-append P 0 _ k x (omega arith) h i)
 
 all-at : {A : Type 0} (P : ℕ → A → Type 0) (at : ℕ) (l : List A) (d : A) → allFrom P at l
     → (i n : ℕ) → i < length l → n ≡ at + i → P n (getD l i d)
@@ -142,20 +140,34 @@ members-fit lent before (R phone state root) f = tt
 -- so all nodes, roots and members of an accepted book fit
 pub accepted-fit : (lent : Lent) (text : List ℕ) (lines : List BookLine) → readBook lent text ≡ answered lines
     → AllFit (headerOf lines) lines
-unfolding nodesOf nodeIn rootsOf rootIn membersOf memberIn concatMap
+unfolding nodeIn rootIn memberIn
 accepted-fit lent text lines e =
-    accepted-holds lent (λ lines. AllFit (headerOf lines) lines)
-    (λ half states phones classes nodes f. record { nodes = tt; roots = tt; members = tt }) more text lines e
-    .holds
+    accepted-holds lent (λ lines. AllFit (headerOf lines) lines) alone more text lines e .holds
   where
+    alone : (half states phones classes nodes : ℕ) → Fits lent [] (H half states phones classes nodes)
+        → (let first : List BookLine = H half states phones classes nodes ∷ [] in
+        AllFit (headerOf first) first)
+    alone half states phones classes nodes f =
+        let says = line-says (H half states phones classes nodes) in
+        record {
+          nodes = rw (says .nodes-said) tt;
+          roots = rw (says .roots-said) tt;
+          members = rw (says .members-said) tt;
+        }
+
     more : (before : List BookLine) (line : BookLine) → headerOf (before ++ (line ∷ [])) ≡ headerOf before
         → AllFit (headerOf before) before → Fits lent before line
         → AllFit (headerOf (before ++ (line ∷ []))) (before ++ (line ∷ []))
-    more before line e a f = rw e record {
-      nodes = all-more _ nodeIn before line (a .nodes) (nodes-fit lent before line f);
-      roots = all-more _ rootIn before line (a .roots) (roots-fit lent before line f);
-      members = all-more _ memberIn before line (a .members) (members-fit lent before line f);
-    }
+    more before line e a f =
+        let header : Header = headerOf before in
+        rw e record {
+          nodes = all-more (NodeFits header) (nodesOf before) (nodeIn line) (nodes-more before line)
+              (a .nodes) (nodes-fit lent before line f);
+          roots = all-more (RootFits header) (rootsOf before) (rootIn line) (roots-more before line)
+              (a .roots) (roots-fit lent before line f);
+          members = all-more (MemberFits header) (membersOf before) (memberIn line) (members-more before line)
+              (a .members) (members-fit lent before line f);
+        }
 
 -- ---- soundness
 

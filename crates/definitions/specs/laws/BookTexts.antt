@@ -36,8 +36,9 @@ use Rattle.definitions.specs.laws.Known.{header-known}
 use Rattle.definitions.specs.laws.Accepted.{allFrom, NodeFits, RootFits}
 use Rattle.definitions.specs.laws.WrittenTexts.{Writer, ranged, Next, allNext, next-parts, text-taken}
 use Rattle.definitions.specs.laws.KnownBooks.{Stated}
-use Rattle.definitions.specs.laws.LinesSay.{Says, says-parts, line-says, members-say, nodes-say}
-use Rattle.definitions.specs.laws.LinesSay.{roots-say, lines-say, Before, before-others, before-more}
+use Rattle.definitions.specs.laws.SaidLines.{Says, says-parts, line-says}
+use Rattle.definitions.specs.laws.LinesSay.{members-say, nodes-say, roots-say, lines-say, Before}
+use Rattle.definitions.specs.laws.LinesSay.{before-others, before-more}
 use Rattle.definitions.specs.laws.WrittenBooks.{lineOfNode, linesOfNodes, linesOfRoots, lineOfHeader}
 use Rattle.definitions.specs.laws.WrittenBooks.{lineOfMember}
 use Rattle.definitions.specs.laws.WrittenBooks.{linesOfBook, bookLineFor, book-writes, bookWriter}

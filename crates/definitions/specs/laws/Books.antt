@@ -2,7 +2,7 @@
 -- Each is kept by every line that passes its tests, so it holds of all lines.
 use mathlib.Core.Path.{_≡_, refl, sym, ap, _∙_, subst}
 use mathlib.Core.List.{List, [], _∷_, _++_}
-use mathlib.Core.Bool.{Bool}
+use mathlib.Core.Bool.{Bool, _&&_}
 use Prim.Native.Nat.{ℕ, suc, _+_, _*_, _≤_, _<_}
 use native.Mathlib.Nat.{mul-pos, mul-le-mul}
 use native.Mathlib.Omega.{arith}
@@ -10,7 +10,6 @@ use lib.Dec.{T, leb, ltb, eqb, leb→le, ltb→lt, eqb→eq, lit<}
 use lib.ListN.{length}
 use Rattle.definitions.specs.declared.Fault.the-variants.{Orphan}
 use Rattle.definitions.specs.declared.Header.{Header}
-use Rattle.definitions.specs.Lists.{concatMap}
 use Rattle.definitions.specs.Faults.{Outcome, answered}
 use Rattle.definitions.specs.Lines.{Line}
 use Rattle.definitions.specs.Reading.{lineTests}
@@ -21,11 +20,12 @@ use Rattle.definitions.specs.BookReading.{bookInOrder, childrenGreater, 
 use Rattle.definitions.specs.BookReading.{bookComplete, orphans, judgeNames, readBook}
 use Rattle.definitions.specs.Tables.{bookOf, classSets, tablesLeft, tablesBook}
 use Rattle.definitions.specs.laws.Tests.{T-and, T-three}
-use Rattle.definitions.specs.laws.Lists.{concatMap-snoc-length, map-upFrom-length}
+use Rattle.definitions.specs.laws.Lists.{map-upFrom-length}
 use Rattle.definitions.specs.laws.Judging.{testAt, passes-at, refused-not-answered}
 use Rattle.definitions.specs.laws.Reading.{Passed, text-holds}
 use Rattle.definitions.specs.laws.Ranges.{HeaderRanges, Ranged, line-ranged}
 use Rattle.definitions.specs.laws.Tables.{Heads, tables-book}
+use Rattle.definitions.specs.laws.SaidLines.{line-says, nodes-count, roots-count}
 
 -- what a line that passed its tests says
 pub record Fits (lent : Lent) (before : List BookLine) (line : BookLine) : Type 0 where
@@ -71,6 +71,16 @@ pub record Whole (P : List BookLine → Type 0) (lines : List BookLine) : Type 0
   pub complete : T (bookComplete lines)
   pub named-once : orphans (nodesOf lines) (rootsOf lines) ≡ []
 
+-- a line other than H is never the first
+pub node-started : (before : List BookLine) → T (ltb (length (nodesOf before)) (headerOf before .nodes))
+    → 0 < length before
+unfolding headerOf
+node-started [] t = absurd (omega (arith, ltb→lt (length (nodesOf [])) 0 t))
+node-started (first ∷ before) t = omega arith
+
+pub test-started : (before : List BookLine) (b : Bool) → T (ltb 0 (length before) && b) → 0 < length before
+test-started before b t = ltb→lt 0 (length before) (T-and (ltb 0 (length before)) b .0 t .0)
+
 -- before the first line nothing is said
 abbrev AfterFirst : (List BookLine → Type 0) → List BookLine → Type 0
 AfterFirst P [] = Unit {0}
@@ -85,11 +95,11 @@ module _ (lent : Lent) (P : List BookLine → Type 0)
   where
     keep : (before : List BookLine) (line : BookLine) → AfterFirst P before → Fits lent before line
         → AfterFirst P (before ++ (line ∷ []))
-    unfolding headerOf bookFollows nodesOf concatMap
+    unfolding headerOf bookFollows
     keep [] (H half states phones classes nodes) p f = alone half states phones classes nodes f
     keep [] (Q class phone) p f = absurd (f .follows)
-    keep [] (N node class position yesNode noNode) p f = absurd (f .follows)
-    keep [] (L node model) p f = absurd (f .follows)
+    keep [] (N node class position yesNode noNode) p f = absurd (omega (arith, node-started [] (f .follows)))
+    keep [] (L node model) p f = absurd (omega (arith, node-started [] (f .follows)))
     keep [] (R phone state root) p f = absurd (f .follows)
     keep (first ∷ before) line p f = more (first ∷ before) line refl p f
 
@@ -172,22 +182,23 @@ count-more before (R phone state root) c f h =
 
 accepted-counted : (lent : Lent) (text : List ℕ) (lines : List BookLine) → readBook lent text ≡ answered lines
     → Whole Counted lines
-unfolding headerOf headerIn rootsOf rootIn nodesOf concatMap
+unfolding headerOf headerIn rootIn
 accepted-counted lent = accepted-holds lent Counted alone more
   where
     alone : (half states phones classes nodes : ℕ) → Fits lent [] (H half states phones classes nodes)
         → Counted (H half states phones classes nodes ∷ [])
     alone half states phones classes nodes f =
-        record { in-range = f .ranged; counted = λ h. absurd (omega arith) }
+        let none = line-says (H half states phones classes nodes) .roots-said in
+        record { in-range = f .ranged; counted = λ h. absurd (omega (arith, ap length none)) }
 
     more : (before : List BookLine) (line : BookLine) → headerOf (before ++ (line ∷ [])) ≡ headerOf before
         → Counted before → Fits lent before line → Counted (before ++ (line ∷ []))
     more before line e c f = record {
       in-range = rw e (c .in-range);
       counted = λ z.
-          concatMap-snoc-length nodeIn before line
+          nodes-count before line
           ∙ count-more before line c (f .follows)
-          (subst (λ n. 0 < n) (concatMap-snoc-length rootIn before line) z)
+          (subst (λ n. 0 < n) (roots-count before line) z)
           ∙ ap (λ (header : Header). header .nodes) (sym e);
     }
 

@@ -12,7 +12,7 @@ use lib.Dec.{T, eqb, eqb→eq}
 use lib.Arith.{digits-lt, digits-div, digits-mod}
 use lib.ListN.{length, getD, getElem?}
 use borrow.Author.Tests.{eq-eqb, ne-eqb}
-use Rattle.definitions.specs.Lists.{if_then_else_, concatMap}
+use Rattle.definitions.specs.Lists.{if_then_else_}
 use Rattle.definitions.specs.Faults.{answered}
 use Rattle.definitions.specs.BookLines.{BookLine, H, Q, N, L, R, headerOf, rootCount, leaf, nodesOf}
 use Rattle.definitions.specs.BookLines.{nodeIn, rootsOf, rootIn}
@@ -22,7 +22,7 @@ use Rattle.definitions.specs.Lookup.{nodeAt}
 use Rattle.definitions.specs.Tables.{rootOf}
 use Rattle.definitions.specs.TreesGive.{rootLine, nodeLine}
 use Rattle.definitions.specs.laws.Tests.{T-and, same-tests, eq→eqb}
-use Rattle.definitions.specs.laws.Lists.{concatMap-snoc}
+use Rattle.definitions.specs.laws.SaidLines.{line-says, nodes-more, roots-more}
 use Rattle.definitions.specs.laws.Books.{Fits, accepted-holds, accepted-orderly}
 
 -- ---- looking up by place
@@ -91,14 +91,19 @@ NodeLines lines = (node : ℕ) → nodeLine lines node ≡ getElem? (nodesOf lin
 
 node-lines : (lent : Lent) (text : List ℕ) (lines : List BookLine) → readBook lent text ≡ answered lines
     → NodeLines lines
-unfolding nodeLine nodesOf nodeIn concatMap
+unfolding nodeLine nodeIn
 node-lines lent text lines e =
-    accepted-holds lent NodeLines (λ half states phones classes nodes f node. refl) more text lines e .holds
+    accepted-holds lent NodeLines alone more text lines e .holds
   where
+    alone : (half states phones classes nodes : ℕ) → Fits lent [] (H half states phones classes nodes)
+        → NodeLines (H half states phones classes nodes ∷ [])
+    alone half states phones classes nodes f node =
+        rw (line-says (H half states phones classes nodes) .nodes-said)
+
     more : (before : List BookLine) (line : BookLine) → headerOf (before ++ (line ∷ [])) ≡ headerOf before
         → NodeLines before → Fits lent before line → NodeLines (before ++ (line ∷ []))
     more before line e p f node =
-        node-line-more before line node ∙ rw (p node, concatMap-snoc nodeIn before line)
+        node-line-more before line node ∙ rw (p node, nodes-more before line)
         (found-more (nodesOf before) (nodeIn line) node _ (node-line-new lent before line f node))
 
 -- ---- the line of a root
@@ -160,14 +165,19 @@ RootLines lines =
 
 root-lines : (lent : Lent) (text : List ℕ) (lines : List BookLine) → readBook lent text ≡ answered lines
     → RootLines lines
-unfolding rootLine rootsOf rootIn concatMap
+unfolding rootLine rootIn
 root-lines lent text lines e =
-    accepted-holds lent RootLines (λ half states phones classes nodes f p s h. refl) more text lines e .holds
+    accepted-holds lent RootLines alone more text lines e .holds
   where
+    alone : (half states phones classes nodes : ℕ) → Fits lent [] (H half states phones classes nodes)
+        → RootLines (H half states phones classes nodes ∷ [])
+    alone half states phones classes nodes f p s h =
+        rw (line-says (H half states phones classes nodes) .roots-said)
+
     more : (before : List BookLine) (line : BookLine) → headerOf (before ++ (line ∷ [])) ≡ headerOf before
         → RootLines before → Fits lent before line → RootLines (before ++ (line ∷ []))
     more before line e r f = rw e (λ p s h.
-        root-line-more before line (suc p) (suc s) ∙ rw (r p s h, concatMap-snoc rootIn before line)
+        root-line-more before line (suc p) (suc s) ∙ rw (r p s h, roots-more before line)
         (found-more (rootsOf before) (rootIn line) _ _ (root-line-new lent before line f p s _ h refl)))
 
 -- ---- the lines of an accepted book against its tables

@@ -1,62 +1,35 @@
 -- Laws about what the lines of a written book say: the members, nodes and roots that were written, no others.
 -- The laws about the texts of books use them, of all lines and of those before a line.
-use mathlib.Core.Path.{_≡_, refl, ap, ap₂, _∙_}
+use mathlib.Core.Path.{_≡_, refl, ap, _∙_}
 use mathlib.Core.List.{List, [], _∷_, _++_, map, append-nil}
 use Prim.Native.Nat.{ℕ, suc, _+_, _/_, _%_, _<_}
 use native.Mathlib.Omega.{arith}
 use lib.ListN.{length, length-append}
 use Rattle.definitions.specs.declared.Header.{Header}
-use Rattle.definitions.specs.Lists.{concatMap}
 use Rattle.definitions.specs.BookLines.{BookLine, N, L, R, headerIn, headerOf, Member, memberIn}
 use Rattle.definitions.specs.BookLines.{membersOf, TreeNode, question, leaf, nodeIn, nodesOf, rootIn}
 use Rattle.definitions.specs.BookLines.{rootsOf}
-use Rattle.definitions.specs.laws.Lists.{concatMap-append}
+use Rattle.definitions.specs.laws.SaidLines.{Says, none-says, line-says, says-parts, header-parts}
 use Rattle.definitions.specs.laws.WrittenBooks.{linesOfNodes, linesOfRoots, lineOfHeader, lineOfMember}
 use Rattle.definitions.specs.laws.WrittenBooks.{linesStating}
 
 -- ---- what lines say
 
-pub record Says (lines : List BookLine) (members : List Member) (nodes : List TreeNode) (roots : List ℕ)
-    : Type 0 where
-  pub members-said : membersOf lines ≡ members
-  pub nodes-said : nodesOf lines ≡ nodes
-  pub roots-said : rootsOf lines ≡ roots
-
--- one part after another
-pub says-parts : {k l : List BookLine} {members others : List Member} {nodes more : List TreeNode}
-    {roots further : List ℕ} → Says k members nodes roots → Says l others more further
-    → Says (k ++ l) (members ++ others) (nodes ++ more) (roots ++ further)
-unfolding membersOf nodesOf rootsOf
-says-parts {k} {l} s t =
-    record {
-      members-said = concatMap-append memberIn k l ∙ ap₂ _++_ (s .members-said) (t .members-said);
-      nodes-said = concatMap-append nodeIn k l ∙ ap₂ _++_ (s .nodes-said) (t .nodes-said);
-      roots-said = concatMap-append rootIn k l ∙ ap₂ _++_ (s .roots-said) (t .roots-said);
-    }
-
-pub line-says : (line : BookLine) → Says (line ∷ []) (memberIn line) (nodeIn line) (rootIn line)
-unfolding membersOf nodesOf rootsOf concatMap
-line-says line = record {
-  members-said = append-nil (memberIn line);
-  nodes-said = append-nil (nodeIn line);
-  roots-said = append-nil (rootIn line);
-}
-
 pub members-say : (members : List Member) → Says (map lineOfMember members) members [] []
-unfolding membersOf nodesOf rootsOf memberIn nodeIn rootIn concatMap
-members-say [] = record { members-said = refl; nodes-said = refl; roots-said = refl }
+unfolding memberIn nodeIn rootIn
+members-say [] = none-says
 members-say (m ∷ members) = says-parts (line-says (lineOfMember m)) (members-say members)
 
 pub nodes-say : (at : ℕ) (nodes : List TreeNode) → Says (linesOfNodes at nodes) [] nodes []
-unfolding linesOfNodes membersOf nodesOf rootsOf memberIn nodeIn rootIn concatMap
-nodes-say at [] = record { members-said = refl; nodes-said = refl; roots-said = refl }
+unfolding linesOfNodes memberIn nodeIn rootIn
+nodes-say at [] = none-says
 nodes-say at (question class position yesNode noNode ∷ nodes) =
     says-parts (line-says (N at class position yesNode noNode)) (nodes-say (suc at) nodes)
 nodes-say at (leaf model ∷ nodes) = says-parts (line-says (L at model)) (nodes-say (suc at) nodes)
 
 pub roots-say : (states at : ℕ) (roots : List ℕ) → Says (linesOfRoots states at roots) [] [] roots
-unfolding linesOfRoots membersOf nodesOf rootsOf memberIn nodeIn rootIn concatMap
-roots-say states at [] = record { members-said = refl; nodes-said = refl; roots-said = refl }
+unfolding linesOfRoots memberIn nodeIn rootIn
+roots-say states at [] = none-says
 roots-say states at (root ∷ roots) =
     says-parts (line-says (R (at / states + 1) (at % states + 1) root)) (roots-say states (suc at) roots)
 
@@ -80,20 +53,16 @@ pub record Before (header : Header) (before : List BookLine) (members : List Mem
     pub roots-many : length (rootsOf before) ≡ roots
 
 pub before-others : (header : Header) → Before header (lineOfHeader header ∷ []) [] 0 0
-unfolding headerOf headerIn membersOf nodesOf rootsOf memberIn nodeIn rootIn concatMap
+unfolding headerOf headerIn memberIn nodeIn rootIn
 before-others header =
+    let says = line-says (lineOfHeader header) in
     record {
       some-line = omega arith;
       header-is = refl;
-      members-are = refl;
-      nodes-many = refl;
-      roots-many = refl;
+      members-are = says .members-said;
+      nodes-many = ap length (says .nodes-said);
+      roots-many = ap length (says .roots-said);
     }
-
-header-stays : (before lines : List BookLine) → 0 < length before → headerOf (before ++ lines) ≡ headerOf before
-unfolding headerOf
-header-stays [] lines h = absurd (omega arith)
-header-stays (first ∷ before) lines h = refl
 
 pub before-more : {header : Header} {before lines : List BookLine} {members others : List Member}
     {nodes roots : ℕ} {more : List TreeNode} {further : List ℕ} → Before header before members nodes roots
@@ -105,7 +74,7 @@ before-more {before = before} {lines = lines} b s =
     let all = says-parts own s in
     record {
       some-line = rw length-append (omega (arith, b .some-line));
-      header-is = header-stays before lines (b .some-line) ∙ b .header-is;
+      header-is = header-parts before lines (b .some-line) ∙ b .header-is;
       members-are = all .members-said ∙ rw (b .members-are);
       nodes-many = ap length (all .nodes-said) ∙ rw (length-append, b .nodes-many);
       roots-many = ap length (all .roots-said) ∙ rw (length-append, b .roots-many);

@@ -1,0 +1,84 @@
+-- Laws about what lines say together: the members, nodes and roots of no line, of one, of lines joined, and of
+-- one line more at the end. How `membersOf`, `nodesOf` and `rootsOf` go through the lines is known here alone:
+-- every other proof goes by these laws, nearly always by one line more.
+use mathlib.Core.Path.{_≡_, refl, ap, ap₂, _∙_}
+use mathlib.Core.List.{List, [], _∷_, _++_, append-nil}
+use Prim.Native.Nat.{ℕ, _+_, _<_}
+use native.Mathlib.Omega.{arith}
+use lib.ListN.{length, length-append}
+use Rattle.definitions.specs.Lists.{concatMap}
+use Rattle.definitions.specs.BookLines.{BookLine, headerOf}
+use Rattle.definitions.specs.BookLines.{Member, memberIn, membersOf, TreeNode, nodeIn, nodesOf}
+use Rattle.definitions.specs.BookLines.{rootIn, rootsOf}
+use Rattle.definitions.specs.laws.Lists.{concatMap-append}
+
+-- what lines say
+pub record Says (lines : List BookLine) (members : List Member) (nodes : List TreeNode) (roots : List ℕ)
+    : Type 0 where
+  pub members-said : membersOf lines ≡ members
+  pub nodes-said : nodesOf lines ≡ nodes
+  pub roots-said : rootsOf lines ≡ roots
+
+pub none-says : Says [] [] [] []
+unfolding membersOf nodesOf rootsOf concatMap
+none-says = record { members-said = refl; nodes-said = refl; roots-said = refl }
+
+pub line-says : (line : BookLine) → Says (line ∷ []) (memberIn line) (nodeIn line) (rootIn line)
+unfolding membersOf nodesOf rootsOf concatMap
+line-says line = record {
+  members-said = append-nil (memberIn line);
+  nodes-said = append-nil (nodeIn line);
+  roots-said = append-nil (rootIn line);
+}
+
+-- the header stays after the first line
+pub header-parts : (before lines : List BookLine) → 0 < length before
+    → headerOf (before ++ lines) ≡ headerOf before
+unfolding headerOf
+header-parts [] lines h = absurd (omega arith)
+header-parts (first ∷ before) lines h = refl
+
+-- ---- one part after another
+
+module _ (k l : List BookLine) where
+  pub members-parts : membersOf (k ++ l) ≡ membersOf k ++ membersOf l
+  unfolding membersOf
+  members-parts = concatMap-append memberIn k l
+
+  pub nodes-parts : nodesOf (k ++ l) ≡ nodesOf k ++ nodesOf l
+  unfolding nodesOf
+  nodes-parts = concatMap-append nodeIn k l
+
+  pub roots-parts : rootsOf (k ++ l) ≡ rootsOf k ++ rootsOf l
+  unfolding rootsOf
+  roots-parts = concatMap-append rootIn k l
+
+pub says-parts : {k l : List BookLine} {members others : List Member} {nodes more : List TreeNode}
+    {roots further : List ℕ} → Says k members nodes roots → Says l others more further
+    → Says (k ++ l) (members ++ others) (nodes ++ more) (roots ++ further)
+says-parts {k} {l} s t =
+    record {
+      members-said = members-parts k l ∙ ap₂ _++_ (s .members-said) (t .members-said);
+      nodes-said = nodes-parts k l ∙ ap₂ _++_ (s .nodes-said) (t .nodes-said);
+      roots-said = roots-parts k l ∙ ap₂ _++_ (s .roots-said) (t .roots-said);
+    }
+
+-- ---- one line more, at the end
+
+module _ (before : List BookLine) (line : BookLine) where
+  pub members-more : membersOf (before ++ (line ∷ [])) ≡ membersOf before ++ memberIn line
+  members-more =
+      members-parts before (line ∷ []) ∙ ap (λ m. membersOf before ++ m) (line-says line .members-said)
+
+  pub nodes-more : nodesOf (before ++ (line ∷ [])) ≡ nodesOf before ++ nodeIn line
+  nodes-more = nodes-parts before (line ∷ []) ∙ ap (λ m. nodesOf before ++ m) (line-says line .nodes-said)
+
+  pub roots-more : rootsOf (before ++ (line ∷ [])) ≡ rootsOf before ++ rootIn line
+  roots-more = roots-parts before (line ∷ []) ∙ ap (λ m. rootsOf before ++ m) (line-says line .roots-said)
+
+  -- and so many more
+  pub nodes-count : length (nodesOf (before ++ (line ∷ []))) ≡ length (nodesOf before) + length (nodeIn line)
+  nodes-count = ap length nodes-more ∙ length-append (nodesOf before) (nodeIn line)
+
+  pub roots-count : length (rootsOf (before ++ (line ∷ []))) ≡ length (rootsOf before) + length (rootIn line)
+  roots-count = ap length roots-more ∙ length-append (rootsOf before) (rootIn line)
