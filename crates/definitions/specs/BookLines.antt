@@ -1,5 +1,5 @@
 -- Document 01, "Tree book", its table: the lines of a book, and what they say together.
-use mathlib.Core.List.{List, [], _∷_}
+use mathlib.Core.List.{List, [], _∷_, map}
 use Prim.Native.Nat.{ℕ, _*_}
 use Prim.Native.Char.{code}
 use lib.Dec.{leb, eqb}
@@ -65,20 +65,33 @@ memberIn (R _ _ _) = []
 unfoldable pub membersOf : List BookLine → List Member
 membersOf lines = concatMap memberIn lines
 
--- the nodes of the trees, in the order of their lines
+-- a node of a tree: a question or a leaf
 pub data TreeNode : Type 0 where
   question : (class position yesNode noNode : ℕ) → TreeNode
   leaf : (model : ℕ) → TreeNode
 
-unfoldable pub nodeIn : BookLine → List TreeNode
-nodeIn (H _ _ _ _ _) = []
-nodeIn (Q _ _) = []
-nodeIn (N node class position yesNode noNode) = question class position yesNode noNode ∷ []
-nodeIn (L node model) = leaf model ∷ []
-nodeIn (R _ _ _) = []
+-- the lines of nodes, each with the number that it states: "one N or L per node"
+pub record NodeLine : Type 0 where
+  pub number : ℕ
+  pub node : TreeNode
+
+unfoldable pub nodeLineIn : BookLine → List NodeLine
+nodeLineIn (H _ _ _ _ _) = []
+nodeLineIn (Q _ _) = []
+nodeLineIn (N node class position yesNode noNode) =
+    record { number = node; node = question class position yesNode noNode } ∷ []
+nodeLineIn (L node model) = record { number = node; node = leaf model } ∷ []
+nodeLineIn (R _ _ _) = []
+
+unfoldable pub nodeLinesOf : List BookLine → List NodeLine
+nodeLinesOf lines = concatMap nodeLineIn lines
+
+-- the nodes of the trees, in the order of their lines
+abbrev pub nodeIn : BookLine → List TreeNode
+nodeIn line = map (λ l. l .node) (nodeLineIn line)
 
 unfoldable pub nodesOf : List BookLine → List TreeNode
-nodesOf lines = concatMap nodeIn lines
+nodesOf lines = map (λ l. l .node) (nodeLinesOf lines)
 
 -- the roots, "in R order"
 unfoldable pub rootIn : BookLine → List ℕ

@@ -1,18 +1,19 @@
 -- Document 01, "Tree book": the order and the counts that the lines of a book must keep, and reading a book.
 use mathlib.Core.List.{List, [], _∷_, _++_}
-use mathlib.Core.Bool.{Bool, true, false, not, _&&_, _||_}
+use mathlib.Core.Bool.{Bool, true, not, _&&_, _||_}
 use Prim.Native.Nat.{ℕ, suc, _+_, _*_, _/_, _%_}
 use lib.Dec.{leb, ltb, eqb}
 use lib.ListN.{length}
 use Rattle.definitions.specs.declared.Header.{Header}
 use Rattle.definitions.specs.declared.Fault.the-variants.{Backward, Orphan, Narrow}
 use Rattle.definitions.specs.Faults.{Outcome, answered, refuse, Test, _unless_}
-use Rattle.definitions.specs.Lists.{if_then_else_, select, lastPasses, concatMap, upFrom, occurrences}
+use Rattle.definitions.specs.Lists.{if_then_else_, atLeastOne, select, lastPasses, concatMap, upFrom}
+use Rattle.definitions.specs.Lists.{occurrences}
 use Rattle.definitions.specs.Forms.{bookForms}
 use Rattle.definitions.specs.Reading.{Kind, readText}
 use Rattle.definitions.specs.BookLines.{BookLine, H, Q, N, L, R, bookLine, headerIn, headerOf}
-use Rattle.definitions.specs.BookLines.{rootCount}
-use Rattle.definitions.specs.BookLines.{Member, membersOf, TreeNode, nodesOf, rootsOf, childrenOf}
+use Rattle.definitions.specs.BookLines.{rootCount, Member, membersOf, TreeNode, nodeLineIn, nodesOf}
+use Rattle.definitions.specs.BookLines.{rootsOf, childrenOf}
 
 -- 14 for the letter. "Order: one H; Q lines ..; one N or L per node ..; one R for every phone and state"
 unfoldable pub bookFollows : (before : List BookLine) → BookLine → Bool
@@ -91,12 +92,9 @@ orphans nodes roots =
     let named : List ℕ = concatMap childrenOf nodes ++ roots in
     select (λ node. not (eqb (occurrences node named) 1)) (upFrom 0 (length nodes))
 
+-- whether a line is a node's N or L line
 unfoldable pub isLineOf : (node : ℕ) → BookLine → Bool
-isLineOf node (H _ _ _ _ _) = false
-isLineOf node (Q _ _) = false
-isLineOf node (N other _ _ _ _) = eqb node other
-isLineOf node (L other _) = eqb node other
-isLineOf node (R _ _ _) = false
+isLineOf node line = atLeastOne (λ l. eqb node (l .number)) (nodeLineIn line)
 
 -- the number of a node's line, where the first of these lines has number `at`
 unfoldable pub lineNumberFrom : (at node : ℕ) → List BookLine → ℕ

@@ -1,6 +1,7 @@
 -- The vocabulary on lists that all definitions share, beside the library's own.
 use mathlib.Core.List.{List, [], _∷_, _++_}
 use mathlib.Core.Bool.{Bool, true, false, _&&_, _||_}
+use mathlib.Core.Option.{Option, none, some}
 use Prim.Native.Nat.{ℕ, zero, suc, _-_}
 use lib.Dec.{eqb}
 use lib.ListN.{length, take, drop, getD, replicate}
@@ -28,6 +29,16 @@ atLeastOne test (x ∷ l) = test x || atLeastOne test l
 unfoldable pub select : {A : Type 0} → (A → Bool) → List A → List A
 select test [] = []
 select test (x ∷ l) = if test x then x ∷ select test l else select test l
+
+-- the first element that passes a test
+unfoldable pub firstWhere : {A : Type 0} → (A → Bool) → List A → Option A
+firstWhere test [] = none
+firstWhere test (x ∷ l) = if test x then some x else firstWhere test l
+
+-- what an answer, if there is one, gives
+unfoldable pub mapOption : {A B : Type 0} → (A → B) → Option A → Option B
+mapOption f none = none
+mapOption f (some x) = some (f x)
 
 -- whether the last element, if there is one, passes a test
 unfoldable pub lastPasses : {A : Type 0} → (A → Bool) → List A → Bool

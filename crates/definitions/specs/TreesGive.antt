@@ -1,14 +1,15 @@
 -- Document 01, "Transcription": what the trees give to a sequence of phones, read from the book's lines alone.
 -- Nothing here knows of tables or matrices: it is the meaning that demand 3 holds the network to.
 use mathlib.Core.List.{List, [], _∷_, _++_, map}
-use mathlib.Core.Bool.{Bool, false, _&&_}
+use mathlib.Core.Bool.{Bool, _&&_}
 use mathlib.Core.Option.{Option, none, some}
 use Prim.Native.Nat.{ℕ, zero, suc, _+_, _-_, _*_}
 use lib.Dec.{eqb}
 use lib.ListN.{length, take, drop, replicate}
-use Rattle.definitions.specs.Lists.{if_then_else_, _!_, every, atLeastOne, concatMap, upFrom}
-use Rattle.definitions.specs.BookLines.{BookLine, H, Q, N, L, R, headerOf, isPhone, TreeNode}
-use Rattle.definitions.specs.BookLines.{question, leaf}
+use Rattle.definitions.specs.Lists.{if_then_else_, _!_, every, atLeastOne, firstWhere, mapOption}
+use Rattle.definitions.specs.Lists.{concatMap, upFrom}
+use Rattle.definitions.specs.BookLines.{BookLine, H, Q, N, L, R, headerOf, isPhone, membersOf}
+use Rattle.definitions.specs.BookLines.{TreeNode, question, leaf, nodeLinesOf}
 
 -- "The context of place i in a sequence S has 2n+1 phones: in column c the phone at place i+c−n, or 1 where
 -- that lies beyond either end." With n silences before and after S, place i+c−n of S is place i+c. So the
@@ -35,24 +36,12 @@ rootLine (R p s root ∷ lines) phone state =
 
 -- what the N or L line of a node says
 unfoldable pub nodeLine : List BookLine → (node : ℕ) → Option TreeNode
-nodeLine [] node = none
-nodeLine (H _ _ _ _ _ ∷ lines) node = nodeLine lines node
-nodeLine (Q _ _ ∷ lines) node = nodeLine lines node
-nodeLine (N m class position yesNode noNode ∷ lines) node =
-    if eqb m node then some (question class position yesNode noNode) else nodeLine lines node
-nodeLine (L m model ∷ lines) node = if eqb m node then some (leaf model) else nodeLine lines node
-nodeLine (R _ _ _ ∷ lines) node = nodeLine lines node
+nodeLine lines node = mapOption (λ l. l .node) (firstWhere (λ l. eqb (l .number) node) (nodeLinesOf lines))
 
 -- whether "a Q line puts the context's phone .. into its class"
-unfoldable pub isMemberLine : (class phone : ℕ) → BookLine → Bool
-isMemberLine class phone (H _ _ _ _ _) = false
-isMemberLine class phone (Q c p) = eqb c class && eqb p phone
-isMemberLine class phone (N _ _ _ _ _) = false
-isMemberLine class phone (L _ _) = false
-isMemberLine class phone (R _ _ _) = false
-
 unfoldable pub putInClass : List BookLine → (class phone : ℕ) → Bool
-putInClass lines class phone = atLeastOne (isMemberLine class phone) lines
+putInClass lines class phone =
+    atLeastOne (λ m. eqb (m .class) class && eqb (m .phone) phone) (membersOf lines)
 
 -- "At an N line go to its yes node if a Q line puts the context's phone at its position into its class,
 -- else to its no node. At an L line its model is given." The walk meets greater nodes only, so as many

@@ -3,15 +3,16 @@
 use mathlib.Core.Path.{_≡_, refl, sym, ap, _∙_}
 use mathlib.Core.Logic.{⊎-elim}
 use mathlib.Core.List.{List, [], _∷_, _++_}
-use mathlib.Core.Bool.{Bool, not}
+use mathlib.Core.Bool.{Bool, not, or-false}
 use Prim.Native.Nat.{ℕ, suc, _+_, _*_, _≤_, _<_}
 use native.Mathlib.Omega.{arith}
 use lib.Dec.{T, leb, ltb, eqb, leb→le, ltb→lt, eqb→eq}
 use lib.ListN.{length, length-append}
 use borrow.Author.Tests.{lt-ltb, eqb-false, ltb-true, ltb-false, eq-eqb, ne-eqb}
 use Rattle.definitions.specs.declared.Header.{Header}
+use Rattle.definitions.specs.Lists.{atLeastOne}
 use Rattle.definitions.specs.BookLines.{BookLine, H, Q, N, L, R, headerIn, headerOf, rootCount}
-use Rattle.definitions.specs.BookLines.{nodesOf, nodeIn, rootsOf, rootIn}
+use Rattle.definitions.specs.BookLines.{nodesOf, nodeIn, nodeLineIn, rootsOf, rootIn}
 use Rattle.definitions.specs.BookReading.{Lent, nodeSize, wideEnough, bookFollows, bookInOrder, bookComplete}
 use Rattle.definitions.specs.BookReading.{withinHeader, isLineOf, lineNumberFrom}
 use Rattle.definitions.specs.laws.Tests.{T-and, by-test}
@@ -157,7 +158,7 @@ roots-missing lent before k started t =
 
 pub kept-more : (lent : Lent) (before : List BookLine) (line : BookLine) → Kept lent before
     → T (not (bookComplete before)) → Fits lent before line → Kept lent (before ++ (line ∷ []))
-unfolding bookFollows bookInOrder headerOf headerIn nodeIn rootIn isLineOf
+unfolding bookFollows bookInOrder headerOf headerIn nodeLineIn rootIn isLineOf atLeastOne
 kept-more lent [] (H half states phones classes nodes) k u f =
     let says = line-says (H half states phones classes nodes) in
     let no-nodes = ap length (says .nodes-said) in
@@ -182,9 +183,11 @@ kept-more lent before (Q class phone) k u f =
     (λ l. k .after-nodes (omega (arith, roots-count before line))) (λ l. absurd (omega arith))
 kept-more lent before (N node class position yesNode noNode) k u f =
     kept-node lent before (N node class position yesNode noNode) k
-    (record { number = node; one = refl; line-of = λ other. refl }) refl (f .follows) (f .in-order)
+    (record { number = node; one = refl; line-of = λ other. or-false (eqb other node) }) refl
+    (f .follows) (f .in-order)
 kept-more lent before (L node model) k u f =
-    kept-node lent before (L node model) k (record { number = node; one = refl; line-of = λ other. refl }) refl
+    kept-node lent before (L node model) k
+    (record { number = node; one = refl; line-of = λ other. or-false (eqb other node) }) refl
     (f .follows) (f .in-order)
 kept-more lent before (R phone state root) k u f =
     let line : BookLine = R phone state root in

@@ -3,13 +3,14 @@
 use mathlib.Core.Path.{_≡_, refl, sym, ap, _∙_}
 use mathlib.Core.Logic.{_⊎_, inl, inr, ⊎-elim}
 use mathlib.Core.List.{List, [], _∷_, _++_}
-use mathlib.Core.Bool.{true, false}
+use mathlib.Core.Bool.{true, false, or-false}
 use Prim.Native.Nat.{ℕ, zero, suc, _+_, _≤_, _<_}
 use native.Mathlib.Omega.{arith}
 use lib.Dec.{eqb}
 use lib.ListN.{length, length-append}
 use borrow.Author.Tests.{eqb-true, ne-eqb}
-use Rattle.definitions.specs.BookLines.{BookLine, H, Q, N, L, R, nodesOf, nodeIn}
+use Rattle.definitions.specs.Lists.{atLeastOne}
+use Rattle.definitions.specs.BookLines.{BookLine, H, Q, N, L, R, nodesOf, nodeIn, nodeLineIn}
 use Rattle.definitions.specs.BookReading.{isLineOf, lineNumberFrom}
 use Rattle.definitions.specs.laws.Tests.{by-test}
 use Rattle.definitions.specs.laws.SaidLines.{line-says, nodes-parts}
@@ -27,12 +28,12 @@ pub record OfNode (line : BookLine) : Type 0 where
   pub line-of : (node : ℕ) → isLineOf node line ≡ eqb node number
 
 either : (line : BookLine) → Other line ⊎ OfNode line
-unfolding nodeIn isLineOf
+unfolding nodeLineIn isLineOf atLeastOne
 either (H half states phones classes nodes) = inl (record { no-node = refl; no-line = λ node. refl })
 either (Q class phone) = inl (record { no-node = refl; no-line = λ node. refl })
 either (N node class position yesNode noNode) =
-    inr (record { number = node; one = refl; line-of = λ other. refl })
-either (L node model) = inr (record { number = node; one = refl; line-of = λ other. refl })
+    inr (record { number = node; one = refl; line-of = λ other. or-false (eqb other node) })
+either (L node model) = inr (record { number = node; one = refl; line-of = λ other. or-false (eqb other node) })
 either (R phone state root) = inl (record { no-node = refl; no-line = λ node. refl })
 
 pub none-or-some : (n : ℕ) → (n ≡ 0) ⊎ (0 < n)

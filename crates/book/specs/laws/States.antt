@@ -13,7 +13,7 @@ use Rattle.definitions.specs.Lines.{Line}
 use Rattle.definitions.specs.Reading.{lineTests}
 use Rattle.definitions.specs.BookLines.{BookLine, H, Q, N, L, R, bookLine, headerOf}
 use Rattle.definitions.specs.BookLines.{Member, membersOf, memberIn}
-use Rattle.definitions.specs.BookLines.{TreeNode, nodesOf, nodeIn, rootsOf, rootIn}
+use Rattle.definitions.specs.BookLines.{TreeNode, nodesOf, nodeIn, nodeLineIn, rootsOf, rootIn}
 use Rattle.definitions.specs.BookReading.{Lent, bookKind, bookFollows, comesBefore, bookInOrder}
 use Rattle.definitions.specs.BookReading.{bookComplete}
 use Rattle.definitions.specs.laws.SaidLines.{none-says, line-says, nodes-parts, members-more, nodes-count}
@@ -139,7 +139,7 @@ module _ (before : List BookLine) (line : BookLine) where
 
 pub next-state : (before : List BookLine) (line : BookLine) → T (bookFollows before line)
     → nextState (stateOf before) line ≡ stateOf (before ++ (line ∷ []))
-unfolding nextState stateOf bookFollows headerOf lastOf firstNodeFrom memberIn nodeIn rootIn
+unfolding nextState stateOf bookFollows headerOf lastOf firstNodeFrom memberIn nodeLineIn rootIn
 next-state [] (H half states phones classes nodes) f =
     let line : BookLine = H half states phones classes nodes in
     same-state refl refl (last-same [] line refl) (nodes-same [] line refl) refl (roots-same [] line refl)

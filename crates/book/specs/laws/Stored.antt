@@ -17,9 +17,9 @@ use borrow.Author.Tests.{eq-eqb, ne-eqb}
 use Rattle.definitions.specs.declared.Header.{Header}
 use Rattle.definitions.specs.Lists.{_!_, concatMap, select, upFrom, cleared, padded}
 use Rattle.definitions.specs.PhoneSets.{has, alone, setOf}
-use Rattle.definitions.specs.BookLines.{BookLine, H, Q, N, L, R, headerIn, headerOf}
-use Rattle.definitions.specs.BookLines.{Member, membersOf, memberIn, TreeNode, question, leaf, nodesOf, nodeIn}
-use Rattle.definitions.specs.BookLines.{rootsOf, rootIn, childrenOf}
+use Rattle.definitions.specs.BookLines.{BookLine, H, Q, N, L, R, headerIn, headerOf, Member, membersOf}
+use Rattle.definitions.specs.BookLines.{memberIn, TreeNode, question, leaf, nodesOf, nodeLineIn, rootsOf}
+use Rattle.definitions.specs.BookLines.{rootIn, childrenOf}
 use Rattle.definitions.specs.BookReading.{Lent, nodeSize, bookFollows, bookInOrder, withinHeader}
 use Rattle.definitions.specs.BookReading.{bookComplete}
 use Rattle.definitions.specs.Tables.{nodeWords, phonesOfClass, classSets}
@@ -91,7 +91,7 @@ node-put lent before node =
 pub nodes-stored : (lent : Lent) (before : List BookLine) (line : BookLine) → Kept lent before
     → T (not (bookComplete before)) → Fits lent before line
     → nodesAfter line (nodesStored lent before) ≡ nodesStored lent (before ++ (line ∷ []))
-unfolding nodesAfter nodesStored nodeIn bookInOrder
+unfolding nodesAfter nodesStored nodeLineIn bookInOrder
 nodes-stored lent before (H half states phones classes nodes) k c f = rw (nodes-more, append-nil)
 nodes-stored lent before (Q class phone) k c f = rw (nodes-more, append-nil)
 nodes-stored lent before (N node class position yesNode noNode) k c f =
@@ -268,7 +268,7 @@ few-names lent before k =
 
 names-more : (lent : Lent) (before : List BookLine) (line : BookLine) → Kept lent before
     → T (bookFollows before line) → namesOf before ++ namesIn line ≡ namesOf (before ++ (line ∷ []))
-unfolding namesOf namesIn bookFollows nodeIn rootIn childrenOf
+unfolding namesOf namesIn bookFollows nodeLineIn rootIn childrenOf
 names-more lent before (H half states phones classes nodes) k f = rw (nodes-more, roots-more) (simp append-nil)
 names-more lent before (Q class phone) k f = rw (nodes-more, roots-more) (simp append-nil)
 names-more lent before (N node class position yesNode noNode) k f =

@@ -1,6 +1,6 @@
 -- Opens every definition, so that closed examples compute: `unfolding everything` opens what its line names.
 use Rattle.definitions.specs.Lists.{every, atLeastOne, select, lastPasses, concatMap, upFrom}
-use Rattle.definitions.specs.Lists.{occurrences, same, records, padded}
+use Rattle.definitions.specs.Lists.{firstWhere, mapOption, occurrences, same, records, padded}
 use Rattle.definitions.specs.Faults.{judge, andThen, answerLeft}
 use Rattle.definitions.specs.Numerals.{isDigit, isNumeral, valueOf, numeralWithin, numeral}
 use Rattle.definitions.specs.Lines.{skipSpaces, digitsField, fieldOf, fieldText, formOf, isBlank}
@@ -8,7 +8,8 @@ use Rattle.definitions.specs.Lines.{numbersOf, fieldsOf, withLetter, lin
 use Rattle.definitions.specs.Lines.{lineText, linesOf, endsInLineFeed, wholeLines}
 use Rattle.definitions.specs.Reading.{lineTests, lineRead, readFrom, readText}
 use Rattle.definitions.specs.BookLines.{bookLine, headerIn, headerOf, rootCount, isPhone, memberIn}
-use Rattle.definitions.specs.BookLines.{membersOf, nodeIn, nodesOf, rootIn, rootsOf, childrenOf}
+use Rattle.definitions.specs.BookLines.{membersOf, nodeLineIn, nodeLinesOf, nodesOf, rootIn, rootsOf}
+use Rattle.definitions.specs.BookLines.{childrenOf}
 use Rattle.definitions.specs.BookReading.{bookFollows, withinHeader, comesBefore, bookInOrder}
 use Rattle.definitions.specs.BookReading.{childrenGreater, wideEnough, bookTests, bookComplete}
 use Rattle.definitions.specs.BookReading.{orphans, isLineOf, lineNumberFrom, judgeNames, bookKind}
@@ -44,7 +45,7 @@ use Rattle.definitions.specs.NetworkText.{networkTests, networkComplete,
 use Rattle.definitions.specs.NetworkText.{arcsLeft, arcKnown, neverDescending, networkKnown}
 use Rattle.definitions.specs.NetworkText.{lineOfCounts, lineOfArc, networkText, writeNetwork}
 use Rattle.definitions.specs.TreesGive.{windows, withSilence, contexts, rootLine, nodeLine}
-use Rattle.definitions.specs.TreesGive.{isMemberLine, putInClass, modelBelow, modelGiven, together}
+use Rattle.definitions.specs.TreesGive.{putInClass, modelBelow, modelGiven, together}
 use Rattle.definitions.specs.TreesGive.{modelsAlong, treesGive, silentEnds}
 use Rattle.definitions.specs.Transcription.{modelOf, transcription, isUtterance, transcribe}
 use Rattle.definitions.specs.BookBuilding.{buildRead, buildBook, tablesAfter, buffersAfter}
@@ -52,28 +53,26 @@ use Rattle.definitions.specs.Program.{textOfBuilt, networkOf, refusalTex
 use Rattle.definitions.specs.Program.{program}
 
 unfoldable pub everything : Unit {0}
-unfolding every atLeastOne select lastPasses concatMap upFrom occurrences same records padded judge andThen
-    answerLeft isDigit isNumeral valueOf numeralWithin numeral skipSpaces digitsField fieldOf fieldText
-    formOf isBlank numbersOf fieldsOf withLetter lineOf inRanges inFixedRanges lineText linesOf
-    endsInLineFeed wholeLines lineTests lineRead readFrom readText bookLine headerIn headerOf rootCount
-    isPhone memberIn membersOf nodeIn nodesOf rootIn rootsOf childrenOf bookFollows withinHeader
-    comesBefore bookInOrder childrenGreater wideEnough bookTests bookComplete orphans isLineOf
-    lineNumberFrom judgeNames bookKind readBook phonesOfClass classSets bookOf nodeWords tablesOf
-    noTables tablesLeft nodeOf treeNode nodeRecords tablesBook headerKnown questionKnown leafKnown
-    nodesKnown holdsOnly nodeTableKnown classTableKnown rootTableKnown namedOnce tablesKnown modelAt
-    holdsAt walk leafReached lookupKnown isContext leafLookup leafLookupInTable has alone allPhones
-    without setOf matrixWords rootMatrix yesSide noSide valid meet shift startCut endsHere leavesBelow
-    isBefore insertLeaf ascending rootOf leavesOf choose combinationsOf combinations combinationWords
-    combinationRoom combine combinationSpace firstState lastState arcWords arcOf arcsIn sameMetastate
-    metastateWords startsFrom followersFrom combinationOf phoneOf starts followers modelsOf mayEnd
-    ownArcs finalArcs startEvents turnEvents arcInto placeFrom addArc addMetastate addBoth perform
-    performAll expand turnsFrom connect roomIn build networkIn countsIn buffersOf noBuffers buffersLeft
-    leads accepting withoutZeros modelsCarried phonesCarried partOf leaving partHanded partWords
-    networkLine countsInLine countsOf arcInLine arcsOf isState networkFollows withinCounts
-    networkInOrder networkTests networkComplete networkKind readNetwork arcsLeft arcKnown
-    neverDescending networkKnown lineOfCounts lineOfArc networkText writeNetwork windows withSilence
-    contexts rootLine nodeLine isMemberLine putInClass modelBelow modelGiven together modelsAlong
-    treesGive silentEnds modelOf transcription isUtterance transcribe buildRead buildBook tablesAfter buffersAfter
-    textOfBuilt networkOf
-    refusalText printed program
+unfolding every atLeastOne firstWhere mapOption select lastPasses concatMap upFrom occurrences same records
+    padded judge andThen answerLeft isDigit isNumeral valueOf numeralWithin numeral skipSpaces digitsField
+    fieldOf fieldText formOf isBlank numbersOf fieldsOf withLetter lineOf inRanges inFixedRanges lineText
+    linesOf endsInLineFeed wholeLines lineTests lineRead readFrom readText bookLine headerIn headerOf
+    rootCount isPhone memberIn membersOf nodeLineIn nodeLinesOf nodesOf rootIn rootsOf childrenOf
+    bookFollows withinHeader comesBefore bookInOrder childrenGreater wideEnough bookTests bookComplete
+    orphans isLineOf lineNumberFrom judgeNames bookKind readBook phonesOfClass classSets bookOf nodeWords
+    tablesOf noTables tablesLeft nodeOf treeNode nodeRecords tablesBook headerKnown questionKnown leafKnown
+    nodesKnown holdsOnly nodeTableKnown classTableKnown rootTableKnown namedOnce tablesKnown modelAt holdsAt
+    walk leafReached lookupKnown isContext leafLookup leafLookupInTable has alone allPhones without setOf
+    matrixWords rootMatrix yesSide noSide valid meet shift startCut endsHere leavesBelow isBefore insertLeaf
+    ascending rootOf leavesOf choose combinationsOf combinations combinationWords combinationRoom combine
+    combinationSpace firstState lastState arcWords arcOf arcsIn sameMetastate metastateWords startsFrom
+    followersFrom combinationOf phoneOf starts followers modelsOf mayEnd ownArcs finalArcs startEvents
+    turnEvents arcInto placeFrom addArc addMetastate addBoth perform performAll expand turnsFrom connect
+    roomIn build networkIn countsIn buffersOf noBuffers buffersLeft leads accepting withoutZeros
+    modelsCarried phonesCarried partOf leaving partHanded partWords networkLine countsInLine countsOf
+    arcInLine arcsOf isState networkFollows withinCounts networkInOrder networkTests networkComplete
+    networkKind readNetwork arcsLeft arcKnown neverDescending networkKnown lineOfCounts lineOfArc
+    networkText writeNetwork windows withSilence contexts rootLine nodeLine putInClass modelBelow modelGiven
+    together modelsAlong treesGive silentEnds modelOf transcription isUtterance transcribe buildRead
+    buildBook tablesAfter buffersAfter textOfBuilt networkOf refusalText printed program
 everything = tt

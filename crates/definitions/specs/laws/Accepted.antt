@@ -13,7 +13,8 @@ use Rattle.definitions.specs.Lists.{_!_}
 use Rattle.definitions.specs.Faults.{answered}
 use Rattle.definitions.specs.Forms.{_‥_}
 use Rattle.definitions.specs.BookLines.{BookLine, H, Q, N, L, R, headerOf, TreeNode, question, leaf}
-use Rattle.definitions.specs.BookLines.{nodesOf, nodeIn, rootsOf, rootIn, Member, membersOf, memberIn}
+use Rattle.definitions.specs.BookLines.{nodesOf, nodeIn, nodeLineIn, rootsOf, rootIn, Member, membersOf}
+use Rattle.definitions.specs.BookLines.{memberIn}
 use Rattle.definitions.specs.BookReading.{Lent, withinHeader, bookInOrder, childrenGreater, readBook}
 use Rattle.definitions.specs.Tables.{Book, bookOf}
 use Rattle.definitions.specs.Lookup.{nodeAt}
@@ -39,9 +40,15 @@ all-append P at next [] l e h i = subst (λ n. allFrom P n l) {x = next} {y = at
 all-append P at next (x ∷ k) l e h i = (h .0, all-append P (suc at) next k l (omega arith) (h .1) i)
 
 -- a list that one line makes longer
-all-more : {A : Type 0} (P : ℕ → A → Type 0) (k x : List A) {l : List A} → l ≡ k ++ x
+pub all-more : {A : Type 0} (P : ℕ → A → Type 0) (k x : List A) {l : List A} → l ≡ k ++ x
     → allFrom P 0 k → allFrom P (length k) x → allFrom P 0 l
 all-more P k x e h i = rw e (all-append P 0 _ k x (omega arith) h i)
+
+-- what follows holds too
+pub all-each : {A : Type 0} {P Q : ℕ → A → Type 0} → ((i : ℕ) (x : A) → P i x → Q i x)
+    → (at : ℕ) (l : List A) → allFrom P at l → allFrom Q at l
+all-each f at [] h = tt
+all-each f at (x ∷ l) h = (f at x (h .0), all-each f (suc at) l (h .1))
 
 all-at : {A : Type 0} (P : ℕ → A → Type 0) (at : ℕ) (l : List A) (d : A) → allFrom P at l
     → (i n : ℕ) → i < length l → n ≡ at + i → P n (getD l i d)
@@ -104,7 +111,7 @@ question-fits lent before node class position yesNode noNode f =
 
 nodes-fit : (lent : Lent) (before : List BookLine) (line : BookLine) → Fits lent before line
     → allFrom (NodeFits (headerOf before)) (length (nodesOf before)) (nodeIn line)
-unfolding nodeIn
+unfolding nodeLineIn
 nodes-fit lent before (H half states phones classes nodes) f = tt
 nodes-fit lent before (Q class phone) f = tt
 nodes-fit lent before (N node class position yesNode noNode) f =
@@ -140,7 +147,7 @@ members-fit lent before (R phone state root) f = tt
 -- so all nodes, roots and members of an accepted book fit
 pub accepted-fit : (lent : Lent) (text : List ℕ) (lines : List BookLine) → readBook lent text ≡ answered lines
     → AllFit (headerOf lines) lines
-unfolding nodeIn rootIn memberIn
+unfolding nodeLineIn rootIn memberIn
 accepted-fit lent text lines e =
     accepted-holds lent (λ lines. AllFit (headerOf lines) lines) alone more text lines e .holds
   where

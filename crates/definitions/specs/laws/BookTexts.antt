@@ -20,8 +20,8 @@ use Rattle.definitions.specs.Forms.{bookForms}
 use Rattle.definitions.specs.Lines.{inFixedRanges}
 use Rattle.definitions.specs.Reading.{lineTests}
 use Rattle.definitions.specs.BookLines.{BookLine, N, L, R, noHeader, headerIn, headerOf, rootCount}
-use Rattle.definitions.specs.BookLines.{Member, memberIn, membersOf, TreeNode, question, leaf, nodeIn}
-use Rattle.definitions.specs.BookLines.{rootIn}
+use Rattle.definitions.specs.BookLines.{Member, memberIn, membersOf, TreeNode, question, leaf}
+use Rattle.definitions.specs.BookLines.{nodeLineIn, rootIn}
 use Rattle.definitions.specs.BookReading.{Lent, bookKind, bookFollows, withinHeader, comesBefore}
 use Rattle.definitions.specs.BookReading.{bookInOrder, childrenGreater, wideEnough, bookTests}
 use Rattle.definitions.specs.BookReading.{bookComplete, judgeNames, readBook}
@@ -220,7 +220,7 @@ module _ (lent : Lent) (header : Header) (range : InRange header) where
       → ((k : List Member) (m : Member) (l : List Member) → done ++ rest ≡ k ++ (m ∷ l)
       → T (lastPasses (λ b. comesBefore b m) k))
       → allNext (bookWriter lent) before (map lineOfMember rest)
-  unfolding memberIn nodeIn rootIn
+  unfolding memberIn nodeLineIn rootIn
   members-next before done [] b within ascend = tt
   members-next before done (m ∷ rest) b within ascend =
       let more = before-more b (line-says (lineOfMember m)) in (

@@ -14,7 +14,7 @@ use Rattle.definitions.specs.Faults.{Outcome, answered}
 use Rattle.definitions.specs.Lines.{Line}
 use Rattle.definitions.specs.Reading.{lineTests}
 use Rattle.definitions.specs.BookLines.{BookLine, H, Q, N, L, R, bookLine, headerIn, headerOf}
-use Rattle.definitions.specs.BookLines.{rootCount, nodesOf, nodeIn, rootsOf, rootIn}
+use Rattle.definitions.specs.BookLines.{rootCount, nodesOf, nodeIn, nodeLineIn, rootsOf, rootIn}
 use Rattle.definitions.specs.BookReading.{Lent, nodeSize, bookKind, bookFollows, withinHeader}
 use Rattle.definitions.specs.BookReading.{bookInOrder, childrenGreater, wideEnough, bookTests}
 use Rattle.definitions.specs.BookReading.{bookComplete, orphans, judgeNames, readBook}
@@ -165,7 +165,7 @@ record Counted (lines : List BookLine) : Type 0 where
 count-more : (before : List BookLine) (line : BookLine) → Counted before → T (bookFollows before line)
     → 0 < length (rootsOf before) + length (rootIn line)
     → length (nodesOf before) + length (nodeIn line) ≡ headerOf before .nodes
-unfolding bookFollows headerOf rootIn nodeIn
+unfolding bookFollows headerOf rootIn nodeLineIn
 count-more [] (H half states phones classes nodes) c f h = absurd (omega (arith, c .in-range .nodes-range .low))
 count-more (first ∷ before) (H half states phones classes nodes) c f h =
     absurd (omega (arith, eqb→eq (suc (length before)) 0 f))

@@ -12,18 +12,33 @@ use lib.Dec.{T, eqb, eqb→eq}
 use lib.Arith.{digits-lt, digits-div, digits-mod}
 use lib.ListN.{length, getD, getElem?}
 use borrow.Author.Tests.{eq-eqb, ne-eqb}
-use Rattle.definitions.specs.Lists.{if_then_else_}
+use Rattle.definitions.specs.Lists.{if_then_else_, firstWhere, mapOption}
 use Rattle.definitions.specs.Faults.{answered}
 use Rattle.definitions.specs.BookLines.{BookLine, H, Q, N, L, R, headerOf, rootCount, leaf, nodesOf}
-use Rattle.definitions.specs.BookLines.{nodeIn, rootsOf, rootIn}
+use Rattle.definitions.specs.BookLines.{NodeLine, nodeLineIn, nodeLinesOf, rootsOf, rootIn}
 use Rattle.definitions.specs.BookReading.{Lent, bookInOrder, readBook}
 use Rattle.definitions.specs.Tables.{bookOf}
 use Rattle.definitions.specs.Lookup.{nodeAt}
 use Rattle.definitions.specs.Tables.{rootOf}
 use Rattle.definitions.specs.TreesGive.{rootLine, nodeLine}
 use Rattle.definitions.specs.laws.Tests.{T-and, same-tests, eq→eqb}
-use Rattle.definitions.specs.laws.SaidLines.{line-says, nodes-more, roots-more}
+use Rattle.definitions.specs.laws.Lists.{map-at}
+use Rattle.definitions.specs.laws.SaidLines.{line-says, line-of-node, nodes-lines, node-lines-count}
+use Rattle.definitions.specs.laws.SaidLines.{node-lines-more, roots-more}
+use Rattle.definitions.specs.laws.Accepted.{allFrom, all-more, all-each}
 use Rattle.definitions.specs.laws.Books.{Fits, accepted-holds, accepted-orderly}
+
+-- ---- the first element that passes a test
+
+-- of a list where the one with number n passes a test, and no other: the one at its place
+first-at : {A : Type 0} (test : A → Bool) (n at i : ℕ) (l : List A) (d : A) → n ≡ at + i
+    → allFrom (λ k x. test x ≡ eqb k n) at l → i < length l → firstWhere test l ≡ some (getD l i d)
+unfolding firstWhere
+first-at test n at i [] d e a h = absurd (omega arith)
+first-at test n at zero (x ∷ l) d e a h = rw (a .0, eq-eqb at n (omega arith))
+first-at test n at (suc i) (x ∷ l) d e a h =
+    rw (a .0, ne-eqb at n (λ q. omega arith))
+    (first-at test n (suc at) i l d (omega arith) (a .1) (omega arith))
 
 -- ---- looking up by place
 
@@ -60,51 +75,38 @@ if-or-else false x k l o e = e
 
 -- ---- the line of a node
 
--- one line more is asked last
-node-line-more : (before : List BookLine) (line : BookLine) (node : ℕ)
-    → nodeLine (before ++ (line ∷ [])) node ≡ orElse (nodeLine before node) (nodeLine (line ∷ []) node)
-unfolding nodeLine orElse
-node-line-more [] line node = refl
-node-line-more (H half states phones classes nodes ∷ before) line node = node-line-more before line node
-node-line-more (Q class phone ∷ before) line node = node-line-more before line node
-node-line-more (N m class position yesNode noNode ∷ before) line node =
-    if-or-else (eqb m node) _ _ _ _ (node-line-more before line node)
-node-line-more (L m model ∷ before) line node =
-    if-or-else (eqb m node) _ _ _ _ (node-line-more before line node)
-node-line-more (R phone state root ∷ before) line node = node-line-more before line node
+-- the lines of nodes state the numbers of their places
+abbrev Numbered : List BookLine → Type 0
+Numbered lines = allFrom (λ i l. l .number ≡ i) 0 (nodeLinesOf lines)
 
--- its number is its place among the nodes
-node-line-new : (lent : Lent) (before : List BookLine) (line : BookLine) → Fits lent before line
-    → (node : ℕ) → length (nodesOf before) ≤ node
-    → nodeLine (line ∷ []) node ≡ getElem? (nodeIn line) (node - length (nodesOf before))
-unfolding nodeLine nodeIn bookInOrder
-node-line-new lent before (H half states phones classes nodes) f node h = refl
-node-line-new lent before (Q class phone) f node h = refl
-node-line-new lent before (N m class position yesNode noNode) f node h =
-    rw (eqb→eq m (length (nodesOf before)) (f .in-order)) (found-one (length (nodesOf before)) node _ h)
-node-line-new lent before (L m model) f node h =
-    rw (eqb→eq m (length (nodesOf before)) (f .in-order)) (found-one (length (nodesOf before)) node _ h)
-node-line-new lent before (R phone state root) f node h = refl
+numbered-new : (lent : Lent) (before : List BookLine) (line : BookLine) → Fits lent before line
+    → allFrom (λ i l. l .number ≡ i) (length (nodeLinesOf before)) (nodeLineIn line)
+unfolding nodeLineIn bookInOrder
+numbered-new lent before line f = rw (node-lines-count before) (go line (f .in-order))
+  where
+    go : (line : BookLine) → T (bookInOrder before line)
+        → allFrom (λ i l. l .number ≡ i) (length (nodesOf before)) (nodeLineIn line)
+    go (H half states phones classes nodes) t = tt
+    go (Q class phone) t = tt
+    go (N node class position yesNode noNode) t = (eqb→eq node (length (nodesOf before)) t, tt)
+    go (L node model) t = (eqb→eq node (length (nodesOf before)) t, tt)
+    go (R phone state root) t = tt
 
-abbrev NodeLines : List BookLine → Type 0
-NodeLines lines = (node : ℕ) → nodeLine lines node ≡ getElem? (nodesOf lines) node
-
-node-lines : (lent : Lent) (text : List ℕ) (lines : List BookLine) → readBook lent text ≡ answered lines
-    → NodeLines lines
-unfolding nodeLine nodeIn
-node-lines lent text lines e =
-    accepted-holds lent NodeLines alone more text lines e .holds
+numbered : (lent : Lent) (text : List ℕ) (lines : List BookLine) → readBook lent text ≡ answered lines
+    → Numbered lines
+unfolding nodeLineIn
+numbered lent text lines e = accepted-holds lent Numbered alone more text lines e .holds
   where
     alone : (half states phones classes nodes : ℕ) → Fits lent [] (H half states phones classes nodes)
-        → NodeLines (H half states phones classes nodes ∷ [])
-    alone half states phones classes nodes f node =
-        rw (line-says (H half states phones classes nodes) .nodes-said)
+        → Numbered (H half states phones classes nodes ∷ [])
+    alone half states phones classes nodes f =
+        rw (line-of-node (H half states phones classes nodes)) tt
 
     more : (before : List BookLine) (line : BookLine) → headerOf (before ++ (line ∷ [])) ≡ headerOf before
-        → NodeLines before → Fits lent before line → NodeLines (before ++ (line ∷ []))
-    more before line e p f node =
-        node-line-more before line node ∙ rw (p node, nodes-more before line)
-        (found-more (nodesOf before) (nodeIn line) node _ (node-line-new lent before line f node))
+        → Numbered before → Fits lent before line → Numbered (before ++ (line ∷ []))
+    more before line e p f =
+        all-more (λ i l. l .number ≡ i) (nodeLinesOf before) (nodeLineIn line) (node-lines-more before line) p
+        (numbered-new lent before line f)
 
 -- ---- the line of a root
 
@@ -182,12 +184,23 @@ root-lines lent text lines e =
 
 -- ---- the lines of an accepted book against its tables
 
+noLine : NodeLine
+noLine = record { number = 0; node = leaf 0 }
+
 module _ (lent : Lent) (text : List ℕ) (lines : List BookLine)
     (e : readBook lent text ≡ answered lines)
   where
     pub accepted-node-line : (node : ℕ) → node < length (nodesOf lines)
         → nodeLine lines node ≡ some (nodeAt (nodesOf lines) node)
-    accepted-node-line node h = node-lines lent text lines e node ∙ found-at (nodesOf lines) node (leaf 0) h
+    unfolding nodeLine mapOption
+    accepted-node-line node h =
+        let places = all-each (λ i l (q : l .number ≡ i). ap (λ (m : ℕ). eqb m node) q) 0
+        (nodeLinesOf lines) (numbered lent text lines e) in
+        let listed : node < length (nodeLinesOf lines) = omega (arith, node-lines-count lines) in
+        let found = first-at (λ l. eqb (l .number) node) node 0 node (nodeLinesOf lines) noLine
+        (omega arith) places listed in
+        rw (found, nodes-lines lines)
+        (ap some (sym (map-at (λ l. l .node) (nodeLinesOf lines) noLine (leaf 0) node listed)))
 
     pub accepted-root-line : (phone state : ℕ) → 1 ≤ phone → phone ≤ headerOf lines .phones
         → 1 ≤ state → state ≤ headerOf lines .states

@@ -7,8 +7,8 @@ use native.Mathlib.Omega.{arith}
 use lib.ListN.{length, length-append}
 use Rattle.definitions.specs.declared.Header.{Header}
 use Rattle.definitions.specs.BookLines.{BookLine, N, L, R, headerIn, headerOf, Member, memberIn}
-use Rattle.definitions.specs.BookLines.{membersOf, TreeNode, question, leaf, nodeIn, nodesOf, rootIn}
-use Rattle.definitions.specs.BookLines.{rootsOf}
+use Rattle.definitions.specs.BookLines.{membersOf, TreeNode, question, leaf, nodeLineIn, nodesOf}
+use Rattle.definitions.specs.BookLines.{rootIn, rootsOf}
 use Rattle.definitions.specs.laws.SaidLines.{Says, none-says, line-says, says-parts, header-parts}
 use Rattle.definitions.specs.laws.WrittenBooks.{linesOfNodes, linesOfRoots, lineOfHeader, lineOfMember}
 use Rattle.definitions.specs.laws.WrittenBooks.{linesStating}
@@ -16,26 +16,26 @@ use Rattle.definitions.specs.laws.WrittenBooks.{linesStating}
 -- ---- what lines say
 
 pub members-say : (members : List Member) → Says (map lineOfMember members) members [] []
-unfolding memberIn nodeIn rootIn
+unfolding memberIn nodeLineIn rootIn
 members-say [] = none-says
 members-say (m ∷ members) = says-parts (line-says (lineOfMember m)) (members-say members)
 
 pub nodes-say : (at : ℕ) (nodes : List TreeNode) → Says (linesOfNodes at nodes) [] nodes []
-unfolding linesOfNodes memberIn nodeIn rootIn
+unfolding linesOfNodes memberIn nodeLineIn rootIn
 nodes-say at [] = none-says
 nodes-say at (question class position yesNode noNode ∷ nodes) =
     says-parts (line-says (N at class position yesNode noNode)) (nodes-say (suc at) nodes)
 nodes-say at (leaf model ∷ nodes) = says-parts (line-says (L at model)) (nodes-say (suc at) nodes)
 
 pub roots-say : (states at : ℕ) (roots : List ℕ) → Says (linesOfRoots states at roots) [] [] roots
-unfolding linesOfRoots memberIn nodeIn rootIn
+unfolding linesOfRoots memberIn nodeLineIn rootIn
 roots-say states at [] = none-says
 roots-say states at (root ∷ roots) =
     says-parts (line-says (R (at / states + 1) (at % states + 1) root)) (roots-say states (suc at) roots)
 
 pub lines-say : (header : Header) (members : List Member) (nodes : List TreeNode) (roots : List ℕ)
     → Says (linesStating header members nodes roots) members nodes roots
-unfolding memberIn nodeIn rootIn
+unfolding memberIn nodeLineIn rootIn
 lines-say header members nodes roots =
     let others = says-parts (members-say members) (nodes-say 0 nodes) in
     let after = says-parts others (roots-say (header .states) 0 roots) in
@@ -53,7 +53,7 @@ pub record Before (header : Header) (before : List BookLine) (members : List Mem
     pub roots-many : length (rootsOf before) ≡ roots
 
 pub before-others : (header : Header) → Before header (lineOfHeader header ∷ []) [] 0 0
-unfolding headerOf headerIn memberIn nodeIn rootIn
+unfolding headerOf headerIn memberIn nodeLineIn rootIn
 before-others header =
     let says = line-says (lineOfHeader header) in
     record {

@@ -1,16 +1,16 @@
--- Laws about what lines say together: the members, nodes and roots of no line, of one, of lines joined, and of
--- one line more at the end. How `membersOf`, `nodesOf` and `rootsOf` go through the lines is known here alone:
--- every other proof goes by these laws, nearly always by one line more.
-use mathlib.Core.Path.{_≡_, refl, ap, ap₂, _∙_}
-use mathlib.Core.List.{List, [], _∷_, _++_, append-nil}
-use Prim.Native.Nat.{ℕ, _+_, _<_}
+-- Laws about what lines say together: the members, nodes and roots of no line, of one, of lines joined, and
+-- of one line more at the end. How `membersOf`, `nodesOf` and `rootsOf` go through the lines is known here
+-- alone: every other proof goes by these laws, nearly always by one line more.
+use mathlib.Core.Path.{_≡_, refl, sym, ap, ap₂, _∙_}
+use mathlib.Core.List.{List, [], _∷_, _++_, map, append-nil, map-append}
+use Prim.Native.Nat.{ℕ, _+_, _≤_, _<_}
 use native.Mathlib.Omega.{arith}
-use lib.ListN.{length, length-append}
+use lib.ListN.{length, length-append, length-map}
 use Rattle.definitions.specs.Lists.{concatMap}
-use Rattle.definitions.specs.BookLines.{BookLine, headerOf}
+use Rattle.definitions.specs.BookLines.{BookLine, H, Q, N, L, R, headerOf}
 use Rattle.definitions.specs.BookLines.{Member, memberIn, membersOf, TreeNode, nodeIn, nodesOf}
-use Rattle.definitions.specs.BookLines.{rootIn, rootsOf}
-use Rattle.definitions.specs.laws.Lists.{concatMap-append}
+use Rattle.definitions.specs.BookLines.{nodeLineIn, nodeLinesOf, rootIn, rootsOf}
+use Rattle.definitions.specs.laws.Lists.{concatMap-append, concatMap-snoc}
 
 -- what lines say
 pub record Says (lines : List BookLine) (members : List Member) (nodes : List TreeNode) (roots : List ℕ)
@@ -20,16 +20,29 @@ pub record Says (lines : List BookLine) (members : List Member) (nodes : List Tr
   pub roots-said : rootsOf lines ≡ roots
 
 pub none-says : Says [] [] [] []
-unfolding membersOf nodesOf rootsOf concatMap
+unfolding membersOf nodesOf nodeLinesOf rootsOf concatMap
 none-says = record { members-said = refl; nodes-said = refl; roots-said = refl }
 
 pub line-says : (line : BookLine) → Says (line ∷ []) (memberIn line) (nodeIn line) (rootIn line)
-unfolding membersOf nodesOf rootsOf concatMap
+unfolding membersOf nodesOf nodeLinesOf rootsOf concatMap
 line-says line = record {
   members-said = append-nil (memberIn line);
-  nodes-said = append-nil (nodeIn line);
+  nodes-said = ap (map (λ l. l .node)) (append-nil (nodeLineIn line));
   roots-said = append-nil (rootIn line);
 }
+
+pub line-of-node : (line : BookLine) → nodeLinesOf (line ∷ []) ≡ nodeLineIn line
+unfolding nodeLinesOf concatMap
+line-of-node line = append-nil (nodeLineIn line)
+
+-- the nodes are those of their lines
+pub nodes-lines : (lines : List BookLine) → nodesOf lines ≡ map (λ l. l .node) (nodeLinesOf lines)
+unfolding nodesOf
+nodes-lines lines = refl
+
+pub node-lines-count : (lines : List BookLine) → length (nodeLinesOf lines) ≡ length (nodesOf lines)
+unfolding nodesOf
+node-lines-count lines = sym (length-map (nodeLinesOf lines) (λ l. l .node))
 
 -- the header stays after the first line
 pub header-parts : (before lines : List BookLine) → 0 < length before
@@ -45,9 +58,13 @@ module _ (k l : List BookLine) where
   unfolding membersOf
   members-parts = concatMap-append memberIn k l
 
+  pub node-lines-parts : nodeLinesOf (k ++ l) ≡ nodeLinesOf k ++ nodeLinesOf l
+  unfolding nodeLinesOf
+  node-lines-parts = concatMap-append nodeLineIn k l
+
   pub nodes-parts : nodesOf (k ++ l) ≡ nodesOf k ++ nodesOf l
   unfolding nodesOf
-  nodes-parts = concatMap-append nodeIn k l
+  nodes-parts = ap (map (λ x. x .node)) node-lines-parts ∙ map-append _ (nodeLinesOf k) (nodeLinesOf l)
 
   pub roots-parts : rootsOf (k ++ l) ≡ rootsOf k ++ rootsOf l
   unfolding rootsOf
@@ -70,6 +87,10 @@ module _ (before : List BookLine) (line : BookLine) where
   members-more =
       members-parts before (line ∷ []) ∙ ap (λ m. membersOf before ++ m) (line-says line .members-said)
 
+  pub node-lines-more : nodeLinesOf (before ++ (line ∷ [])) ≡ nodeLinesOf before ++ nodeLineIn line
+  unfolding nodeLinesOf
+  node-lines-more = concatMap-snoc nodeLineIn before line
+
   pub nodes-more : nodesOf (before ++ (line ∷ [])) ≡ nodesOf before ++ nodeIn line
   nodes-more = nodes-parts before (line ∷ []) ∙ ap (λ m. nodesOf before ++ m) (line-says line .nodes-said)
 
@@ -82,3 +103,18 @@ module _ (before : List BookLine) (line : BookLine) where
 
   pub roots-count : length (rootsOf (before ++ (line ∷ []))) ≡ length (rootsOf before) + length (rootIn line)
   roots-count = ap length roots-more ∙ length-append (rootsOf before) (rootIn line)
+
+-- a line is of one node at most
+pub nodes-few : (lines : List BookLine) → length (nodesOf lines) ≤ length lines
+unfolding nodeLineIn
+nodes-few [] = rw (none-says .nodes-said) (omega arith)
+nodes-few (line ∷ lines) =
+    rw (nodes-parts (line ∷ []) lines, line-says line .nodes-said, length-append)
+    (omega (arith, one-at-most line, nodes-few lines))
+  where
+    one-at-most : (line : BookLine) → length (nodeIn line) ≤ 1
+    one-at-most (H half states phones classes nodes) = omega arith
+    one-at-most (Q class phone) = omega arith
+    one-at-most (N node class position yesNode noNode) = omega arith
+    one-at-most (L node model) = omega arith
+    one-at-most (R phone state root) = omega arith

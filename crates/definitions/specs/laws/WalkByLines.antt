@@ -9,21 +9,22 @@ use Prim.Native.Nat.{ℕ, zero, suc, _+_, _-_, _≤_, _<_}
 use native.Mathlib.Omega.{arith}
 use lib.Dec.{T, eqb, eqb→eq}
 use lib.ListN.{length}
-use Rattle.definitions.specs.Lists.{if_then_else_, _!_, every, atLeastOne, select, concatMap}
+use Rattle.definitions.specs.Lists.{if_then_else_, _!_, every, atLeastOne, select}
 use Rattle.definitions.specs.Faults.{answered}
-use Rattle.definitions.specs.BookLines.{BookLine, H, Q, N, L, R, headerOf, isPhone, Member, memberIn}
-use Rattle.definitions.specs.BookLines.{membersOf, TreeNode, question, leaf, nodesOf, nodeIn}
+use Rattle.definitions.specs.BookLines.{BookLine, headerOf, isPhone, Member, membersOf}
+use Rattle.definitions.specs.BookLines.{TreeNode, question, leaf, nodesOf}
 use Rattle.definitions.specs.BookReading.{Lent, readBook}
 use Rattle.definitions.specs.Tables.{Book, phonesOfClass, classSets, bookOf}
 use Rattle.definitions.specs.Lookup.{nodeAt, modelAt, holdsAt, walk, leafReached}
 use Rattle.definitions.specs.PhoneSets.{has}
-use Rattle.definitions.specs.TreesGive.{nodeLine, isMemberLine, putInClass, modelBelow, modelGiven}
+use Rattle.definitions.specs.TreesGive.{nodeLine, putInClass, modelBelow, modelGiven}
 use Rattle.definitions.specs.Transcription.{modelOf}
 use Rattle.definitions.specs.laws.Tests.{same-tests, eq→eqb, every-at}
 use Rattle.definitions.specs.laws.Lists.{map-upFrom-at}
 use Rattle.definitions.specs.laws.Ranges.{phone-range}
 use Rattle.definitions.specs.laws.Walks.{walk-leaf, walk-question, by-node, either-node, model-at}
 use Rattle.definitions.specs.laws.Sound.{Sound}
+use Rattle.definitions.specs.laws.SaidLines.{nodes-few}
 use Rattle.definitions.specs.laws.Accepted.{accepted-question, accepted-sound}
 use Rattle.definitions.specs.laws.ByLines.{accepted-node-line, accepted-root-line}
 use Rattle.definitions.specs.laws.PhoneSets.{has-listed}
@@ -35,35 +36,34 @@ eqb-swap m n =
     same-tests (eqb m n) (eqb n m)
     (λ t. eq→eqb n m (sym (eqb→eq m n t))) (λ t. eq→eqb m n (sym (eqb→eq n m t)))
 
--- a Q line puts a phone into a class when the class's phones hold it
-put-listed : (lines : List BookLine) (class phone : ℕ)
-    → putInClass lines class phone ≡ atLeastOne (eqb phone) (phonesOfClass class (membersOf lines))
-unfolding putInClass isMemberLine atLeastOne phonesOfClass membersOf memberIn concatMap select
+-- a member puts a phone into a class when the class's phones hold it
+put-listed : (members : List Member) (class phone : ℕ)
+    → atLeastOne (λ m. eqb (m .class) class && eqb (m .phone) phone) members
+    ≡ atLeastOne (eqb phone) (phonesOfClass class members)
+unfolding atLeastOne phonesOfClass select
 put-listed [] class phone = refl
-put-listed (H half states phones classes nodes ∷ lines) class phone = put-listed lines class phone
-put-listed (Q c q ∷ lines) class phone = go (eqb c class) (put-listed lines class phone)
+put-listed (m ∷ members) class phone = go (eqb (m .class) class) (put-listed members class phone)
   where
     rest : List Member
-    rest = select (λ m. eqb (m .class) class) (membersOf lines)
+    rest = select (λ m. eqb (m .class) class) members
 
-    go : (b : Bool) → putInClass lines class phone ≡ atLeastOne (eqb phone) (map (λ m. m .phone) rest)
-        → (b && eqb q phone || putInClass lines class phone)
-        ≡ atLeastOne (eqb phone)
-        (map (λ m. m .phone) (if b then record { class = c; phone = q } ∷ rest else rest))
-    go true e = ap₂ _||_ (eqb-swap q phone) e
+    later : Bool
+    later = atLeastOne (λ m. eqb (m .class) class && eqb (m .phone) phone) members
+
+    go : (b : Bool) → later ≡ atLeastOne (eqb phone) (map (λ m. m .phone) rest)
+        → (b && eqb (m .phone) phone || later)
+        ≡ atLeastOne (eqb phone) (map (λ m. m .phone) (if b then m ∷ rest else rest))
+    go true e = ap₂ _||_ (eqb-swap (m .phone) phone) e
     go false e = e
-put-listed (N node c position yesNode noNode ∷ lines) class phone = put-listed lines class phone
-put-listed (L node model ∷ lines) class phone = put-listed lines class phone
-put-listed (R p state root ∷ lines) class phone = put-listed lines class phone
 
 -- classes count from 1
 put-in-class : (lines : List BookLine) (class phone : ℕ) → 1 ≤ class → class ≤ headerOf lines .classes
     → 1 ≤ phone → putInClass lines class phone ≡ has phone (bookOf lines .classes ! (class - 1))
-unfolding bookOf classSets
+unfolding putInClass bookOf classSets
 put-in-class lines class zero c C p = absurd (omega arith)
 put-in-class lines class (suc i) c C p =
     let set = map-upFrom-at _ 1 (headerOf lines .classes) (class - 1) class (omega arith) (omega arith) in
-    put-listed lines class (suc i) ∙ sym (has-listed i (phonesOfClass class (membersOf lines)))
+    put-listed (membersOf lines) class (suc i) ∙ sym (has-listed i (phonesOfClass class (membersOf lines)))
     ∙ ap (has (suc i)) (sym set)
 
 -- ---- the walk
@@ -81,16 +81,6 @@ model-at-question : (lines : List BookLine) (context : List ℕ) (steps node cla
     (if putInClass lines class (context ! position) then yesNode else noNode)
 unfolding modelBelow
 model-at-question lines context steps node class position yesNode noNode e = rw (e, modelBelow)
-
--- a line is of one node at most
-enough-lines : (lines : List BookLine) → length (nodesOf lines) ≤ length lines
-unfolding nodesOf nodeIn concatMap
-enough-lines [] = omega arith
-enough-lines (H half states phones classes nodes ∷ lines) = omega (arith, enough-lines lines)
-enough-lines (Q class phone ∷ lines) = omega (arith, enough-lines lines)
-enough-lines (N node class position yesNode noNode ∷ lines) = omega (arith, enough-lines lines)
-enough-lines (L node model ∷ lines) = omega (arith, enough-lines lines)
-enough-lines (R phone state root ∷ lines) = omega (arith, enough-lines lines)
 
 module _ (lent : Lent) (text : List ℕ) (lines : List BookLine)
     (accepted : readBook lent text ≡ answered lines)
@@ -180,4 +170,4 @@ given-by-tables lent text lines accepted context state columns phones s S =
     let listed = accepted-sound lent text lines accepted .root (context ! half) state in
     rw (root, modelGiven)
     (walks-alike lent text lines accepted context columns phones (length lines) (length (nodesOf lines)) _
-    listed (omega (arith, enough-lines lines)) (omega arith))
+    listed (omega (arith, nodes-few lines)) (omega arith))
