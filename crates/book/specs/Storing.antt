@@ -6,7 +6,7 @@ use lib.ListN.{set}
 use Rattle.definitions.specs.Lists.{_!_, concatMap, padded}
 use Rattle.definitions.specs.PhoneSets.{alone}
 use Rattle.definitions.specs.BookLines.{BookLine, H, Q, N, L, R, question, leaf, headerOf, membersOf}
-use Rattle.definitions.specs.BookLines.{nodesOf, rootsOf}
+use Rattle.definitions.specs.BookLines.{nodesOf, rootsOf, asks}
 use Rattle.definitions.specs.BookReading.{Lent, nodeSize}
 use Rattle.definitions.specs.Tables.{nodeWords, classSets}
 use Rattle.lines.specs.Putting.{putAt}
@@ -17,7 +17,7 @@ unfoldable pub nodesAfter : BookLine → List ℕ → List ℕ
 nodesAfter (H _ _ _ _ _) table = table
 nodesAfter (Q _ _) table = table
 nodesAfter (N node class position yesNode noNode) table =
-    putAt (nodeSize * node) (nodeWords (question class position yesNode noNode)) table
+    putAt (nodeSize * node) (nodeWords (question (asks class position) yesNode noNode)) table
 nodesAfter (L node model) table = putAt (nodeSize * node) (nodeWords (leaf model)) table
 nodesAfter (R _ _ _) table = table
 

@@ -10,7 +10,7 @@ ghost use Prim.Native.Nat.{_+_, _-_, _*_, _≤_};
 ghost use lib.Bits.{bitOr};
 ghost use lib.ListN.{length, set};
 ghost use Rattle.definitions.specs.Lists.{_!_};
-ghost use Rattle.definitions.specs.BookLines.{question, leaf};
+ghost use Rattle.definitions.specs.BookLines.{question, leaf, asks};
 ghost use Rattle.definitions.specs.PhoneSets.{alone};
 ghost use Rattle.definitions.specs.Tables.{nodeWords, recordWords};
 ghost use Rattle.book.specs.Entries.{entryLine};
@@ -20,7 +20,7 @@ ghost use Rattle.book.specs.Storing.{nodesAfter, classesAfter, rootsAfte
 
 // The record of a question.
 fn question_node(class: u32, position: u32, yes: u32, no: u32) -> Node
-    ensures { λ r. ⌜ recordWords r ≡ nodeWords (question class position yes no) ⌝ }
+    ensures { λ r. ⌜ recordWords r ≡ nodeWords (question (asks class position) yes no) ⌝ }
 {
     Node {
         kind: 1,

@@ -65,9 +65,20 @@ memberIn (R _ _ _) = []
 unfoldable pub membersOf : List BookLine → List Member
 membersOf lines = concatMap memberIn lines
 
+-- what a question asks: whether its class holds the phone at its position
+pub record Part : Type 0 where
+  pub class : ℕ
+  pub position : ℕ
+
+abbrev pub Asked : Type 0
+Asked = Part
+
+abbrev pub asks : (class position : ℕ) → Asked
+asks class position = record { class = class; position = position }
+
 -- a node of a tree: a question or a leaf
 pub data TreeNode : Type 0 where
-  question : (class position yesNode noNode : ℕ) → TreeNode
+  question : (asked : Asked) (yesNode noNode : ℕ) → TreeNode
   leaf : (model : ℕ) → TreeNode
 
 -- the lines of nodes, each with the number that it states: "one N or L per node"
@@ -79,7 +90,7 @@ unfoldable pub nodeLineIn : BookLine → List NodeLine
 nodeLineIn (H _ _ _ _ _) = []
 nodeLineIn (Q _ _) = []
 nodeLineIn (N node class position yesNode noNode) =
-    record { number = node; node = question class position yesNode noNode } ∷ []
+    record { number = node; node = question (asks class position) yesNode noNode } ∷ []
 nodeLineIn (L node model) = record { number = node; node = leaf model } ∷ []
 nodeLineIn (R _ _ _) = []
 
@@ -106,5 +117,5 @@ rootsOf lines = concatMap rootIn lines
 
 -- the nodes that a node names. "Every node is named exactly once, as a child or as a root"
 unfoldable pub childrenOf : TreeNode → List ℕ
-childrenOf (question class position yesNode noNode) = yesNode ∷ noNode ∷ []
+childrenOf (question asked yesNode noNode) = yesNode ∷ noNode ∷ []
 childrenOf (leaf model) = []

@@ -2,15 +2,15 @@
 -- combinations of leaves.
 use mathlib.Core.List.{List, [], _∷_, _++_, map}
 use mathlib.Core.Bool.{Bool}
-use Prim.Native.Nat.{ℕ, zero, suc, _+_, _-_, _*_, _/_, min}
+use Prim.Native.Nat.{ℕ, zero, suc, _+_, _-_, _/_, min}
 use lib.Dec.{leb, ltb}
 use lib.ListN.{length}
 use Rattle.definitions.specs.declared.Header.{Header}
 use Rattle.definitions.specs.declared.Fault.the-variants.{Foreign, Choices}
-use Rattle.definitions.specs.Faults.{Outcome, answered, refused, _unless_, judge}
+use Rattle.definitions.specs.Faults.{Outcome, answered, refused, judge, _unless_}
 use Rattle.definitions.specs.Lists.{if_then_else_, _!_, concatMap, upFrom, cleared, padded}
 use Rattle.definitions.specs.Matrices.{Matrix, matrixWords, rootMatrix, yesSide, noSide, valid, meet}
-use Rattle.definitions.specs.BookLines.{question, leaf}
+use Rattle.definitions.specs.BookLines.{question, leaf, Asked}
 use Rattle.definitions.specs.Tables.{Book, rootOf, Tables, tablesBook}
 use Rattle.definitions.specs.ForeignTables.{tablesKnown}
 use Rattle.definitions.specs.Lookup.{nodeAt}
@@ -20,15 +20,23 @@ pub record Leaf : Type 0 where
   pub node : ℕ
   pub matrix : Matrix
 
+-- the two sides of a question. "Yes keeps in the question's column the class's members, no keeps the others";
+-- classes count from 1
+abbrev pub onYes : (classes : List ℕ) → Asked → Matrix → Matrix
+onYes classes asked matrix = yesSide (asked .position) (classes ! (asked .class - 1)) matrix
+
+abbrev pub onNo : (classes : List ℕ) → Asked → Matrix → Matrix
+onNo classes asked matrix = noSide (asked .position) (classes ! (asked .class - 1)) matrix
+
 -- the leaves below a node that carries a matrix, the yes side first. Children are greater than their node,
 -- so as many levels as there are nodes are enough.
 unfoldable pub leavesBelow : (levels : ℕ) → Book → Matrix → (node : ℕ) → List Leaf
 leavesBelow zero book matrix node = []
 leavesBelow (suc levels) book matrix node =
     elim (nodeAt (book .nodes) node) [
-      | question class position yesNode noNode ↦
-          leavesBelow levels book (yesSide position (book .classes ! (class - 1)) matrix) yesNode
-          ++ leavesBelow levels book (noSide position (book .classes ! (class - 1)) matrix) noNode
+      | question asked yesNode noNode ↦
+          leavesBelow levels book (onYes (book .classes) asked matrix) yesNode
+          ++ leavesBelow levels book (onNo (book .classes) asked matrix) noNode
       | leaf model ↦ record { node = node; matrix = matrix } ∷ []
     ]
 

@@ -7,10 +7,10 @@ use lib.ListN.{length, getD}
 use Rattle.definitions.specs.declared.Header.{Header}
 use Rattle.definitions.specs.declared.Node.{Node}
 use Rattle.definitions.specs.declared.Fault.the-variants.{Foreign, Range}
-use Rattle.definitions.specs.Faults.{Outcome, answered, _unless_, judge}
+use Rattle.definitions.specs.Faults.{Outcome, answered, judge, _unless_}
 use Rattle.definitions.specs.Lists.{if_then_else_, _!_, every}
 use Rattle.definitions.specs.PhoneSets.{has}
-use Rattle.definitions.specs.BookLines.{isPhone, TreeNode, question, leaf}
+use Rattle.definitions.specs.BookLines.{isPhone, TreeNode, question, leaf, Asked}
 use Rattle.definitions.specs.BookReading.{nodeSize}
 use Rattle.definitions.specs.Tables.{treeNode, nodeRecords}
 use Rattle.definitions.specs.ForeignTables.{headerKnown, nodesKnown, holdsOnly, classTableKnown}
@@ -21,11 +21,11 @@ nodeAt nodes node = getD nodes node (leaf 0)
 -- the model at a leaf
 unfoldable pub modelAt : List TreeNode → (node : ℕ) → ℕ
 modelAt nodes node =
-    elim (nodeAt nodes node) [ question class position yesNode noNode ↦ 0 | leaf model ↦ model ]
+    elim (nodeAt nodes node) [ question asked yesNode noNode ↦ 0 | leaf model ↦ model ]
 
--- whether the class holds the context's phone at the position; classes count from 1
-unfoldable pub holdsAt : (classes : List ℕ) (class position : ℕ) (context : List ℕ) → Bool
-holdsAt classes class position context = has (context ! position) (classes ! (class - 1))
+-- the answer to a question: whether its class holds the context's phone at its position; classes count from 1
+unfoldable pub answers : (classes context : List ℕ) → Asked → Bool
+answers classes context asked = has (context ! asked .position) (classes ! (asked .class - 1))
 
 -- the leaf that a walk from a node reaches. It moves to greater nodes only, so as many steps as there are
 -- nodes are enough.
@@ -33,8 +33,8 @@ unfoldable pub walk : (steps : ℕ) → List TreeNode → (classes context : Lis
 walk zero nodes classes context node = node
 walk (suc steps) nodes classes context node =
     elim (nodeAt nodes node) [
-      | question class position yesNode noNode ↦
-          walk steps nodes classes context (if holdsAt classes class position context then yesNode else noNode)
+      | question asked yesNode noNode ↦
+          walk steps nodes classes context (if answers classes context asked then yesNode else noNode)
       | leaf model ↦ node
     ]
 

@@ -10,7 +10,7 @@ use Rattle.definitions.specs.Lists.{if_then_else_, _!_, select, concatMa
 use Rattle.definitions.specs.Lists.{padded}
 use Rattle.definitions.specs.PhoneSets.{setOf}
 use Rattle.definitions.specs.BookLines.{BookLine, headerOf, rootCount, Member, membersOf}
-use Rattle.definitions.specs.BookLines.{TreeNode, question, leaf, nodesOf, rootsOf}
+use Rattle.definitions.specs.BookLines.{TreeNode, question, leaf, nodesOf, rootsOf, Asked, asks}
 use Rattle.definitions.specs.BookReading.{Lent, nodeSize}
 
 -- A book as the later stages use it: its nodes, the set of each class, and the roots by phone and state.
@@ -49,7 +49,7 @@ bookOf lines =
 -- "for each node five 32-bit words (1 question or 2 leaf; class or model; position; yes; no; the last three
 -- 0 at a leaf)"
 unfoldable pub nodeWords : TreeNode → List ℕ
-nodeWords (question class position yesNode noNode) = 1 ∷ class ∷ position ∷ yesNode ∷ noNode ∷ []
+nodeWords (question asked yesNode noNode) = 1 ∷ asked .class ∷ asked .position ∷ yesNode ∷ noNode ∷ []
 nodeWords (leaf model) = 2 ∷ model ∷ 0 ∷ 0 ∷ 0 ∷ []
 
 -- the five words of a record
@@ -95,10 +95,13 @@ unfoldable pub nodeOf : List ℕ → Node
 nodeOf words =
     record { kind = words ! 0; value = words ! 1; position = words ! 2; yes = words ! 3; no = words ! 4 }
 
+abbrev pub askedOf : Node → Asked
+askedOf node = asks (node .value) (node .position)
+
 unfoldable pub treeNode : Node → TreeNode
 treeNode node =
     if eqb (node .kind) 1
-    then question (node .value) (node .position) (node .yes) (node .no)
+    then question (askedOf node) (node .yes) (node .no)
     else leaf (node .value)
 
 unfoldable pub nodeRecords : Header → (words : List ℕ) → List Node

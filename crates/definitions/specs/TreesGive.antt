@@ -9,7 +9,7 @@ use lib.ListN.{length, take, drop, replicate}
 use Rattle.definitions.specs.Lists.{if_then_else_, _!_, every, atLeastOne, firstWhere, mapOption}
 use Rattle.definitions.specs.Lists.{concatMap, upFrom}
 use Rattle.definitions.specs.BookLines.{BookLine, H, Q, N, L, R, headerOf, isPhone, membersOf}
-use Rattle.definitions.specs.BookLines.{TreeNode, question, leaf, nodeLinesOf}
+use Rattle.definitions.specs.BookLines.{TreeNode, question, leaf, nodeLinesOf, Asked}
 
 -- "The context of place i in a sequence S has 2n+1 phones: in column c the phone at place i+c−n, or 1 where
 -- that lies beyond either end." With n silences before and after S, place i+c−n of S is place i+c. So the
@@ -38,10 +38,14 @@ rootLine (R p s root ∷ lines) phone state =
 unfoldable pub nodeLine : List BookLine → (node : ℕ) → Option TreeNode
 nodeLine lines node = mapOption (λ l. l .node) (firstWhere (λ l. eqb (l .number) node) (nodeLinesOf lines))
 
--- whether "a Q line puts the context's phone .. into its class"
+-- whether a Q line puts a phone into a class
 unfoldable pub putInClass : List BookLine → (class phone : ℕ) → Bool
 putInClass lines class phone =
     atLeastOne (λ m. eqb (m .class) class && eqb (m .phone) phone) (membersOf lines)
+
+-- whether "a Q line puts the context's phone at its position into its class"
+unfoldable pub answersByLines : List BookLine → (context : List ℕ) → Asked → Bool
+answersByLines lines context asked = putInClass lines (asked .class) (context ! asked .position)
 
 -- "At an N line go to its yes node if a Q line puts the context's phone at its position into its class,
 -- else to its no node. At an L line its model is given." The walk meets greater nodes only, so as many
@@ -51,9 +55,8 @@ modelBelow zero lines context node = none
 modelBelow (suc steps) lines context node =
     elim (nodeLine lines node) [
       | none ↦ none
-      | some (question class position yesNode noNode) ↦
-          modelBelow steps lines context
-          (if putInClass lines class (context ! position) then yesNode else noNode)
+      | some (question asked yesNode noNode) ↦
+          modelBelow steps lines context (if answersByLines lines context asked then yesNode else noNode)
       | some (leaf model) ↦ some model
     ]
 

@@ -9,9 +9,9 @@ use Rattle.definitions.specs.declared.Node.{Node}
 use Rattle.definitions.specs.declared.Fault.{Fault}
 use Rattle.definitions.specs.declared.Fault.the-variants.{Foreign, Range}
 use Rattle.definitions.specs.Lists.{if_then_else_}
-use Rattle.definitions.specs.Tables.{nodeOf}
+use Rattle.definitions.specs.Tables.{nodeOf, askedOf}
 use Rattle.definitions.specs.ForeignTables.{headerKnown, questionKnown, leafKnown, classTableKnown}
-use Rattle.definitions.specs.Lookup.{holdsAt, isContext}
+use Rattle.definitions.specs.Lookup.{answers, isContext}
 use Rattle.trees.specs.declared.Lookup.{Lookup}
 use Rattle.trees.specs.declared.Lookup.the-variants as lookup
 use Rattle.trees.specs.declared.Stage.{Stage}
@@ -55,7 +55,7 @@ judgedStage header root context at node =
 unfoldable pub walkedStage : (classes context : List ℕ) → (at : ℕ) → Node → Stage
 walkedStage classes context at node =
     if eqb (node .kind) 1
-    then Walking (if holdsAt classes (node .value) (node .position) context then node .yes else node .no)
+    then Walking (if answers classes context (askedOf node) then node .yes else node .no)
     else Answered (lookup.Leaf at)
 
 unfoldable pub nextStage : Header → (classes : List ℕ) → (root : ℕ) → (context : List ℕ) → Stage → Node → Stage

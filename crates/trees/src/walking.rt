@@ -14,8 +14,8 @@ ghost use lib.ListN.{drop};
 ghost use Rattle.definitions.specs.BookReading.{nodeSize};
 ghost use Rattle.definitions.specs.ForeignTables.{nodesKnown};
 ghost use Rattle.definitions.specs.Lists.{if_then_else_, _!_};
-ghost use Rattle.definitions.specs.Lookup.{holdsAt, leafReached};
-ghost use Rattle.definitions.specs.Tables.{nodeOf, nodeRecords, treeNode};
+ghost use Rattle.definitions.specs.Lookup.{answers, leafReached};
+ghost use Rattle.definitions.specs.Tables.{nodeOf, nodeRecords, treeNode, askedOf};
 
 // The set of a class, empty beyond the table; class 0 counts as 1.
 fn set_of(classes: &[u64], class: u32) -> u64
@@ -31,7 +31,7 @@ fn set_of(classes: &[u64], class: u32) -> u64
 // The child of a question that a context goes to.
 pub fn child_of(node: Node, classes: &[u64], context: &[u32]) -> u32
     ensures { λ r. ⌜
-        r ≡ (if holdsAt (now (classes .entry)) (node .value) (node .position) (now (context .entry))
+        r ≡ (if answers (now (classes .entry)) (now (context .entry)) (askedOf node)
         then node .yes else node .no)
         ⌝ }
 {

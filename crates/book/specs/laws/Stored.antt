@@ -19,7 +19,7 @@ use Rattle.definitions.specs.Lists.{_!_, concatMap, select, upFrom, cleared, pa
 use Rattle.definitions.specs.PhoneSets.{has, alone, setOf}
 use Rattle.definitions.specs.BookLines.{BookLine, H, Q, N, L, R, headerIn, headerOf, Member, membersOf}
 use Rattle.definitions.specs.BookLines.{memberIn, TreeNode, question, leaf, nodesOf, nodeLineIn, rootsOf}
-use Rattle.definitions.specs.BookLines.{rootIn, childrenOf}
+use Rattle.definitions.specs.BookLines.{rootIn, childrenOf, asks}
 use Rattle.definitions.specs.BookReading.{Lent, nodeSize, bookFollows, bookInOrder, withinHeader}
 use Rattle.definitions.specs.BookReading.{bookComplete}
 use Rattle.definitions.specs.Tables.{nodeWords, phonesOfClass, classSets}
@@ -96,7 +96,7 @@ nodes-stored lent before (H half states phones classes nodes) k c f = rw (nodes-
 nodes-stored lent before (Q class phone) k c f = rw (nodes-more, append-nil)
 nodes-stored lent before (N node class position yesNode noNode) k c f =
     rw (nodes-more, eqb→eq node (length (nodesOf before)) (f .in-order))
-    (node-put lent before (question class position yesNode noNode))
+    (node-put lent before (question (asks class position) yesNode noNode))
 nodes-stored lent before (L node model) k c f =
     rw (nodes-more, eqb→eq node (length (nodesOf before)) (f .in-order)) (node-put lent before (leaf model))
 nodes-stored lent before (R phone state root) k c f = rw (nodes-more, append-nil)
@@ -276,7 +276,7 @@ names-more lent before (N node class position yesNode noNode) k f =
       nodes-more,
       roots-more,
       no-root-yet lent before k (ltb→lt _ _ f),
-      concatMap-snoc childrenOf (nodesOf before) (question class position yesNode noNode),
+      concatMap-snoc childrenOf (nodesOf before) (question (asks class position) yesNode noNode),
     ) (simp append-nil)
 names-more lent before (L node model) k f =
     rw (nodes-more, roots-more, concatMap-snoc childrenOf (nodesOf before) (leaf model)) (simp append-nil)

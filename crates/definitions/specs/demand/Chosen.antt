@@ -42,8 +42,8 @@ module _ (book : Book) (sound : Sound book) where
   unfolding leavesOf
   tree-leaves phone state l i =
       below-all book (λ m node. node < length (book .nodes))
-      (λ m node class position yesNode noNode e h.
-      let (yesLater, noLater) = sound .forward node class position yesNode noNode e in
+      (λ m node asked yesNode noNode e h.
+      let (yesLater, noLater) = sound .forward node asked yesNode noNode e in
       (yesLater .listed, noLater .listed))
       (length (book .nodes)) _ (rootOf book phone state) (sound .root phone state) l (of-ascending l _ i)
 

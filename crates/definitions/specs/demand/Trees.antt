@@ -10,13 +10,13 @@ use native.Mathlib.Omega.{arith}
 use lib.Dec.{T}
 use lib.ListN.{length, length-map}
 use Rattle.definitions.specs.Lists.{if_then_else_, _!_, select}
-use Rattle.definitions.specs.BookLines.{TreeNode, question}
+use Rattle.definitions.specs.BookLines.{TreeNode, question, Asked}
 use Rattle.definitions.specs.Tables.{Book}
-use Rattle.definitions.specs.Lookup.{nodeAt, holdsAt, walk, leafReached}
+use Rattle.definitions.specs.Lookup.{nodeAt, walk, leafReached, answers}
 use Rattle.definitions.specs.PhoneSets.{has}
-use Rattle.definitions.specs.Matrices.{Matrix, yesSide, noSide}
+use Rattle.definitions.specs.Matrices.{Matrix}
 use Rattle.definitions.specs.Tables.{rootOf}
-use Rattle.definitions.specs.Combinations.{Leaf, leavesBelow, leavesOf}
+use Rattle.definitions.specs.Combinations.{Leaf, leavesBelow, leavesOf, onYes, onNo}
 use Rattle.definitions.specs.laws.Tests.{if-true}
 use Rattle.definitions.specs.laws.Selected.{select-append}
 use Rattle.definitions.specs.laws.Walks.{walk-leaf, walk-question, by-node}
@@ -74,30 +74,31 @@ module _ (book : Book) (sound : Sound book) (W : List ℕ) where
       go false = refl
 
   -- a question has one such leaf where its two sides have
-  at-question : (levels : ℕ) (m : Matrix) (node class position yesNode noNode : ℕ)
+  at-question : (levels : ℕ) (m : Matrix) (node : ℕ) (asked : Asked) (yesNode noNode : ℕ)
       → length m ≡ columnsOf book
-      → nodeAt nodes node ≡ question class position yesNode noNode
-      → OneLeaf levels (yesSide position (book .classes ! (class - 1)) m) yesNode
-      → OneLeaf levels (noSide position (book .classes ! (class - 1)) m) noNode
+      → nodeAt nodes node ≡ question asked yesNode noNode
+      → OneLeaf levels (onYes (book .classes) asked m) yesNode
+      → OneLeaf levels (onNo (book .classes) asked m) noNode
       → OneLeaf (suc levels) m node
-  unfolding holdsAt
-  at-question levels m node class position yesNode noNode w e onYes onNo =
+  unfolding answers
+  at-question levels m node asked yesNode noNode w e onYesSide onNoSide =
       rw (
-        below-question book levels m node class position yesNode noNode e,
+        below-question book levels m node asked yesNode noNode e,
         admitting-append,
-        onYes,
-        onNo,
-        admits-yes position s m W here,
-        admits-no position s m W here,
-        walk-question nodes (book .classes) W levels node class position yesNode noNode e,
+        onYesSide,
+        onNoSide,
+        admits-yes (asked .position) s m W here,
+        admits-no (asked .position) s m W here,
+        walk-question nodes (book .classes) W levels node asked yesNode noNode e,
       )
-      (one-answer (admits m W) (has (W ! position) s) (walk levels nodes (book .classes) W) yesNode noNode)
+      (one-answer (admits m W) (has (W ! asked .position) s) (walk levels nodes (book .classes) W) yesNode
+      noNode)
     where
       s : ℕ
-      s = book .classes ! (class - 1)
+      s = book .classes ! (asked .class - 1)
 
-      here : position < length m
-      here = omega (arith, sound .position node class position yesNode noNode e)
+      here : asked .position < length m
+      here = omega (arith, sound .position node asked yesNode noNode e)
 
   one-below : (levels : ℕ) (m : Matrix) (node : ℕ) → length m ≡ columnsOf book
       → node < length nodes → length nodes ≤ node + levels → OneLeaf levels m node
@@ -107,12 +108,12 @@ module _ (book : Book) (sound : Sound book) (W : List ℕ) where
       (λ model e.
       rw (below-leaf book levels m node model e, walk-leaf nodes (book .classes) W levels node model e)
       (at-leaf m node))
-      (λ class position yesNode noNode e.
-      let (yesLater, noLater) = sound .forward node class position yesNode noNode e in
-      at-question levels m node class position yesNode noNode w e
-      (one-below levels _ yesNode (yes-length position _ m ∙ w) (yesLater .listed)
+      (λ asked yesNode noNode e.
+      let (yesLater, noLater) = sound .forward node asked yesNode noNode e in
+      at-question levels m node asked yesNode noNode w e
+      (one-below levels _ yesNode (yes-length (asked .position) _ m ∙ w) (yesLater .listed)
       (omega (arith, yesLater .greater)))
-      (one-below levels _ noNode (no-length position _ m ∙ w) (noLater .listed)
+      (one-below levels _ noNode (no-length (asked .position) _ m ∙ w) (noLater .listed)
       (omega (arith, noLater .greater))))
 
   -- exactly one leaf of a tree admits a context that its root admits

@@ -19,7 +19,7 @@ use Rattle.definitions.specs.Tables.{tablesLeft, nodeOf, treeNode, nodeR
 use Rattle.definitions.specs.ForeignTables.{headerKnown, questionKnown, leafKnown, nodesKnown}
 use Rattle.definitions.specs.ForeignTables.{holdsOnly, nodeTableKnown, classTableKnown}
 use Rattle.definitions.specs.ForeignTables.{rootTableKnown, namedOnce, tablesKnown}
-use Rattle.definitions.specs.Lookup.{modelAt, holdsAt, walk, leafReached, lookupKnown, isContext}
+use Rattle.definitions.specs.Lookup.{modelAt, answers, walk, leafReached, lookupKnown, isContext}
 use Rattle.definitions.specs.Lookup.{leafLookup, leafLookupInTable}
 use Rattle.definitions.specs.PhoneSets.{has, alone, allPhones, without, setOf}
 use Rattle.definitions.specs.Matrices.{matrixWords, rootMatrix, yesSide, noSide, valid, meet, shift}
@@ -45,7 +45,7 @@ use Rattle.definitions.specs.NetworkText.{networkTests, networkComplete,
 use Rattle.definitions.specs.NetworkText.{arcsLeft, arcKnown, neverDescending, networkKnown}
 use Rattle.definitions.specs.NetworkText.{lineOfCounts, lineOfArc, networkText, writeNetwork}
 use Rattle.definitions.specs.TreesGive.{windows, withSilence, contexts, rootLine, nodeLine}
-use Rattle.definitions.specs.TreesGive.{putInClass, modelBelow, modelGiven, together}
+use Rattle.definitions.specs.TreesGive.{putInClass, answersByLines, modelBelow, modelGiven, together}
 use Rattle.definitions.specs.TreesGive.{modelsAlong, treesGive, silentEnds}
 use Rattle.definitions.specs.Transcription.{modelOf, transcription, isUtterance, transcribe}
 use Rattle.definitions.specs.BookBuilding.{buildRead, buildBook, tablesAfter, buffersAfter}
@@ -61,7 +61,7 @@ unfolding every atLeastOne firstWhere mapOption select lastPasses concatMap upFr
     bookFollows withinHeader comesBefore bookInOrder childrenGreater wideEnough bookTests bookComplete
     orphans isLineOf lineNumberFrom judgeNames bookKind readBook phonesOfClass classSets bookOf nodeWords
     tablesOf noTables tablesLeft nodeOf treeNode nodeRecords tablesBook headerKnown questionKnown leafKnown
-    nodesKnown holdsOnly nodeTableKnown classTableKnown rootTableKnown namedOnce tablesKnown modelAt holdsAt
+    nodesKnown holdsOnly nodeTableKnown classTableKnown rootTableKnown namedOnce tablesKnown modelAt answers
     walk leafReached lookupKnown isContext leafLookup leafLookupInTable has alone allPhones without setOf
     matrixWords rootMatrix yesSide noSide valid meet shift startCut endsHere leavesBelow isBefore insertLeaf
     ascending rootOf leavesOf choose combinationsOf combinations combinationWords combinationRoom combine
@@ -72,7 +72,8 @@ unfolding every atLeastOne firstWhere mapOption select lastPasses concatMap upFr
     modelsCarried phonesCarried partOf leaving partHanded partWords networkLine countsInLine countsOf
     arcInLine arcsOf isState networkFollows withinCounts networkInOrder networkTests networkComplete
     networkKind readNetwork arcsLeft arcKnown neverDescending networkKnown lineOfCounts lineOfArc
-    networkText writeNetwork windows withSilence contexts rootLine nodeLine putInClass modelBelow modelGiven
-    together modelsAlong treesGive silentEnds modelOf transcription isUtterance transcribe buildRead
-    buildBook tablesAfter buffersAfter textOfBuilt networkOf refusalText printed program
+    networkText writeNetwork windows withSilence contexts rootLine nodeLine putInClass answersByLines
+    modelBelow modelGiven together modelsAlong treesGive silentEnds modelOf transcription isUtterance
+    transcribe buildRead buildBook tablesAfter buffersAfter textOfBuilt networkOf refusalText printed
+    program
 everything = tt

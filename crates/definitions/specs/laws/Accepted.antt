@@ -14,7 +14,7 @@ use Rattle.definitions.specs.Faults.{answered}
 use Rattle.definitions.specs.Forms.{_‥_}
 use Rattle.definitions.specs.BookLines.{BookLine, H, Q, N, L, R, headerOf, TreeNode, question, leaf}
 use Rattle.definitions.specs.BookLines.{nodesOf, nodeIn, nodeLineIn, rootsOf, rootIn, Member, membersOf}
-use Rattle.definitions.specs.BookLines.{memberIn}
+use Rattle.definitions.specs.BookLines.{memberIn, Asked, asks}
 use Rattle.definitions.specs.BookReading.{Lent, withinHeader, bookInOrder, childrenGreater, readBook}
 use Rattle.definitions.specs.Tables.{Book, bookOf}
 use Rattle.definitions.specs.Lookup.{nodeAt}
@@ -58,19 +58,22 @@ all-at P at (x ∷ l) d h (suc i) n k e = all-at P (suc at) l d (h .1) i n (omeg
 
 -- ---- the nodes, the roots and the members of classes of a book
 
--- what the N line of a node says: numbers in range, and children that are greater nodes
-pub record QuestionFits (header : Header) (node class position yesNode noNode : ℕ) : Type 0 where
-  pub class-low : 1 ≤ class
-  pub class-high : class ≤ header .classes
-  pub position-high : position ≤ 2 * header .half
+-- what the N line of a node says: a class and a position in range, and children that are greater nodes
+pub record AskedFits (header : Header) (asked : Asked) : Type 0 where
+  pub class-low : 1 ≤ asked .class
+  pub class-high : asked .class ≤ header .classes
+  pub position-high : asked .position ≤ 2 * header .half
+
+pub record QuestionFits (header : Header) (node : ℕ) (asked : Asked) (yesNode noNode : ℕ) : Type 0 where
+  pub in-range : AskedFits header asked
   pub yes-greater : node < yesNode
   pub yes-listed : yesNode < header .nodes
   pub no-greater : node < noNode
   pub no-listed : noNode < header .nodes
 
 abbrev pub NodeFits : Header → ℕ → TreeNode → Type 0
-NodeFits header node (question class position yesNode noNode) =
-    QuestionFits header node class position yesNode noNode
+NodeFits header node (question asked yesNode noNode) =
+    QuestionFits header node asked yesNode noNode
 NodeFits header node (leaf model) = Within (1 ‥ 65535) model
 
 abbrev pub RootFits : Header → ℕ → ℕ → Type 0
@@ -87,7 +90,7 @@ pub record AllFit (header : Header) (lines : List BookLine) : Type 0 where
 -- the node, the root or the member of a line that passed its tests
 question-fits : (lent : Lent) (before : List BookLine) (node class position yesNode noNode : ℕ)
     → Fits lent before (N node class position yesNode noNode)
-    → QuestionFits (headerOf before) (length (nodesOf before)) class position yesNode noNode
+    → QuestionFits (headerOf before) (length (nodesOf before)) (asks class position) yesNode noNode
 unfolding withinHeader bookInOrder childrenGreater
 question-fits lent before node class position yesNode noNode f =
     let header : Header = headerOf before in
@@ -100,9 +103,12 @@ question-fits lent before node class position yesNode noNode f =
     let own = T-three own-number own-class own-position .0 (children .0) in
     let greater = T-and (ltb node yesNode) (ltb node noNode) .0 (f .greater) in
     record {
-      class-low = f .ranged .low;
-      class-high = leb→le _ _ (own .1);
-      position-high = leb→le _ _ (own .2);
+      in-range =
+          record {
+            class-low = f .ranged .low;
+            class-high = leb→le _ _ (own .1);
+            position-high = leb→le _ _ (own .2);
+          };
       yes-greater = omega (arith, ltb→lt node yesNode (greater .0));
       yes-listed = ltb→lt _ _ (children .1);
       no-greater = omega (arith, ltb→lt node noNode (greater .1));
@@ -179,13 +185,13 @@ accepted-fit lent text lines e =
 -- ---- soundness
 
 -- beyond the list stands a leaf
-question-listed : (nodes : List TreeNode) (node class position yesNode noNode : ℕ)
-    → nodeAt nodes node ≡ question class position yesNode noNode → node < length nodes
-question-listed [] node class position yesNode noNode e =
+question-listed : (nodes : List TreeNode) (node : ℕ) (asked : Asked) (yesNode noNode : ℕ)
+    → nodeAt nodes node ≡ question asked yesNode noNode → node < length nodes
+question-listed [] node asked yesNode noNode e =
     let z : _≡_ {A = ℕ} 0 1 = cc in omega arith
-question-listed (x ∷ nodes) zero class position yesNode noNode e = omega arith
-question-listed (x ∷ nodes) (suc node) class position yesNode noNode e =
-    let further = question-listed nodes node class position yesNode noNode e in omega arith
+question-listed (x ∷ nodes) zero asked yesNode noNode e = omega arith
+question-listed (x ∷ nodes) (suc node) asked yesNode noNode e =
+    let further = question-listed nodes node asked yesNode noNode e in omega arith
 
 -- beyond the list stands root 0, which is a node too
 root-listed : (header : Header) (at : ℕ) (roots : List ℕ) (i : ℕ) → 0 < header .nodes
@@ -200,19 +206,19 @@ module _ (header : Header) (nodes : List TreeNode) (fit : allFrom (NodeFits head
   node-fits node x q h =
       subst (NodeFits header node) q (all-at _ 0 nodes (leaf 0) fit node node h (omega arith))
 
-  pub question-fitting : (node class position yesNode noNode : ℕ)
-      → nodeAt nodes node ≡ question class position yesNode noNode
-      → QuestionFits header node class position yesNode noNode
-  question-fitting node class position yesNode noNode q =
-      node-fits node _ q (question-listed nodes node class position yesNode noNode q)
+  pub question-fitting : (node : ℕ) (asked : Asked) (yesNode noNode : ℕ)
+      → nodeAt nodes node ≡ question asked yesNode noNode
+      → QuestionFits header node asked yesNode noNode
+  question-fitting node asked yesNode noNode q =
+      node-fits node _ q (question-listed nodes node asked yesNode noNode q)
 
   pub leaf-fitting : (node model : ℕ) → node < length nodes → nodeAt nodes node ≡ leaf model
       → Within (1 ‥ 65535) model
   leaf-fitting node model h q = node-fits node (leaf model) q h
 
   pub fitting-forward : header .nodes ≡ length nodes → Forward nodes
-  fitting-forward count node class position yesNode noNode q =
-      let f = question-fitting node class position yesNode noNode q in (
+  fitting-forward count node asked yesNode noNode q =
+      let f = question-fitting node asked yesNode noNode q in (
         record { greater = f .yes-greater; listed = rw (← count) (f .yes-listed) },
         record { greater = f .no-greater; listed = rw (← count) (f .no-listed) },
       )
@@ -227,10 +233,10 @@ module _ (header : Header) (book : Book) (ranged : InRange header) (heads : Head
       some-state = omega (arith, ranged .states-range .low, heads .states);
       some-phone = omega (arith, ranged .phones-range .low, heads .phones);
       forward = fitting-forward header (book .nodes) nodes (heads .nodes);
-      position = λ node class position yesNode noNode q.
+      position = λ node asked yesNode noNode q.
           omega (
             arith,
-            question-fitting header (book .nodes) nodes node class position yesNode noNode q .position-high,
+            question-fitting header (book .nodes) nodes node asked yesNode noNode q .in-range .position-high,
             heads .half,
           );
       model = λ node model h q. leaf-fitting header (book .nodes) nodes node model h q .low;
@@ -247,9 +253,9 @@ module _ (lent : Lent) (text : List ℕ) (lines : List BookLine)
     fit : AllFit (headerOf lines) lines
     fit = accepted-fit lent text lines e
 
-    pub accepted-question : (node class position yesNode noNode : ℕ)
-        → nodeAt (nodesOf lines) node ≡ question class position yesNode noNode
-        → QuestionFits (headerOf lines) node class position yesNode noNode
+    pub accepted-question : (node : ℕ) (asked : Asked) (yesNode noNode : ℕ)
+        → nodeAt (nodesOf lines) node ≡ question asked yesNode noNode
+        → QuestionFits (headerOf lines) node asked yesNode noNode
     accepted-question = question-fitting (headerOf lines) (nodesOf lines) (fit .nodes)
 
     pub accepted-sound : Sound (bookOf lines)

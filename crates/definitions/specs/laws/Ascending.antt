@@ -9,16 +9,16 @@ use Prim.Native.Nat.{ℕ, zero, suc, _-_, _≤_, _<_}
 use native.Mathlib.Omega.{arith}
 use lib.Dec.{T, ltb→lt, nltb→le}
 use lib.ListN.{length, getD}
-use Rattle.definitions.specs.Lists.{if_then_else_, _!_, concatMap, upFrom}
+use Rattle.definitions.specs.Lists.{if_then_else_, concatMap, upFrom}
 use Rattle.definitions.specs.Faults.{answered}
 use Rattle.definitions.specs.BookLines.{BookLine}
 use Rattle.definitions.specs.BookReading.{orphans, Lent, readBook}
 use Rattle.definitions.specs.Tables.{Book, bookOf}
-use Rattle.definitions.specs.Matrices.{Matrix, rootMatrix, yesSide, noSide, valid, meet}
+use Rattle.definitions.specs.Matrices.{Matrix, rootMatrix, valid, meet}
 use Rattle.definitions.specs.Tables.{rootOf}
 use Rattle.definitions.specs.Combinations.{Leaf, leavesBelow, isBefore, insertLeaf, ascending}
 use Rattle.definitions.specs.Combinations.{leavesOf, Combination, choose, combinationsOf}
-use Rattle.definitions.specs.Combinations.{combinations}
+use Rattle.definitions.specs.Combinations.{combinations, onYes, onNo}
 use Rattle.definitions.specs.Metastates.{noCombination}
 use Rattle.definitions.specs.laws.Members.{isIn, distinct, in-map, of-map, of-concatMap, of-one}
 use Rattle.definitions.specs.laws.Rising.{precedes-irreflexive, precedes, precedes-first}
@@ -41,14 +41,13 @@ unfolding leavesBelow concatMap
 nodes-below zero book m node = refl
 nodes-below (suc levels) book m node =
     by-node (book .nodes) node (λ model e. rw (e, leavesBelow))
-    (λ class position yesNode noNode e.
-    let s : ℕ = book .classes ! (class - 1) in
-    let onYes : Matrix = yesSide position s m in
-    let onNo : Matrix = noSide position s m in
+    (λ asked yesNode noNode e.
+    let yesMatrix : Matrix = onYes (book .classes) asked m in
+    let noMatrix : Matrix = onNo (book .classes) asked m in
     rw (e, leavesBelow)
-    (map-append _ (leavesBelow levels book onYes yesNode) (leavesBelow levels book onNo noNode)
-    ∙ ap₂ _++_ (nodes-below levels book onYes yesNode)
-    (nodes-below levels book onNo noNode ∙ sym (append-nil (leavesUnder levels (book .nodes) noNode)))))
+    (map-append _ (leavesBelow levels book yesMatrix yesNode) (leavesBelow levels book noMatrix noNode)
+    ∙ ap₂ _++_ (nodes-below levels book yesMatrix yesNode)
+    (nodes-below levels book noMatrix noNode ∙ sym (append-nil (leavesUnder levels (book .nodes) noNode)))))
 
 -- strictly ascending by node number
 abbrev pub leafBefore : Leaf → Leaf → Type 0

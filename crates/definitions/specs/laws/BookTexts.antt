@@ -137,22 +137,23 @@ module _ (lent : Lent) (header : Header) (range : InRange header) where
       → Before header before members at 0 → at < header .nodes → NodeFits header at node
       → Next (bookWriter lent) before (lineOfNode at node)
   unfolding bookFollows withinHeader bookInOrder childrenGreater headerIn bookLineFor
-  node-next before members at (question class position yesNode noNode) b listed f =
-      asked-next lent before (N at class position yesNode noNode) (record {
+  node-next before members at (question asked yesNode noNode) b listed f =
+      asked-next lent before (N at (asked .class) (asked .position) yesNode noNode) (record {
         unfinished = unfinished b (some-root header range);
         follows = rw (b .nodes-many, b .header-is) (lt→ltb at (header .nodes) listed);
         in-range =
             range-more _ _ _ _ (omega (arith, range .nodes-range .high))
-            (range-more _ _ _ _ (omega (arith, f .class-low, f .class-high, range .classes-range .high))
-            (range-more _ _ _ _ (omega (arith, f .position-high, range .half-range .high))
+            (range-more _ _ _ _
+            (omega (arith, f .in-range .class-low, f .in-range .class-high, range .classes-range .high))
+            (range-more _ _ _ _ (omega (arith, f .in-range .position-high, range .half-range .high))
             (range-more _ _ _ _ (omega (arith, f .yes-listed, range .nodes-range .high))
             (range-more _ _ _ _ (omega (arith, f .no-listed, range .nodes-range .high)) range-none))));
         within =
             rw (
               b .header-is,
               lt-ltb at (header .nodes) listed,
-              le-leb class (header .classes) (f .class-high),
-              le-leb position (2 * header .half) (f .position-high),
+              le-leb (asked .class) (header .classes) (f .in-range .class-high),
+              le-leb (asked .position) (2 * header .half) (f .in-range .position-high),
               lt-ltb yesNode (header .nodes) (f .yes-listed),
               lt-ltb noNode (header .nodes) (f .no-listed),
             ) tt;

@@ -14,7 +14,7 @@ use borrow.Author.Tests.{le-leb}
 use Rattle.definitions.specs.declared.Fault.the-variants.{Choices}
 use Rattle.definitions.specs.declared.Header.{Header}
 use Rattle.definitions.specs.Lists.{every, select, concatMap, upFrom, cleared, padded}
-use Rattle.definitions.specs.Faults.{answered, _unless_, judge}
+use Rattle.definitions.specs.Faults.{answered, judge, _unless_}
 use Rattle.definitions.specs.Forms.{Range, _‥_}
 use Rattle.definitions.specs.Lines.{formOf, inRanges, inFixedRanges}
 use Rattle.definitions.specs.BookLines.{BookLine, bookLine, headerOf, rootCount, Member, membersOf}
@@ -22,9 +22,9 @@ use Rattle.definitions.specs.BookLines.{TreeNode, question, leaf, nodesO
 use Rattle.definitions.specs.BookReading.{Lent, nodeSize, wideEnough, readBook}
 use Rattle.definitions.specs.Tables.{bookOf, phonesOfClass, classSets, nodeWords, nodeOf, nodeRecords}
 use Rattle.definitions.specs.Tables.{Tables, tablesOf, tablesLeft, tablesBook}
-use Rattle.definitions.specs.ForeignTables.{headerKnown, questionKnown, leafKnown, nodesKnown, holdsOnly}
-use Rattle.definitions.specs.ForeignTables.{nodeTableKnown, classTableKnown, rootTableKnown, namedOnce}
-use Rattle.definitions.specs.ForeignTables.{tablesKnown}
+use Rattle.definitions.specs.ForeignTables.{headerKnown, questionKnown, leafKnown, nodesKnown}
+use Rattle.definitions.specs.ForeignTables.{holdsOnly, nodeTableKnown, classTableKnown, rootTableKnown}
+use Rattle.definitions.specs.ForeignTables.{namedOnce, tablesKnown}
 use Rattle.definitions.specs.PhoneSets.{setOf}
 use Rattle.definitions.specs.Combinations.{combinations, combinationRoom, combine}
 use Rattle.definitions.specs.laws.Tests.{T-and, T-three, if-true}
@@ -34,9 +34,10 @@ use Rattle.definitions.specs.laws.Selected.{of-select}
 use Rattle.definitions.specs.laws.Records.{flat-length}
 use Rattle.definitions.specs.laws.Ranges.{Within, line-ranged}
 use Rattle.definitions.specs.laws.Tables.{Heads, node-sized, tables-records, tables-book}
-use Rattle.definitions.specs.laws.Books.{InRange, Roomy, roomy, Orderly, accepted-holds, accepted-orderly}
-use Rattle.definitions.specs.laws.Books.{orderly-heads, accepted-book}
-use Rattle.definitions.specs.laws.Accepted.{allFrom, NodeFits, RootFits, MemberFits, AllFit, accepted-fit}
+use Rattle.definitions.specs.laws.Books.{InRange, Roomy, roomy, Orderly, accepted-holds}
+use Rattle.definitions.specs.laws.Books.{accepted-orderly, orderly-heads, accepted-book}
+use Rattle.definitions.specs.laws.Accepted.{allFrom, NodeFits, RootFits, MemberFits, AllFit}
+use Rattle.definitions.specs.laws.Accepted.{accepted-fit}
 use Rattle.definitions.specs.laws.KnownRecords.{record-exactly, known-first}
 use Rattle.definitions.specs.laws.PhoneSets.{setOf-below}
 
@@ -136,10 +137,10 @@ holds-padded count words h =
 node-known : (header : Header) (at : ℕ) (node : TreeNode) → NodeFits header at node
     → T (questionKnown header at (nodeOf (nodeWords node)) || leafKnown (nodeOf (nodeWords node)))
 unfolding nodeOf nodeWords
-node-known header at (question class position yesNode noNode) f =
-    record-exactly header at (nodeOf (1 ∷ class ∷ position ∷ yesNode ∷ noNode ∷ [])) .1 (inl (refl, f))
+node-known header at (question asked yesNode noNode) f =
+    record-exactly header at (nodeOf (nodeWords (question asked yesNode noNode))) .1 (inl (refl, f))
 node-known header at (leaf model) f =
-    record-exactly header at (nodeOf (2 ∷ model ∷ 0 ∷ 0 ∷ 0 ∷ [])) .1 (inr (refl, f, refl, refl, refl))
+    record-exactly header at (nodeOf (nodeWords (leaf model))) .1 (inr (refl, f, refl, refl, refl))
 
 nodes-known : (header : Header) (at : ℕ) (nodes : List TreeNode) → allFrom (NodeFits header) at nodes
     → T (nodesKnown header at (map nodeOf (map nodeWords nodes)))

@@ -14,10 +14,13 @@ use Rattle.definitions.specs.ForeignTables.{questionKnown, leafKnown, no
 use Rattle.definitions.specs.laws.Tests.{T-and, T-three, T-or}
 use Rattle.definitions.specs.laws.Ranges.{Within}
 use Rattle.definitions.specs.laws.Accepted.{QuestionFits}
+use Rattle.definitions.specs.Lookup.{answers}
+use Rattle.definitions.specs.Tables.{askedOf}
+use Rattle.definitions.specs.BookLines.{asks}
 
 abbrev pub Question : Header → (at : ℕ) → Node → Type 0
 Question header at node =
-    (node .kind ≡ 1) × QuestionFits header at (node .value) (node .position) (node .yes) (node .no)
+    (node .kind ≡ 1) × QuestionFits header at (askedOf node) (node .yes) (node .no)
 
 abbrev pub Leaf : Node → Type 0
 Leaf node =
@@ -45,9 +48,12 @@ question-exactly header at node =
           let (first, second, third) = T-three kind low high .0 three in (
             eqb→eq (node .kind) 1 first,
             record {
-              class-low = leb→le _ _ second;
-              class-high = leb→le _ _ third;
-              position-high = leb→le _ _ fourth;
+              in-range =
+                  record {
+                    class-low = leb→le _ _ second;
+                    class-high = leb→le _ _ third;
+                    position-high = leb→le _ _ fourth;
+                  };
               yes-greater = ltb→lt _ _ fifth;
               yes-listed = ltb→lt _ _ sixth;
               no-greater = ltb→lt _ _ seventh;
@@ -57,9 +63,9 @@ question-exactly header at node =
       λ (is-question, fits).
           rw (
             eq-eqb (node .kind) 1 is-question,
-            le-leb 1 (node .value) (fits .class-low),
-            le-leb (node .value) (header .classes) (fits .class-high),
-            le-leb (node .position) (2 * header .half) (fits .position-high),
+            le-leb 1 (node .value) (fits .in-range .class-low),
+            le-leb (node .value) (header .classes) (fits .in-range .class-high),
+            le-leb (node .position) (2 * header .half) (fits .in-range .position-high),
             lt-ltb at (node .yes) (fits .yes-greater),
             lt-ltb (node .yes) (header .nodes) (fits .yes-listed),
             lt-ltb at (node .no) (fits .no-greater),

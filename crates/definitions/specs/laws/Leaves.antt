@@ -11,14 +11,14 @@ use native.Mathlib.Decide.{ℕ-discrete}
 use lib.Dec.{T}
 use lib.ListN.{length}
 use Rattle.definitions.specs.Lists.{if_then_else_, _!_, select}
-use Rattle.definitions.specs.BookLines.{question, leaf}
+use Rattle.definitions.specs.BookLines.{question, leaf, Asked}
 use Rattle.definitions.specs.Tables.{Book}
 use Rattle.definitions.specs.Lookup.{nodeAt}
 use Rattle.definitions.specs.PhoneSets.{has}
 use Rattle.definitions.specs.Matrices.{Matrix, rootMatrix, yesSide, noSide, meet}
 use Rattle.definitions.specs.Combinations.{Leaf, leavesBelow, isBefore, insertLeaf, ascending}
 use Rattle.definitions.specs.Tables.{rootOf}
-use Rattle.definitions.specs.Combinations.{leavesOf}
+use Rattle.definitions.specs.Combinations.{leavesOf, onYes, onNo}
 use Rattle.definitions.specs.laws.Tests.{T-and}
 use Rattle.definitions.specs.laws.Members.{isIn, of-append, of-single}
 use Rattle.definitions.specs.laws.Walks.{IsLeaf, by-node}
@@ -74,13 +74,13 @@ module _ (book : Book) (levels : ℕ) (m : Matrix) (node : ℕ) where
   unfolding leavesBelow
   below-leaf model e = rw (e, leavesBelow)
 
-  pub below-question : (class position yesNode noNode : ℕ)
-      → nodeAt (book .nodes) node ≡ question class position yesNode noNode
+  pub below-question : (asked : Asked) (yesNode noNode : ℕ)
+      → nodeAt (book .nodes) node ≡ question asked yesNode noNode
       → leavesBelow (suc levels) book m node
-      ≡ leavesBelow levels book (yesSide position (book .classes ! (class - 1)) m) yesNode
-      ++ leavesBelow levels book (noSide position (book .classes ! (class - 1)) m) noNode
+      ≡ leavesBelow levels book (onYes (book .classes) asked m) yesNode
+      ++ leavesBelow levels book (onNo (book .classes) asked m) noNode
   unfolding leavesBelow
-  below-question class position yesNode noNode e = rw (e, leavesBelow)
+  below-question asked yesNode noNode e = rw (e, leavesBelow)
 
 -- ---- the leaves below a node
 
@@ -90,10 +90,10 @@ phoneMatrix book phone = rootMatrix (book .half) (book .phones) phone
 
 -- what both sides of each question keep holds of every leaf below a node of which it holds
 module _ (book : Book) (P : (m : Matrix) → (node : ℕ) → Type 0)
-    (sides : (m : Matrix) (node class position yesNode noNode : ℕ)
-    → nodeAt (book .nodes) node ≡ question class position yesNode noNode → P m node
-    → P (yesSide position (book .classes ! (class - 1)) m) yesNode
-    × P (noSide position (book .classes ! (class - 1)) m) noNode)
+    (sides : (m : Matrix) (node : ℕ) (asked : Asked) (yesNode noNode : ℕ)
+    → nodeAt (book .nodes) node ≡ question asked yesNode noNode → P m node
+    → P (onYes (book .classes) asked m) yesNode
+    × P (onNo (book .classes) asked m) noNode)
   where
     pub below-all : (levels : ℕ) (m : Matrix) (node : ℕ) → P m node
         → (l : Leaf) → isIn l (leavesBelow levels book m node)
@@ -106,23 +106,23 @@ module _ (book : Book) (P : (m : Matrix) → (node : ℕ) → Type 0)
         let same = of-single (record { node = node; matrix = m }) l
         (rw (below-leaf book levels m node model e) at i) in
         subst (λ k. P (k .matrix) (k .node) × IsLeaf (book .nodes) (k .node)) (sym same) (h, (model, e)))
-        (λ class position yesNode noNode e.
-        let s : ℕ = book .classes ! (class - 1) in
-        let onYes : Matrix = yesSide position s m in
-        let onNo : Matrix = noSide position s m in
-        let (yesHolds, noHolds) = sides m node class position yesNode noNode e h in
-        ⊎-elim (below-all levels onYes yesNode yesHolds l) (below-all levels onNo noNode noHolds l)
-        (of-append l (leavesBelow levels book onYes yesNode) (leavesBelow levels book onNo noNode)
-        (rw (below-question book levels m node class position yesNode noNode e) at i)))
+        (λ asked yesNode noNode e.
+        let yesMatrix : Matrix = onYes (book .classes) asked m in
+        let noMatrix : Matrix = onNo (book .classes) asked m in
+        let (yesHolds, noHolds) = sides m node asked yesNode noNode e h in
+        ⊎-elim (below-all levels yesMatrix yesNode yesHolds l) (below-all levels noMatrix noNode noHolds l)
+        (of-append l (leavesBelow levels book yesMatrix yesNode) (leavesBelow levels book noMatrix noNode)
+        (rw (below-question book levels m node asked yesNode noNode e) at i)))
 
 below-inside : (levels : ℕ) (book : Book) (m : Matrix) (node : ℕ) (l : Leaf)
     → isIn l (leavesBelow levels book m node) → Inside (l .matrix) m
 below-inside levels book m node l i =
     below-all book (λ a n. Inside a m)
-    (λ a n class position yesNode noNode e h.
-    let s : ℕ = book .classes ! (class - 1) in (
-      inside-trans (yesSide position s a) a m (yes-inside position s a) h,
-      inside-trans (noSide position s a) a m (no-inside position s a) h,
+    (λ a n asked yesNode noNode e h.
+    let column : ℕ = asked .position in
+    let set : ℕ = book .classes ! (asked .class - 1) in (
+      inside-trans (yesSide column set a) a m (yes-inside column set a) h,
+      inside-trans (noSide column set a) a m (no-inside column set a) h,
     ))
     levels m node (inside-self m) l i .0
 

@@ -23,8 +23,8 @@ members-say (m ∷ members) = says-parts (line-says (lineOfMember m)) (members-s
 pub nodes-say : (at : ℕ) (nodes : List TreeNode) → Says (linesOfNodes at nodes) [] nodes []
 unfolding linesOfNodes memberIn nodeLineIn rootIn
 nodes-say at [] = none-says
-nodes-say at (question class position yesNode noNode ∷ nodes) =
-    says-parts (line-says (N at class position yesNode noNode)) (nodes-say (suc at) nodes)
+nodes-say at (question asked yesNode noNode ∷ nodes) =
+    says-parts (line-says (N at (asked .class) (asked .position) yesNode noNode)) (nodes-say (suc at) nodes)
 nodes-say at (leaf model ∷ nodes) = says-parts (line-says (L at model)) (nodes-say (suc at) nodes)
 
 pub roots-say : (states at : ℕ) (roots : List ℕ) → Says (linesOfRoots states at roots) [] [] roots

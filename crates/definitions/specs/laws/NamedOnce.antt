@@ -31,11 +31,11 @@ child-later nodes forward u d h = at (nodeAt nodes u) refl h
   where
     at : (x : TreeNode) → nodeAt nodes u ≡ x → isIn d (childrenOf x) → Later nodes u d
     at (leaf model) e i = absurd i
-    at (question class position yesNode noNode) e (inl i) =
-        subst (Later nodes u) (sym i) (forward u class position yesNode noNode e .0)
-    at (question class position yesNode noNode) e (inr (inl i)) =
-        subst (Later nodes u) (sym i) (forward u class position yesNode noNode e .1)
-    at (question class position yesNode noNode) e (inr (inr i)) = absurd i
+    at (question asked yesNode noNode) e (inl i) =
+        subst (Later nodes u) (sym i) (forward u asked yesNode noNode e .0)
+    at (question asked yesNode noNode) e (inr (inl i)) =
+        subst (Later nodes u) (sym i) (forward u asked yesNode noNode e .1)
+    at (question asked yesNode noNode) e (inr (inr i)) = absurd i
 
 -- no node is a child twice
 abbrev pub ChildOnce : List TreeNode → Type 0
@@ -107,7 +107,7 @@ one-parent (first ∷ nodes) once (suc u) (suc v) x h k =
 
 -- the leaves by their nodes: at a leaf itself, at a question those of its children
 abbrev leavesFrom : (further : ℕ → List ℕ) → (node : ℕ) → TreeNode → List ℕ
-leavesFrom further node (question class position yesNode noNode) = concatMap further (yesNode ∷ noNode ∷ [])
+leavesFrom further node (question asked yesNode noNode) = concatMap further (yesNode ∷ noNode ∷ [])
 leavesFrom further node (leaf model) = node ∷ []
 
 abbrev pub leavesUnder : (levels : ℕ) → List TreeNode → (node : ℕ) → List ℕ
@@ -171,7 +171,7 @@ module _ (nodes : List TreeNode) (forward : Forward nodes) (once : ChildOnce nod
           → (steps : ℕ) × isBelow nodes steps node d
       at (leaf model) e (inl q) further = (0, sym q)
       at (leaf model) e (inr i) further = absurd i
-      at (question class position yesNode noNode) e i further =
+      at (question asked yesNode noNode) e i further =
           let (child, c, j) = of-concatMap (leavesUnder levels nodes) d (yesNode ∷ noNode ∷ []) i in
           let (steps, b) = further child j in
           (suc steps, below-child steps node child d (rw e c) b)
@@ -184,7 +184,7 @@ module _ (nodes : List TreeNode) (forward : Forward nodes) (once : ChildOnce nod
       at : (x : TreeNode) → nodeAt nodes node ≡ x → ((child : ℕ) → distinct (leavesUnder levels nodes child))
           → distinct (leavesFrom (leavesUnder levels nodes) node x)
       at (leaf model) e further = (λ h. h, tt)
-      at (question class position yesNode noNode) e further =
+      at (question asked yesNode noNode) e further =
           distinct-concatMap (leavesUnder levels nodes) (yesNode ∷ noNode ∷ [])
           (rw e at (children-distinct nodes once node)) (λ child h. further child) shared
         where

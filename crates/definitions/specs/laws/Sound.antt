@@ -6,7 +6,7 @@ use Prim.Native.Nat.{ℕ, _+_, _≤_, _<_}
 use lib.Dec.{T}
 use lib.ListN.{length}
 use Rattle.definitions.specs.Lists.{every}
-use Rattle.definitions.specs.BookLines.{isPhone, question, leaf}
+use Rattle.definitions.specs.BookLines.{isPhone, question, leaf, Asked}
 use Rattle.definitions.specs.Tables.{Book}
 use Rattle.definitions.specs.Lookup.{nodeAt}
 use Rattle.definitions.specs.Tables.{rootOf}
@@ -25,9 +25,9 @@ pub record Sound (book : Book) : Type 0 where
   pub some-phone : 1 ≤ book .phones
   pub forward : Forward (book .nodes)
   -- a question asks about one of the 2n+1 columns
-  pub position : (node class position yesNode noNode : ℕ)
-      → nodeAt (book .nodes) node ≡ question class position yesNode noNode
-      → position < columnsOf book
+  pub position : (node : ℕ) (asked : Asked) (yesNode noNode : ℕ)
+      → nodeAt (book .nodes) node ≡ question asked yesNode noNode
+      → asked .position < columnsOf book
   -- a leaf has a model
   pub model : (node model : ℕ) → node < length (book .nodes) → nodeAt (book .nodes) node ≡ leaf model
       → 1 ≤ model

@@ -27,12 +27,12 @@ pub record Heads (header : Header) (book : Book) : Type 0 where
 
 pub node-sized : (node : TreeNode) → length (nodeWords node) ≡ nodeSize
 unfolding nodeWords
-node-sized (question class position yesNode noNode) = refl
+node-sized (question asked yesNode noNode) = refl
 node-sized (leaf model) = refl
 
 node-back : (node : TreeNode) → treeNode (nodeOf (nodeWords node)) ≡ node
 unfolding treeNode nodeOf nodeWords
-node-back (question class position yesNode noNode) = refl
+node-back (question asked yesNode noNode) = refl
 node-back (leaf model) = refl
 
 nodes-back : (nodes : List TreeNode) → map treeNode (map nodeOf (map nodeWords nodes)) ≡ nodes

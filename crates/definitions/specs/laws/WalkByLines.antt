@@ -12,12 +12,12 @@ use lib.ListN.{length}
 use Rattle.definitions.specs.Lists.{if_then_else_, _!_, every, atLeastOne, select}
 use Rattle.definitions.specs.Faults.{answered}
 use Rattle.definitions.specs.BookLines.{BookLine, headerOf, isPhone, Member, membersOf}
-use Rattle.definitions.specs.BookLines.{TreeNode, question, leaf, nodesOf}
+use Rattle.definitions.specs.BookLines.{TreeNode, question, leaf, nodesOf, Asked}
 use Rattle.definitions.specs.BookReading.{Lent, readBook}
 use Rattle.definitions.specs.Tables.{Book, phonesOfClass, classSets, bookOf}
-use Rattle.definitions.specs.Lookup.{nodeAt, modelAt, holdsAt, walk, leafReached}
+use Rattle.definitions.specs.Lookup.{nodeAt, modelAt, walk, leafReached, answers}
 use Rattle.definitions.specs.PhoneSets.{has}
-use Rattle.definitions.specs.TreesGive.{nodeLine, putInClass, modelBelow, modelGiven}
+use Rattle.definitions.specs.TreesGive.{nodeLine, putInClass, modelBelow, modelGiven, answersByLines}
 use Rattle.definitions.specs.Transcription.{modelOf}
 use Rattle.definitions.specs.laws.Tests.{same-tests, eq→eqb, every-at}
 use Rattle.definitions.specs.laws.Lists.{map-upFrom-at}
@@ -74,13 +74,13 @@ model-at-leaf : (lines : List BookLine) (context : List ℕ) (steps node model :
 unfolding modelBelow
 model-at-leaf lines context steps node model e = rw (e, modelBelow)
 
-model-at-question : (lines : List BookLine) (context : List ℕ) (steps node class position yesNode noNode : ℕ)
-    → nodeLine lines node ≡ some (question class position yesNode noNode)
+model-at-question : (lines : List BookLine) (context : List ℕ) (steps node : ℕ) (asked : Asked)
+    (yesNode noNode : ℕ)
+    → nodeLine lines node ≡ some (question asked yesNode noNode)
     → modelBelow (suc steps) lines context node
-    ≡ modelBelow steps lines context
-    (if putInClass lines class (context ! position) then yesNode else noNode)
+    ≡ modelBelow steps lines context (if answersByLines lines context asked then yesNode else noNode)
 unfolding modelBelow
-model-at-question lines context steps node class position yesNode noNode e = rw (e, modelBelow)
+model-at-question lines context steps node asked yesNode noNode e = rw (e, modelBelow)
 
 module _ (lent : Lent) (text : List ℕ) (lines : List BookLine)
     (accepted : readBook lent text ≡ answered lines)
@@ -100,14 +100,14 @@ module _ (lent : Lent) (text : List ℕ) (lines : List BookLine)
     sound = accepted-sound lent text lines accepted
 
     -- both walks answer a question alike
-    same-answer : (node class position yesNode noNode : ℕ)
-        → nodeAt (nodesOf lines) node ≡ question class position yesNode noNode
-        → putInClass lines class (context ! position) ≡ holdsAt (book .classes) class position context
-    unfolding holdsAt
-    same-answer node class position yesNode noNode e =
-        let q = accepted-question lent text lines accepted node class position yesNode noNode e in
-        put-in-class lines class (context ! position) (q .class-low) (q .class-high)
-        (phone-at position (omega (arith, q .position-high)) .0)
+    same-answer : (node : ℕ) (asked : Asked) (yesNode noNode : ℕ)
+        → nodeAt (nodesOf lines) node ≡ question asked yesNode noNode
+        → answersByLines lines context asked ≡ answers (book .classes) context asked
+    unfolding answersByLines answers
+    same-answer node asked yesNode noNode e =
+        let q = accepted-question lent text lines accepted node asked yesNode noNode e .in-range in
+        put-in-class lines (asked .class) (context ! asked .position) (q .class-low) (q .class-high)
+        (phone-at (asked .position) (omega (arith, q .position-high)) .0)
 
     abbrev Alike : (steps levels node : ℕ) → Type 0
     Alike steps levels node =
@@ -128,17 +128,18 @@ module _ (lent : Lent) (text : List ℕ) (lines : List BookLine)
           model-at (nodesOf lines) node model e,
         )
 
-    alike-question : (steps levels node class position yesNode noNode : ℕ) → node < length (nodesOf lines)
-        → nodeAt (nodesOf lines) node ≡ question class position yesNode noNode
+    alike-question : (steps levels node : ℕ) (asked : Asked) (yesNode noNode : ℕ)
+        → node < length (nodesOf lines)
+        → nodeAt (nodesOf lines) node ≡ question asked yesNode noNode
         → Alike steps levels yesNode → Alike steps levels noNode → Alike (suc steps) (suc levels) node
-    alike-question steps levels node class position yesNode noNode h e yes-side no-side =
-        model-at-question lines context steps node class position yesNode noNode (line-says node _ h e)
+    alike-question steps levels node asked yesNode noNode h e yes-side no-side =
+        model-at-question lines context steps node asked yesNode noNode (line-says node _ h e)
         ∙ rw (
-          walk-question (nodesOf lines) (book .classes) context levels node class position yesNode noNode e,
-          same-answer node class position yesNode noNode e,
+          walk-question (nodesOf lines) (book .classes) context levels node asked yesNode noNode e,
+          same-answer node asked yesNode noNode e,
         )
         (either-node (Alike steps levels) yesNode noNode yes-side no-side
-        (holdsAt (book .classes) class position context))
+        (answers (book .classes) context asked))
 
     -- so enough steps of each end at the same model
     walks-alike : (steps levels node : ℕ) → node < length (nodesOf lines)
@@ -149,9 +150,9 @@ module _ (lent : Lent) (text : List ℕ) (lines : List BookLine)
     walks-alike (suc steps) zero node h k l = absurd (omega arith)
     walks-alike (suc steps) (suc levels) node h k l =
         by-node (nodesOf lines) node (λ model e. alike-leaf steps levels node model h e)
-        (λ class position yesNode noNode e.
-        let (yesLater, noLater) = sound .forward node class position yesNode noNode e in
-        alike-question steps levels node class position yesNode noNode h e
+        (λ asked yesNode noNode e.
+        let (yesLater, noLater) = sound .forward node asked yesNode noNode e in
+        alike-question steps levels node asked yesNode noNode h e
         (walks-alike steps levels yesNode (yesLater .listed) (omega (arith, yesLater .greater))
         (omega (arith, yesLater .greater)))
         (walks-alike steps levels noNode (noLater .listed) (omega (arith, noLater .greater))

@@ -7,8 +7,8 @@ use Prim.Native.Nat.{ℕ, zero, suc, _+_, _≤_, _<_}
 use native.Mathlib.Omega.{arith}
 use lib.ListN.{length}
 use Rattle.definitions.specs.Lists.{if_then_else_}
-use Rattle.definitions.specs.BookLines.{TreeNode, question, leaf}
-use Rattle.definitions.specs.Lookup.{nodeAt, modelAt, holdsAt, walk, leafReached}
+use Rattle.definitions.specs.BookLines.{TreeNode, question, leaf, Asked}
+use Rattle.definitions.specs.Lookup.{nodeAt, modelAt, answers, walk, leafReached}
 
 -- every child is a greater node of the list
 pub record Later (nodes : List TreeNode) (node child : ℕ) : Type 0 where
@@ -17,7 +17,7 @@ pub record Later (nodes : List TreeNode) (node child : ℕ) : Type 0 where
 
 abbrev pub Forward : List TreeNode → Type 0
 Forward nodes =
-    (node class position yesNode noNode : ℕ) → nodeAt nodes node ≡ question class position yesNode noNode
+    (node : ℕ) (asked : Asked) (yesNode noNode : ℕ) → nodeAt nodes node ≡ question asked yesNode noNode
     → Later nodes node yesNode × Later nodes node noNode
 
 -- a node of the list is a leaf
@@ -33,13 +33,13 @@ model-at nodes node model e = rw (e, modelAt)
 -- a node is a leaf or a question
 pub by-node : {P : Type 0} (nodes : List TreeNode) (node : ℕ)
     → ((model : ℕ) → nodeAt nodes node ≡ leaf model → P)
-    → ((class position yesNode noNode : ℕ) → nodeAt nodes node ≡ question class position yesNode noNode → P)
+    → ((asked : Asked) (yesNode noNode : ℕ) → nodeAt nodes node ≡ question asked yesNode noNode → P)
     → P
 by-node {P} nodes node at-leaf at-question = at (nodeAt nodes node) refl
   where
     at : (x : TreeNode) → nodeAt nodes node ≡ x → P
     at (leaf model) e = at-leaf model e
-    at (question class position yesNode noNode) e = at-question class position yesNode noNode e
+    at (question asked yesNode noNode) e = at-question asked yesNode noNode e
 
 -- what holds of both children holds of the one that an answer chooses
 pub either-node : (P : ℕ → Type 0) (yesNode noNode : ℕ) → P yesNode → P noNode
@@ -56,11 +56,11 @@ module _ (nodes : List TreeNode) (classes context : List ℕ) where
   unfolding walk
   walk-leaf steps node model e = rw (e, walk)
 
-  pub walk-question : (steps node class position yesNode noNode : ℕ)
-      → nodeAt nodes node ≡ question class position yesNode noNode → walked (suc steps) node
-      ≡ walked steps (if holdsAt classes class position context then yesNode else noNode)
+  pub walk-question : (steps node : ℕ) (asked : Asked) (yesNode noNode : ℕ)
+      → nodeAt nodes node ≡ question asked yesNode noNode → walked (suc steps) node
+      ≡ walked steps (if answers classes context asked then yesNode else noNode)
   unfolding walk
-  walk-question steps node class position yesNode noNode e = rw (e, walk)
+  walk-question steps node asked yesNode noNode e = rw (e, walk)
 
   -- enough steps end at a leaf
   walk-ends : Forward nodes → (steps node : ℕ) → node < length nodes → length nodes ≤ node + steps
@@ -71,13 +71,13 @@ module _ (nodes : List TreeNode) (classes context : List ℕ) where
       (λ model e.
       let stays = sym (walk-leaf steps node model e) in
       (model, subst (λ (n : ℕ). nodeAt nodes n ≡ leaf model) stays e))
-      (λ class position yesNode noNode e.
-      let (yesLater, noLater) = forward node class position yesNode noNode e in
-      subst (IsLeaf nodes) (sym (walk-question steps node class position yesNode noNode e))
+      (λ asked yesNode noNode e.
+      let (yesLater, noLater) = forward node asked yesNode noNode e in
+      subst (IsLeaf nodes) (sym (walk-question steps node asked yesNode noNode e))
       (either-node (λ child. IsLeaf nodes (walked steps child)) yesNode noNode
       (walk-ends forward steps yesNode (yesLater .listed) (omega (arith, yesLater .greater)))
       (walk-ends forward steps noNode (noLater .listed) (omega (arith, noLater .greater)))
-      (holdsAt classes class position context)))
+      (answers classes context asked)))
 
   pub leaf-reached : Forward nodes → (root : ℕ) → root < length nodes
       → IsLeaf nodes (leafReached nodes classes context root)

@@ -31,7 +31,7 @@ membersFrom phones class (set ∷ sets) =
 
 -- the lines of nodes `at`, at+1, ..
 abbrev pub lineOfNode : (at : ℕ) → TreeNode → BookLine
-lineOfNode at (question class position yesNode noNode) = N at class position yesNode noNode
+lineOfNode at (question asked yesNode noNode) = N at (asked .class) (asked .position) yesNode noNode
 lineOfNode at (leaf model) = L at model
 
 unfoldable pub linesOfNodes : (at : ℕ) → List TreeNode → List BookLine

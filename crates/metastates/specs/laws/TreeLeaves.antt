@@ -13,9 +13,9 @@ use Rattle.definitions.specs.Lists.{if_then_else_, _!_, concatMap}
 use Rattle.definitions.specs.BookLines.{rootCount}
 use Rattle.definitions.specs.Tables.{Book, Tables, tablesBook}
 use Rattle.definitions.specs.PhoneSets.{alone, allPhones}
-use Rattle.definitions.specs.Matrices.{Matrix, matrixSize, matrixWords, rootMatrix, yesSide, noSide}
+use Rattle.definitions.specs.Matrices.{Matrix, matrixSize, matrixWords, rootMatrix}
 use Rattle.definitions.specs.Tables.{rootOf}
-use Rattle.definitions.specs.Combinations.{Leaf, leavesBelow, ascending, leavesOf}
+use Rattle.definitions.specs.Combinations.{Leaf, leavesBelow, ascending, leavesOf, onYes, onNo}
 use Rattle.definitions.specs.laws.Members.{isIn, distinct, of-append, of-single, of-map}
 use Rattle.definitions.specs.laws.Walks.{Forward, by-node}
 use Rattle.definitions.specs.laws.Leaves.{below-leaf, below-question}
@@ -48,16 +48,17 @@ below-in-table book forward (suc levels) m node h k l i =
     let same = of-single (record { node = node; matrix = m }) l
     (rw (below-leaf book levels m node model e) at i) in
     subst (λ x. InTable (length (book .nodes)) x) (sym same) (record { listed = h; narrow = k }))
-    (λ class position yesNode noNode e.
-    let s : ℕ = book .classes ! (class - 1) in
-    let onYes : Matrix = yesSide position s m in
-    let onNo : Matrix = noSide position s m in
-    let (yesLater, noLater) = forward node class position yesNode noNode e in
+    (λ asked yesNode noNode e.
+    let yesMatrix : Matrix = onYes (book .classes) asked m in
+    let noMatrix : Matrix = onNo (book .classes) asked m in
+    let (yesLater, noLater) = forward node asked yesNode noNode e in
     ⊎-elim
-    (below-in-table book forward levels onYes yesNode (yesLater .listed) (rw (yes-length position s m) k) l)
-    (below-in-table book forward levels onNo noNode (noLater .listed) (rw (no-length position s m) k) l)
-    (of-append l (leavesBelow levels book onYes yesNode) (leavesBelow levels book onNo noNode)
-    (rw (below-question book levels m node class position yesNode noNode e) at i)))
+    (below-in-table book forward levels yesMatrix yesNode (yesLater .listed)
+    (rw (yes-length (asked .position) _ m) k) l)
+    (below-in-table book forward levels noMatrix noNode (noLater .listed)
+    (rw (no-length (asked .position) _ m) k) l)
+    (of-append l (leavesBelow levels book yesMatrix yesNode) (leavesBelow levels book noMatrix noNode)
+    (rw (below-question book levels m node asked yesNode noNode e) at i)))
 
 -- none is before it
 below-after : (book : Book) → Forward (book .nodes) → (levels : ℕ) (m : Matrix) (node : ℕ) (l : Leaf)
@@ -70,16 +71,15 @@ below-after book forward (suc levels) m node l i =
     let same = of-single (record { node = node; matrix = m }) l
     (rw (below-leaf book levels m node model e) at i) in
     rw same (omega arith))
-    (λ class position yesNode noNode e.
-    let s : ℕ = book .classes ! (class - 1) in
-    let onYes : Matrix = yesSide position s m in
-    let onNo : Matrix = noSide position s m in
-    let (yesLater, noLater) = forward node class position yesNode noNode e in
+    (λ asked yesNode noNode e.
+    let yesMatrix : Matrix = onYes (book .classes) asked m in
+    let noMatrix : Matrix = onNo (book .classes) asked m in
+    let (yesLater, noLater) = forward node asked yesNode noNode e in
     ⊎-elim
-    (λ j. omega (arith, yesLater .greater, below-after book forward levels onYes yesNode l j))
-    (λ j. omega (arith, noLater .greater, below-after book forward levels onNo noNode l j))
-    (of-append l (leavesBelow levels book onYes yesNode) (leavesBelow levels book onNo noNode)
-    (rw (below-question book levels m node class position yesNode noNode e) at i)))
+    (λ j. omega (arith, yesLater .greater, below-after book forward levels yesMatrix yesNode l j))
+    (λ j. omega (arith, noLater .greater, below-after book forward levels noMatrix noNode l j))
+    (of-append l (leavesBelow levels book yesMatrix yesNode) (leavesBelow levels book noMatrix noNode)
+    (rw (below-question book levels m node asked yesNode noNode e) at i)))
 
 -- they depend on the nodes and the classes only
 below-same : (a b : Book) → a .nodes ≡ b .nodes → a .classes ≡ b .classes → (levels : ℕ) (m : Matrix) (node : ℕ)
@@ -89,16 +89,13 @@ below-same a b e f zero m node = refl
 below-same a b e f (suc levels) m node =
     by-node (a .nodes) node
     (λ model q. below-leaf a levels m node model q ∙ sym (below-leaf b levels m node model (rw e at q)))
-    (λ class position yesNode noNode q.
-    let s : ℕ = a .classes ! (class - 1) in
-    let t : ℕ = b .classes ! (class - 1) in
-    let sets : s ≡ t = ap (λ (sets : List ℕ). sets ! (class - 1)) f in
-    below-question a levels m node class position yesNode noNode q
-    ∙ ap₂ _++_ (below-same a b e f levels (yesSide position s m) yesNode)
-    (below-same a b e f levels (noSide position s m) noNode)
-    ∙ ap (λ (z : ℕ). leavesBelow levels b (yesSide position z m) yesNode
-    ++ leavesBelow levels b (noSide position z m) noNode) sets
-    ∙ sym (below-question b levels m node class position yesNode noNode (rw e at q)))
+    (λ asked yesNode noNode q.
+    below-question a levels m node asked yesNode noNode q
+    ∙ ap₂ _++_ (below-same a b e f levels (onYes (a .classes) asked m) yesNode)
+    (below-same a b e f levels (onNo (a .classes) asked m) noNode)
+    ∙ ap (λ (sets : List ℕ). leavesBelow levels b (onYes sets asked m) yesNode
+    ++ leavesBelow levels b (onNo sets asked m) noNode) f
+    ∙ sym (below-question b levels m node asked yesNode noNode (rw e at q)))
 
 -- ---- the matrix of a root
 

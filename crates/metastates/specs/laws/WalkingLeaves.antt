@@ -13,10 +13,10 @@ use Rattle.definitions.specs.declared.Header.{Header}
 use Rattle.definitions.specs.declared.Node.{Node}
 use Rattle.definitions.specs.Lists.{_!_}
 use Rattle.definitions.specs.BookReading.{nodeSize}
-use Rattle.definitions.specs.Tables.{Book, nodeOf, treeNode, nodeRecords, tablesBook}
+use Rattle.definitions.specs.Tables.{Book, nodeOf, treeNode, nodeRecords, tablesBook, askedOf}
 use Rattle.definitions.specs.ForeignTables.{headerKnown, nodesKnown}
 use Rattle.definitions.specs.Matrices.{Matrix, matrixWords, yesSide, noSide}
-use Rattle.definitions.specs.Combinations.{Leaf, leavesBelow}
+use Rattle.definitions.specs.Combinations.{Leaf, leavesBelow, onYes, onNo}
 use Rattle.definitions.specs.laws.Walks.{Forward, by-node}
 use Rattle.definitions.specs.laws.Leaves.{below-leaf, below-question}
 use Rattle.definitions.specs.laws.Matrices.{yes-length, no-length}
@@ -42,16 +42,15 @@ module _ (book : Book) (forward : Forward (book .nodes)) where
   levels-enough (suc k) (suc l) m node h i j =
       by-node (book .nodes) node
       (λ model e. below-leaf book k m node model e ∙ sym (below-leaf book l m node model e))
-      (λ class position yesNode noNode e.
-      let (yesLater, noLater) = forward node class position yesNode noNode e in
-      let s : ℕ = book .classes ! (class - 1) in
-      below-question book k m node class position yesNode noNode e
+      (λ asked yesNode noNode e.
+      let (yesLater, noLater) = forward node asked yesNode noNode e in
+      below-question book k m node asked yesNode noNode e
       ∙ ap₂ _++_
-      (levels-enough k l (yesSide position s m) yesNode (yesLater .listed) (omega (arith, yesLater .greater))
-      (omega (arith, yesLater .greater)))
-      (levels-enough k l (noSide position s m) noNode (noLater .listed) (omega (arith, noLater .greater))
-      (omega (arith, noLater .greater)))
-      ∙ sym (below-question book l m node class position yesNode noNode e))
+      (levels-enough k l (onYes (book .classes) asked m) yesNode (yesLater .listed)
+      (omega (arith, yesLater .greater)) (omega (arith, yesLater .greater)))
+      (levels-enough k l (onNo (book .classes) asked m) noNode (noLater .listed)
+      (omega (arith, noLater .greater)) (omega (arith, noLater .greater)))
+      ∙ sym (below-question book l m node asked yesNode noNode e))
 
 -- ---- the seven words of a matrix of so many columns, and of one of its sides
 
@@ -114,9 +113,9 @@ module _ (header : Header) (nodes classes : List ℕ) where
           let s : ℕ = classes ! (x .value - 1) in
           let set-is : book .classes ! (x .value - 1) ≡ s =
           getD-take (header .classes) classes (x .value - 1) 0
-          (omega (arith, fits .class-low, fits .class-high)) in
+          (omega (arith, fits .in-range .class-low, fits .in-range .class-high)) in
           ap (λ (n : ℕ). leavesBelow n book m node) some-level
-          ∙ below-question book less m node (x .value) (x .position) (x .yes) (x .no)
+          ∙ below-question book less m node (askedOf x) (x .yes) (x .no)
           (node-is header nodes node listed ∙ ap treeNode (sym own) ∙ rw (eq-eqb (x .kind) 1 kind))
           ∙ ap (λ (z : ℕ). leavesBelow less book (yesSide (x .position) z m) (x .yes)
           ++ leavesBelow less book (noSide (x .position) z m) (x .no)) set-is

@@ -15,7 +15,7 @@ use Rattle.definitions.specs.Lists.{if_then_else_, _!_, concatMap, records, pad
 use Rattle.definitions.specs.BookLines.{question, leaf}
 use Rattle.definitions.specs.BookReading.{nodeSize}
 use Rattle.definitions.specs.Matrices.{matrixSize, matrixWords}
-use Rattle.definitions.specs.Tables.{nodeOf, treeNode, tablesBook}
+use Rattle.definitions.specs.Tables.{nodeOf, treeNode, tablesBook, askedOf}
 use Rattle.definitions.specs.Lookup.{modelAt}
 use Rattle.definitions.specs.Combinations.{Combination, combinationSize, combinationWords}
 use Rattle.definitions.specs.Metastates.{Metastate, noCombination, combinationOf, modelsOf}
@@ -37,7 +37,7 @@ unfolding treeNode
 leaf-value node model = go (eqb (node .kind) 1)
   where
     go : (b : Bool)
-        → (if b then question (node .value) (node .position) (node .yes) (node .no) else leaf (node .value))
+        → (if b then question (askedOf node) (node .yes) (node .no) else leaf (node .value))
         ≡ leaf model → node .value ≡ model
     go true e = let z : _≡_ {A = ℕ} 0 1 = cc in absurd (omega arith)
     go false e = cc

@@ -13,14 +13,14 @@ use Rattle.definitions.specs.declared.Header.{Header}
 use Rattle.definitions.specs.declared.Node.{Node}
 use Rattle.definitions.specs.Lists.{records}
 use Rattle.definitions.specs.BookReading.{nodeSize}
-use Rattle.definitions.specs.Tables.{Book, Tables, nodeOf, treeNode, nodeRecords, tablesBook}
-use Rattle.definitions.specs.ForeignTables.{headerKnown, nodesKnown, classTableKnown, rootTableKnown, namedOnce}
-use Rattle.definitions.specs.ForeignTables.{tablesKnown}
+use Rattle.definitions.specs.Tables.{Book, Tables, nodeOf, treeNode, nodeRecords, tablesBook, askedOf}
+use Rattle.definitions.specs.ForeignTables.{headerKnown, nodesKnown, classTableKnown, rootTableKnown}
+use Rattle.definitions.specs.ForeignTables.{namedOnce, tablesKnown}
 use Rattle.definitions.specs.Lookup.{nodeAt}
 use Rattle.definitions.specs.laws.Records.{record-at}
 use Rattle.definitions.specs.laws.Tables.{node-of-first, tree-nodes-length}
-use Rattle.definitions.specs.laws.Accepted.{allFrom, NodeFits, QuestionFits, question-fitting, fitting-forward}
-use Rattle.definitions.specs.laws.Accepted.{fitting-sound}
+use Rattle.definitions.specs.laws.Accepted.{allFrom, NodeFits, QuestionFits, question-fitting}
+use Rattle.definitions.specs.laws.Accepted.{fitting-forward, fitting-sound}
 use Rattle.definitions.specs.laws.Walks.{Forward}
 use Rattle.definitions.specs.laws.Known.{header-ranges, tables-parts, holds-padded}
 use Rattle.definitions.specs.laws.KnownBooks.{known-nodes, node-table-parts, class-table-parts, none-orphaned}
@@ -57,17 +57,17 @@ module _ (header : Header) (nodes : List Node) (known : T (nodesKnown header 0 n
 
   -- a record of kind 1 is a question that fits
   pub record-fits : (node : ℕ) (x : Node) → x ≡ getD nodes node (nodeOf []) → x .kind ≡ 1
-      → QuestionFits header node (x .value) (x .position) (x .yes) (x .no)
+      → QuestionFits header node (askedOf x) (x .yes) (x .no)
   unfolding treeNode
   record-fits node x e kind =
-      question-fitting header (map treeNode nodes) all-fit node (x .value) (x .position) (x .yes) (x .no)
+      question-fitting header (map treeNode nodes) all-fit node (askedOf x) (x .yes) (x .no)
       (node-listed nodes node ∙ ap treeNode (sym e) ∙ rw (eq-eqb (x .kind) 1 kind))
 
 -- the same of the records in a table
 module _ (header : Header) (words : List ℕ) (known : T (nodesKnown header 0 (nodeRecords header words))) where
   pub question-fits : (node : ℕ) → node < header .nodes → (x : Node)
       → x ≡ nodeOf (drop (nodeSize * node) words) → x .kind ≡ 1
-      → QuestionFits header node (x .value) (x .position) (x .yes) (x .no)
+      → QuestionFits header node (askedOf x) (x .yes) (x .no)
   question-fits node listed x e =
       record-fits header (nodeRecords header words) known node x
       (e ∙ sym (record-listed header words node listed))

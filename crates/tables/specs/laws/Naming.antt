@@ -253,7 +253,7 @@ module _ (nodes : List TreeNode) (roots : List ℕ) (size : ℕ) (room : length 
 
 children-few : (node : TreeNode) → length (childrenOf node) ≤ 2
 unfolding childrenOf
-children-few (question class position yesNode noNode) = omega arith
+children-few (question asked yesNode noNode) = omega arith
 children-few (leaf model) = omega arith
 
 pub children-length : (nodes : List TreeNode) → length (concatMap childrenOf nodes) ≤ 2 * length nodes

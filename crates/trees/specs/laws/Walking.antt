@@ -13,9 +13,9 @@ use Rattle.definitions.specs.declared.Node.{Node}
 use Rattle.definitions.specs.Lists.{if_then_else_}
 use Rattle.definitions.specs.BookLines.{leaf}
 use Rattle.definitions.specs.BookReading.{nodeSize}
-use Rattle.definitions.specs.Tables.{nodeOf, treeNode}
+use Rattle.definitions.specs.Tables.{nodeOf, treeNode, askedOf}
 use Rattle.definitions.specs.ForeignTables.{nodesKnown}
-use Rattle.definitions.specs.Lookup.{nodeAt, holdsAt, walk, leafReached, modelAt}
+use Rattle.definitions.specs.Lookup.{nodeAt, answers, walk, leafReached, modelAt}
 use Rattle.definitions.specs.laws.Walks.{walk-leaf, walk-question, either-node, model-at}
 use Rattle.tables.specs.laws.Records.{treeNodes}
 use Rattle.tables.specs.laws.KnownTables.{node-listed, node-is, record-fits}
@@ -27,7 +27,7 @@ module _ (header : Header) (nodes : List Node) (classes context : List ℕ) wher
 
   -- the child of a question that the context goes to
   abbrev childOf : Node → ℕ
-  childOf x = if holdsAt classes (x .value) (x .position) context then x .yes else x .no
+  childOf x = if answers classes context (askedOf x) then x .yes else x .no
 
   -- from where a walk stands, with the steps that are left, it reaches the leaf
   pub record Walking (root node taken : ℕ) : Type 0 where
@@ -66,7 +66,7 @@ module _ (header : Header) (nodes : List Node) (classes context : List ℕ) wher
       walk-goes taken h =
           let left : ℕ = header .nodes - (taken + 1) in
           let more : header .nodes - taken ≡ suc left = omega arith in
-          rw more (walk-question (map treeNode nodes) classes context left node (x .value) (x .position)
+          rw more (walk-question (map treeNode nodes) classes context left node (askedOf x)
           (x .yes) (x .no) (node-own ∙ rw (eq-eqb (x .kind) 1 kind)))
 
       module _ (known : T (nodesKnown header 0 nodes)) (child : ℕ) (chosen : child ≡ childOf x) where
@@ -76,7 +76,7 @@ module _ (header : Header) (nodes : List Node) (classes context : List ℕ) wher
             let q = record-fits header nodes known node x own kind in
             rw chosen (either-node (λ n. (node < n) × (n < header .nodes)) (x .yes) (x .no)
             (q .yes-greater, q .yes-listed) (q .no-greater, q .no-listed)
-            (holdsAt classes (x .value) (x .position) context))
+            (answers classes context (askedOf x)))
 
         pub goes-on : (root taken : ℕ) → Walking root node taken → Walking root child (taken + 1)
         goes-on root taken w =

@@ -8,6 +8,9 @@ use borrow.Fn.Kinds.{In}
 use borrow.Fn.PlainCycle.{Measures, is, falls, and}
 use Rattle.definitions.specs.declared.Node.{Node}
 use Rattle.definitions.specs.laws.Accepted.{QuestionFits}
+use Rattle.definitions.specs.Tables.{askedOf}
+use Rattle.definitions.specs.BookLines.{Asked, asks}
+use Rattle.definitions.specs.Combinations.{onYes, onNo}
 use Rattle.tables.specs.laws.KnownTables.{question-fits}
 use Rattle.metastates.specs.laws.WalkingLeaves.{half-narrow, yes-words, no-words, walk-leaf, last-leaf}
 use Rattle.metastates.specs.laws.WalkingLeaves.{walk-sides, last-sides}
@@ -61,8 +64,8 @@ abbrev read-node : (t : ℕ) → Asks t → Node
 read-node t c = c .before .before .node-at .result
 
 fits : (t : ℕ) (c : Asks t)
-    → QuestionFits (entry t c .args .header) (entry t c .args .node) (read-node t c .value)
-    (read-node t c .position) (read-node t c .yes) (read-node t c .no)
+    → QuestionFits (entry t c .args .header) (entry t c .args .node) (askedOf (read-node t c))
+    (read-node t c .yes) (read-node t c .no)
 fits t c =
     let a = entry t c .args in
     let p = entry t c .pre .1 in
@@ -95,7 +98,7 @@ walk-wide-requires : (t : ℕ) → walk-lts.Need-wide-requires (calls t) (walk-a
 walk-wide-requires t c κs = search needs
 
 walk-sub-class : (t : ℕ) → walk-lts.Need-sub-class (calls t) (walk-at t) walk.Post
-walk-sub-class t c = omega (arith, c .wide .ensures, fits t (c .before) .class-low)
+walk-sub-class t c = omega (arith, c .wide .ensures, fits t (c .before) .in-range .class-low)
 
 walk-mul-set : (t : ℕ) → walk-lts.Need-mul-set (calls t) (walk-at t) walk.Post
 walk-mul-set t c = search needs
@@ -106,8 +109,8 @@ walk-shared-slice-read-set t c =
     omega (
       arith,
       c .before .wide .ensures,
-      f .class-low,
-      f .class-high,
+      f .in-range .class-low,
+      f .in-range .class-high,
       entry t (c .before .before) .pre .1 .2,
     )
 

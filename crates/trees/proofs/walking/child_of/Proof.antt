@@ -5,7 +5,8 @@ use Prim.Native.Nat.{ℕ}
 use borrow.Author.Needs.{needs}
 use Rattle.definitions.specs.Lists.{if_then_else_, _!_}
 use Rattle.definitions.specs.PhoneSets.{has}
-use Rattle.definitions.specs.Lookup.{holdsAt}
+use Rattle.definitions.specs.Lookup.{answers}
+use Rattle.definitions.specs.Tables.{askedOf}
 use Rattle.trees.proofs.walking.child_of.Statement.{statement}
 use Rattle.trees.proofs.walking.child_of.Tie as tie
 
@@ -26,9 +27,9 @@ abbrev entry : tie.After-has-phone → tie.Start
 entry c = c .before .before .before .before .before .before
 
 answer : (c : tie.After-has-phone)
-    → holdsAt (entry c .args .classes .now) (entry c .args .node .value) (entry c .args .node .position)
-    (entry c .args .context .now) ≡ c .has-phone .result
-unfolding holdsAt
+    → answers (entry c .args .classes .now) (entry c .args .context .now) (askedOf (entry c .args .node))
+    ≡ c .has-phone .result
+unfolding answers
 answer c =
     let word = c .before in
     let place = ap (λ (i : ℕ). entry c .args .context .now ! i) (word .before .wide .ensures) in
@@ -37,8 +38,8 @@ answer c =
 
 child : (c : tie.After-has-phone) (b : Bool) → c .has-phone .result ≡ b
     → (if b then entry c .args .node .yes else entry c .args .node .no)
-    ≡ (if holdsAt (entry c .args .classes .now) (entry c .args .node .value) (entry c .args .node .position)
-    (entry c .args .context .now) then entry c .args .node .yes else entry c .args .node .no)
+    ≡ (if answers (entry c .args .classes .now) (entry c .args .context .now) (askedOf (entry c .args .node))
+    then entry c .args .node .yes else entry c .args .node .no)
 child c b e =
     let x = entry c .args .node in
     sym (ap (λ (b : Bool). if b then x .yes else x .no) (answer c ∙ e))
