@@ -11,7 +11,7 @@ use Rattle.definitions.specs.Lists.{if_then_else_}
 use Rattle.definitions.specs.Forms.{bookForms}
 use Rattle.definitions.specs.Lines.{Line, inFixedRanges}
 use Rattle.definitions.specs.BookLines.{BookLine, H, Q, N, L, R, bookLine, headerIn, headerOf, rootCount}
-use Rattle.definitions.specs.BookLines.{Member, membersOf, nodeIn, nodesOf, rootsOf}
+use Rattle.definitions.specs.BookLines.{Member, membersOf, nodeIn, nodesOf, rootsOf, nextPlace}
 use Rattle.definitions.specs.BookReading.{Lent, withinHeader, comesBefore, bookTests}
 use Rattle.book.specs.declared.State.{State}
 use Rattle.book.specs.declared.Last.{Last}
@@ -38,7 +38,7 @@ stateOf before =
       last = lastOf (membersOf before);
       nodes = length (nodesOf before);
       first = firstNodeFrom 1 before;
-      roots = length (rootsOf before);
+      roots = nextPlace (rootsOf before);
     }
 
 -- a header with states, from the first line on

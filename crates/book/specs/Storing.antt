@@ -6,7 +6,7 @@ use lib.ListN.{set}
 use Rattle.definitions.specs.Lists.{_!_, concatMap, padded}
 use Rattle.definitions.specs.PhoneSets.{alone}
 use Rattle.definitions.specs.BookLines.{BookLine, H, Q, N, L, R, question, leaf, headerOf, membersOf}
-use Rattle.definitions.specs.BookLines.{nodesOf, rootsOf, asks}
+use Rattle.definitions.specs.BookLines.{nodesOf, rootsOf, asks, rootNames, rootWords}
 use Rattle.definitions.specs.BookReading.{Lent, nodeSize}
 use Rattle.definitions.specs.Tables.{nodeWords, classSets}
 use Rattle.lines.specs.Putting.{putAt}
@@ -66,11 +66,11 @@ unfoldable pub classesStored : Lent → (before : List BookLine) → List ℕ
 classesStored lent before = padded (lent .classes) (classSets (headerOf before .classes) (membersOf before))
 
 unfoldable pub rootsStored : Lent → (before : List BookLine) → List ℕ
-rootsStored lent before = padded (lent .roots) (rootsOf before)
+rootsStored lent before = padded (lent .roots) (rootWords (rootsOf before))
 
 -- the nodes that they name, as children and as roots
 unfoldable pub namesOf : (before : List BookLine) → List ℕ
-namesOf before = allNames (nodesOf before) (rootsOf before)
+namesOf before = allNames (nodesOf before) (rootNames (rootsOf before))
 
 -- "how often each of up to 4096 nodes was named"
 unfoldable pub countsStored : (before : List BookLine) → List ℕ

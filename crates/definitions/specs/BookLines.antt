@@ -3,6 +3,7 @@ use mathlib.Core.List.{List, [], _∷_, map}
 use Prim.Native.Nat.{ℕ, _*_}
 use Prim.Native.Char.{code}
 use lib.Dec.{leb, eqb}
+use lib.ListN.{length}
 use mathlib.Core.Bool.{Bool, _&&_}
 use Rattle.definitions.specs.declared.Header.{Header}
 use Rattle.definitions.specs.Lists.{if_then_else_, _!_, concatMap}
@@ -104,16 +105,33 @@ nodeIn line = map (λ l. l .node) (nodeLineIn line)
 unfoldable pub nodesOf : List BookLine → List TreeNode
 nodesOf lines = map (λ l. l .node) (nodeLinesOf lines)
 
--- the roots, "in R order"
-unfoldable pub rootIn : BookLine → List ℕ
+-- the roots: "phone, state, root node"
+pub record Root : Type 0 where
+  pub phone : ℕ
+  pub state : ℕ
+  pub node : ℕ
+
+unfoldable pub rootIn : BookLine → List Root
 rootIn (H _ _ _ _ _) = []
 rootIn (Q _ _) = []
 rootIn (N _ _ _ _ _) = []
 rootIn (L _ _) = []
-rootIn (R phone state root) = root ∷ []
+rootIn (R phone state root) = record { phone = phone; state = state; node = root } ∷ []
 
-unfoldable pub rootsOf : List BookLine → List ℕ
+unfoldable pub rootsOf : List BookLine → List Root
 rootsOf lines = concatMap rootIn lines
+
+-- the place of the next root, as many as there are
+abbrev pub nextPlace : List Root → ℕ
+nextPlace roots = length roots
+
+-- the nodes that they name
+abbrev pub rootNames : List Root → List ℕ
+rootNames roots = map (λ r. r .node) roots
+
+-- the words of their table, "in R order"
+abbrev pub rootWords : List Root → List ℕ
+rootWords roots = map (λ r. r .node) roots
 
 -- the nodes that a node names. "Every node is named exactly once, as a child or as a root"
 unfoldable pub childrenOf : TreeNode → List ℕ

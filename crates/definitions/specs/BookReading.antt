@@ -13,7 +13,7 @@ use Rattle.definitions.specs.Forms.{bookForms}
 use Rattle.definitions.specs.Reading.{Kind, readText}
 use Rattle.definitions.specs.BookLines.{BookLine, H, Q, N, L, R, bookLine, headerIn, headerOf}
 use Rattle.definitions.specs.BookLines.{rootCount, Member, membersOf, TreeNode, nodeLineIn, nodesOf}
-use Rattle.definitions.specs.BookLines.{rootsOf, childrenOf}
+use Rattle.definitions.specs.BookLines.{rootsOf, childrenOf, nextPlace, rootNames}
 
 -- 14 for the letter. "Order: one H; Q lines ..; one N or L per node ..; one R for every phone and state"
 unfoldable pub bookFollows : (before : List BookLine) → BookLine → Bool
@@ -47,8 +47,8 @@ bookInOrder before (Q class phone) =
 bookInOrder before (N node _ _ _ _) = eqb node (length (nodesOf before))
 bookInOrder before (L node _) = eqb node (length (nodesOf before))
 bookInOrder before (R phone state _) =
-    let roots : ℕ = length (rootsOf before) in
-    eqb phone (roots / headerOf before .states + 1) && eqb state (roots % headerOf before .states + 1)
+    let place : ℕ = nextPlace (rootsOf before) in
+    eqb phone (place / headerOf before .states + 1) && eqb state (place % headerOf before .states + 1)
 
 -- not 15. "A child's number is greater than its node's."
 unfoldable pub childrenGreater : BookLine → Bool
@@ -84,7 +84,7 @@ bookTests lent line =
 -- not 17: "one R for every phone and state", a book's last lines
 unfoldable pub bookComplete : List BookLine → Bool
 bookComplete lines =
-    ltb 0 (length lines) && eqb (length (rootsOf lines)) (rootCount (headerOf lines))
+    ltb 0 (length lines) && eqb (nextPlace (rootsOf lines)) (rootCount (headerOf lines))
 
 -- the nodes that are not "named exactly once, as a child or as a root", ascending
 unfoldable pub orphans : List TreeNode → (roots : List ℕ) → List ℕ
@@ -104,7 +104,7 @@ lineNumberFrom at node (line ∷ lines) = if isLineOf node line then at else lin
 -- "then 16 at the lowest such node's line"
 unfoldable pub judgeNames : List BookLine → Outcome (List BookLine)
 judgeNames lines =
-    elim (orphans (nodesOf lines) (rootsOf lines)) [
+    elim (orphans (nodesOf lines) (rootNames (rootsOf lines))) [
       | [] ↦ answered lines
       | node ∷ others ↦ refuse Orphan (lineNumberFrom 1 node lines)
     ]

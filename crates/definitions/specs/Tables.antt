@@ -9,8 +9,8 @@ use Rattle.definitions.specs.Faults.{Outcome, answered, refused}
 use Rattle.definitions.specs.Lists.{if_then_else_, _!_, select, concatMap, upFrom, records, cleared}
 use Rattle.definitions.specs.Lists.{padded}
 use Rattle.definitions.specs.PhoneSets.{setOf}
-use Rattle.definitions.specs.BookLines.{BookLine, headerOf, rootCount, Member, membersOf}
-use Rattle.definitions.specs.BookLines.{TreeNode, question, leaf, nodesOf, rootsOf, Asked, asks}
+use Rattle.definitions.specs.BookLines.{BookLine, headerOf, rootCount, Member, membersOf, TreeNode}
+use Rattle.definitions.specs.BookLines.{question, leaf, nodesOf, rootsOf, Asked, asks, rootWords}
 use Rattle.definitions.specs.BookReading.{Lent, nodeSize}
 
 -- A book as the later stages use it: its nodes, the set of each class, and the roots by phone and state.
@@ -42,7 +42,7 @@ bookOf lines =
       phones = headerOf lines .phones;
       nodes = nodesOf lines;
       classes = classSets (headerOf lines .classes) (membersOf lines);
-      roots = rootsOf lines;
+      roots = rootWords (rootsOf lines);
     }
 
 -- The words of the tables.

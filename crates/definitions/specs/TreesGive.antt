@@ -8,8 +8,8 @@ use lib.Dec.{eqb}
 use lib.ListN.{length, take, drop, replicate}
 use Rattle.definitions.specs.Lists.{if_then_else_, _!_, every, atLeastOne, firstWhere, mapOption}
 use Rattle.definitions.specs.Lists.{concatMap, upFrom}
-use Rattle.definitions.specs.BookLines.{BookLine, H, Q, N, L, R, headerOf, isPhone, membersOf}
-use Rattle.definitions.specs.BookLines.{TreeNode, question, leaf, nodeLinesOf, Asked}
+use Rattle.definitions.specs.BookLines.{BookLine, headerOf, isPhone, membersOf, TreeNode, question}
+use Rattle.definitions.specs.BookLines.{leaf, nodeLinesOf, Asked, rootsOf}
 
 -- "The context of place i in a sequence S has 2n+1 phones: in column c the phone at place i+c−n, or 1 where
 -- that lies beyond either end." With n silences before and after S, place i+c−n of S is place i+c. So the
@@ -26,13 +26,8 @@ contexts half S = windows (2 * half + 1) (length S) (withSilence half S)
 
 -- "the node in the R line of the phone .. and that state"
 unfoldable pub rootLine : List BookLine → (phone state : ℕ) → Option ℕ
-rootLine [] phone state = none
-rootLine (H _ _ _ _ _ ∷ lines) phone state = rootLine lines phone state
-rootLine (Q _ _ ∷ lines) phone state = rootLine lines phone state
-rootLine (N _ _ _ _ _ ∷ lines) phone state = rootLine lines phone state
-rootLine (L _ _ ∷ lines) phone state = rootLine lines phone state
-rootLine (R p s root ∷ lines) phone state =
-    if eqb p phone && eqb s state then some root else rootLine lines phone state
+rootLine lines phone state =
+    mapOption (λ r. r .node) (firstWhere (λ r. eqb (r .phone) phone && eqb (r .state) state) (rootsOf lines))
 
 -- what the N or L line of a node says
 unfoldable pub nodeLine : List BookLine → (node : ℕ) → Option TreeNode

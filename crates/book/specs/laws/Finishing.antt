@@ -13,7 +13,7 @@ use Rattle.definitions.specs.declared.Fault.the-variants.{Orphan, Count}
 use Rattle.definitions.specs.Lists.{if_then_else_}
 use Rattle.definitions.specs.Faults.{answered, refuse, judge}
 use Rattle.definitions.specs.Reading.{readFrom}
-use Rattle.definitions.specs.BookLines.{BookLine, headerOf, TreeNode, nodesOf, rootsOf}
+use Rattle.definitions.specs.BookLines.{BookLine, headerOf, TreeNode, nodesOf, rootsOf, rootNames}
 use Rattle.definitions.specs.BookReading.{Lent, bookKind, bookComplete, judgeNames, lineNumberFrom}
 use Rattle.definitions.specs.laws.Tests.{by-test}
 use Rattle.definitions.specs.laws.Judging.{refused-not-answered}
@@ -47,7 +47,7 @@ finish-names lent before k =
     nodes = nodesOf before
 
     roots : List ℕ
-    roots = rootsOf before
+    roots = rootNames (rootsOf before)
 
     node : ℕ
     node = firstMisnamed (take (length nodes) (countsStored before))

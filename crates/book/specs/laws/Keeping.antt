@@ -17,6 +17,7 @@ use Rattle.definitions.specs.BookReading.{Lent, nodeSize, wideEnough, bookFollo
 use Rattle.definitions.specs.BookReading.{withinHeader, isLineOf, lineNumberFrom}
 use Rattle.definitions.specs.laws.Tests.{T-and, by-test}
 use Rattle.definitions.specs.laws.SaidLines.{none-says, line-says, nodes-count, roots-count, header-parts}
+use Rattle.definitions.specs.laws.SaidLines.{roots-none, line-of-root}
 use Rattle.definitions.specs.laws.Books.{Fits, InRange, node-started, test-started, roots-few, roomy}
 use Rattle.book.specs.States.{firstNodeFrom, stateOf, HasStates}
 use Rattle.book.specs.Storing.{HasRoom}
@@ -46,8 +47,8 @@ kept-none lent = record {
   in-range = λ l. absurd (omega arith);
   wide = rw (no-header-fits lent) tt;
   nodes = rw (none-says .nodes-said) (omega arith);
-  roots = rw (none-says .roots-said) (omega arith);
-  after-nodes = λ l. absurd (omega (arith, ap length (none-says .roots-said)));
+  roots = rw roots-none (omega arith);
+  after-nodes = λ l. absurd (omega (arith, ap length roots-none));
   together = λ l. absurd (omega (arith, ap length (none-says .nodes-said)));
   node-lines = λ node l. absurd (omega (arith, ap length (none-says .nodes-said)));
 }
@@ -162,7 +163,7 @@ unfolding bookFollows bookInOrder headerOf headerIn nodeLineIn rootIn isLineOf a
 kept-more lent [] (H half states phones classes nodes) k u f =
     let says = line-says (H half states phones classes nodes) in
     let no-nodes = ap length (says .nodes-said) in
-    let no-roots = ap length (says .roots-said) in
+    let no-roots = ap length (line-of-root (H half states phones classes nodes)) in
     record {
       in-range = λ l. f .ranged;
       wide = f .wide;
@@ -236,7 +237,7 @@ kept-room lent before (R phone state root) k u f =
 pub kept-few : (lent : Lent) (before : List BookLine) → Kept lent before
     → (length (nodesOf before) ≤ 4096) × (length (rootsOf before) ≤ 192)
 kept-few lent [] k =
-    (rw (none-says .nodes-said) (omega arith), rw (none-says .roots-said) (omega arith))
+    (rw (none-says .nodes-said) (omega arith), rw roots-none (omega arith))
 kept-few lent (x ∷ before) k =
     let header : Header = headerOf (x ∷ before) in
     let range : InRange header = k .in-range (omega arith) in

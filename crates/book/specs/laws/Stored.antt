@@ -19,7 +19,7 @@ use Rattle.definitions.specs.Lists.{_!_, concatMap, select, upFrom, cleared, pa
 use Rattle.definitions.specs.PhoneSets.{has, alone, setOf}
 use Rattle.definitions.specs.BookLines.{BookLine, H, Q, N, L, R, headerIn, headerOf, Member, membersOf}
 use Rattle.definitions.specs.BookLines.{memberIn, TreeNode, question, leaf, nodesOf, nodeLineIn, rootsOf}
-use Rattle.definitions.specs.BookLines.{rootIn, childrenOf, asks}
+use Rattle.definitions.specs.BookLines.{rootIn, childrenOf, asks, Root, rootWords}
 use Rattle.definitions.specs.BookReading.{Lent, nodeSize, bookFollows, bookInOrder, withinHeader}
 use Rattle.definitions.specs.BookReading.{bookComplete}
 use Rattle.definitions.specs.Tables.{nodeWords, phonesOfClass, classSets}
@@ -31,8 +31,8 @@ use Rattle.definitions.specs.laws.PhoneSets.{has-or, same-members}
 use Rattle.definitions.specs.laws.SevenWords.{padded-column}
 use Rattle.definitions.specs.laws.Records.{flat-length}
 use Rattle.definitions.specs.laws.Tables.{node-sized}
-use Rattle.definitions.specs.laws.SaidLines.{none-says, line-says, members-more, nodes-more, roots-more}
-use Rattle.definitions.specs.laws.SaidLines.{header-parts}
+use Rattle.definitions.specs.laws.SaidLines.{none-says, line-says, members-more, nodes-more, header-parts}
+use Rattle.definitions.specs.laws.SaidLines.{root-words-more, root-words-count}
 use Rattle.definitions.specs.laws.Books.{Fits, node-started, test-started, roomy}
 use Rattle.tables.specs.Naming.{countsOf}
 use Rattle.tables.specs.laws.Naming.{counts-none, counts-length, counts-named, children-length}
@@ -108,15 +108,15 @@ pub roots-stored : (lent : Lent) (before : List BookLine) (line : BookLine) → 
     → rootsAfter (length (rootsOf before)) line (rootsStored lent before)
     ≡ rootsStored lent (before ++ (line ∷ []))
 unfolding rootsAfter rootsStored rootIn bookFollows
-roots-stored lent before (H half states phones classes nodes) k c f = rw (roots-more, append-nil)
-roots-stored lent before (Q class phone) k c f = rw (roots-more, append-nil)
-roots-stored lent before (N node class position yesNode noNode) k c f = rw (roots-more, append-nil)
-roots-stored lent before (L node model) k c f = rw (roots-more, append-nil)
+roots-stored lent before (H half states phones classes nodes) k c f = rw (root-words-more, append-nil)
+roots-stored lent before (Q class phone) k c f = rw (root-words-more, append-nil)
+roots-stored lent before (N node class position yesNode noNode) k c f = rw (root-words-more, append-nil)
+roots-stored lent before (L node model) k c f = rw (root-words-more, append-nil)
 roots-stored lent before (R phone state root) k c f =
     let fewer = roots-missing lent before k (test-started before _ (f .follows)) c in
-    rw roots-more
-    (set-after (lent .roots) (rootsOf before) root
-    (omega (arith, fewer, roomy lent (headerOf before) (k .wide) .roots)))
+    rw (root-words-more, ← root-words-count before)
+    (set-after (lent .roots) (rootWords (rootsOf before)) root
+    (omega (arith, fewer, roomy lent (headerOf before) (k .wide) .roots, root-words-count before)))
 
 -- ---- the table of classes
 
@@ -254,7 +254,7 @@ no-root-yet : (lent : Lent) (before : List BookLine) → Kept lent before
     → length (nodesOf before) < headerOf before .nodes → rootsOf before ≡ []
 no-root-yet lent before k h = none (rootsOf before) refl
   where
-    none : (roots : List ℕ) → rootsOf before ≡ roots → rootsOf before ≡ []
+    none : (roots : List Root) → rootsOf before ≡ roots → rootsOf before ≡ []
     none [] e = e
     none (root ∷ roots) e =
         absurd (omega (arith, k .after-nodes (rw e (omega arith))))
@@ -264,23 +264,23 @@ few-names : (lent : Lent) (before : List BookLine) → Kept lent before → leng
 unfolding namesOf
 few-names lent before k =
     let (nodes, roots) = kept-few lent before k in
-    rw length-append (omega (arith, children-length (nodesOf before)))
+    rw length-append (omega (arith, children-length (nodesOf before), root-words-count before))
 
 names-more : (lent : Lent) (before : List BookLine) (line : BookLine) → Kept lent before
     → T (bookFollows before line) → namesOf before ++ namesIn line ≡ namesOf (before ++ (line ∷ []))
 unfolding namesOf namesIn bookFollows nodeLineIn rootIn childrenOf
-names-more lent before (H half states phones classes nodes) k f = rw (nodes-more, roots-more) (simp append-nil)
-names-more lent before (Q class phone) k f = rw (nodes-more, roots-more) (simp append-nil)
+names-more lent before (H half states phones classes nodes) k f = rw (nodes-more, root-words-more) (simp append-nil)
+names-more lent before (Q class phone) k f = rw (nodes-more, root-words-more) (simp append-nil)
 names-more lent before (N node class position yesNode noNode) k f =
     rw (
       nodes-more,
-      roots-more,
+      root-words-more,
       no-root-yet lent before k (ltb→lt _ _ f),
       concatMap-snoc childrenOf (nodesOf before) (question (asks class position) yesNode noNode),
     ) (simp append-nil)
 names-more lent before (L node model) k f =
-    rw (nodes-more, roots-more, concatMap-snoc childrenOf (nodesOf before) (leaf model)) (simp append-nil)
-names-more lent before (R phone state root) k f = rw (nodes-more, roots-more) (simp (append-nil, append-assoc))
+    rw (nodes-more, root-words-more, concatMap-snoc childrenOf (nodesOf before) (leaf model)) (simp append-nil)
+names-more lent before (R phone state root) k f = rw (nodes-more, root-words-more) (simp (append-nil, append-assoc))
 
 few-more : (line : BookLine) → length (namesIn line) ≤ 2
 unfolding namesIn
@@ -333,6 +333,7 @@ stored-lengths lent before k =
           (omega (arith, room .nodes, words, k .nodes));
       classes = padded-length (lent .classes) (classSets classes (membersOf before))
           (omega (arith, room .classes, sets));
-      roots = padded-length (lent .roots) (rootsOf before) (omega (arith, room .roots, k .roots));
+      roots = padded-length (lent .roots) (rootWords (rootsOf before))
+          (omega (arith, room .roots, k .roots, root-words-count before));
       counts = counts-length 4096 (namesOf before);
     }

@@ -14,7 +14,7 @@ use Rattle.definitions.specs.Faults.{answered}
 use Rattle.definitions.specs.Forms.{_‥_}
 use Rattle.definitions.specs.BookLines.{BookLine, H, Q, N, L, R, headerOf, TreeNode, question, leaf}
 use Rattle.definitions.specs.BookLines.{nodesOf, nodeIn, nodeLineIn, rootsOf, rootIn, Member, membersOf}
-use Rattle.definitions.specs.BookLines.{memberIn, Asked, asks}
+use Rattle.definitions.specs.BookLines.{memberIn, Asked, asks, rootWords}
 use Rattle.definitions.specs.BookReading.{Lent, withinHeader, bookInOrder, childrenGreater, readBook}
 use Rattle.definitions.specs.Tables.{Book, bookOf}
 use Rattle.definitions.specs.Lookup.{nodeAt}
@@ -22,7 +22,7 @@ use Rattle.definitions.specs.Tables.{rootOf}
 use Rattle.definitions.specs.laws.Tests.{T-and, T-three}
 use Rattle.definitions.specs.laws.Ranges.{Within}
 use Rattle.definitions.specs.laws.Tables.{Heads}
-use Rattle.definitions.specs.laws.SaidLines.{line-says, members-more, nodes-more, roots-more}
+use Rattle.definitions.specs.laws.SaidLines.{line-says, members-more, nodes-more, root-words-more}
 use Rattle.definitions.specs.laws.Books.{InRange, Fits, Orderly, accepted-holds, accepted-orderly}
 use Rattle.definitions.specs.laws.Books.{orderly-heads}
 use Rattle.definitions.specs.laws.Walks.{Forward}
@@ -84,7 +84,7 @@ MemberFits header i m = m .phone ≤ header .phones
 
 pub record AllFit (header : Header) (lines : List BookLine) : Type 0 where
   pub nodes : allFrom (NodeFits header) 0 (nodesOf lines)
-  pub roots : allFrom (RootFits header) 0 (rootsOf lines)
+  pub roots : allFrom (RootFits header) 0 (rootWords (rootsOf lines))
   pub members : allFrom (MemberFits header) 0 (membersOf lines)
 
 -- the node, the root or the member of a line that passed its tests
@@ -126,7 +126,7 @@ nodes-fit lent before (L node model) f = (f .ranged, tt)
 nodes-fit lent before (R phone state root) f = tt
 
 roots-fit : (lent : Lent) (before : List BookLine) (line : BookLine) → Fits lent before line
-    → allFrom (RootFits (headerOf before)) (length (rootsOf before)) (rootIn line)
+    → allFrom (RootFits (headerOf before)) (length (rootWords (rootsOf before))) (rootWords (rootIn line))
 unfolding rootIn withinHeader
 roots-fit lent before (H half states phones classes nodes) f = tt
 roots-fit lent before (Q class phone) f = tt
@@ -176,7 +176,8 @@ accepted-fit lent text lines e =
         rw e record {
           nodes = all-more (NodeFits header) (nodesOf before) (nodeIn line) (nodes-more before line)
               (a .nodes) (nodes-fit lent before line f);
-          roots = all-more (RootFits header) (rootsOf before) (rootIn line) (roots-more before line)
+          roots = all-more (RootFits header) (rootWords (rootsOf before)) (rootWords (rootIn line))
+              (root-words-more before line)
               (a .roots) (roots-fit lent before line f);
           members = all-more (MemberFits header) (membersOf before) (memberIn line) (members-more before line)
               (a .members) (members-fit lent before line f);

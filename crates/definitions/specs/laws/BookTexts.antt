@@ -1,7 +1,7 @@
 -- Laws about the texts of books: reading accepts what the writer of tree books writes, and finds that book.
 -- The idea: every line passes its tests after those before it, which say what they state and no more; so one
 -- induction for the members of classes, one for the nodes and one for the roots.
-use mathlib.Core.Path.{_≡_, refl, sym, _∙_}
+use mathlib.Core.Path.{_≡_, refl, sym, _∙_, ap}
 use mathlib.Core.Logic.{inl, inr}
 use mathlib.Core.List.{List, [], _∷_, _++_, map}
 use mathlib.Core.Bool.{not}
@@ -21,7 +21,7 @@ use Rattle.definitions.specs.Lines.{inFixedRanges}
 use Rattle.definitions.specs.Reading.{lineTests}
 use Rattle.definitions.specs.BookLines.{BookLine, N, L, R, noHeader, headerIn, headerOf, rootCount}
 use Rattle.definitions.specs.BookLines.{Member, memberIn, membersOf, TreeNode, question, leaf}
-use Rattle.definitions.specs.BookLines.{nodeLineIn, rootIn}
+use Rattle.definitions.specs.BookLines.{nodeLineIn, rootIn, rootsOf}
 use Rattle.definitions.specs.BookReading.{Lent, bookKind, bookFollows, withinHeader, comesBefore}
 use Rattle.definitions.specs.BookReading.{bookInOrder, childrenGreater, wideEnough, bookTests}
 use Rattle.definitions.specs.BookReading.{bookComplete, judgeNames, readBook}
@@ -36,7 +36,7 @@ use Rattle.definitions.specs.laws.Known.{header-known}
 use Rattle.definitions.specs.laws.Accepted.{allFrom, NodeFits, RootFits}
 use Rattle.definitions.specs.laws.WrittenTexts.{Writer, ranged, Next, allNext, next-parts, text-taken}
 use Rattle.definitions.specs.laws.KnownBooks.{Stated}
-use Rattle.definitions.specs.laws.SaidLines.{Says, says-parts, line-says}
+use Rattle.definitions.specs.laws.SaidLines.{Says, says-parts, line-says, root-words-count}
 use Rattle.definitions.specs.laws.LinesSay.{members-say, nodes-say, roots-say, lines-say, Before}
 use Rattle.definitions.specs.laws.LinesSay.{before-others, before-more}
 use Rattle.definitions.specs.laws.WrittenBooks.{lineOfNode, linesOfNodes, linesOfRoots, lineOfHeader}
@@ -338,7 +338,7 @@ module _ (lent : Lent) (header : Header) (book : Book) (s : Stated header book)
       let lines : List BookLine = linesOfBook header book in
       let said = all-said header book in
       let full : T (bookComplete lines) =
-      rw (lt-ltb 0 (length lines) (omega arith), said .roots-said)
-      (eq→eqb (length (book .roots)) (rootCount header) (sym (s .heads .roots))) in
+      let count = sym (root-words-count lines) ∙ ap length (said .roots-said) ∙ sym (s .heads .roots) in
+      rw (lt-ltb 0 (length lines) (omega arith)) (eq→eqb (length (rootsOf lines)) (rootCount header) count) in
       text-taken w lines (omega arith) lines-next full
       ∙ rw (said .nodes-said, said .roots-said, s .named-once, judgeNames)

@@ -15,6 +15,7 @@ use Rattle.definitions.specs.Lines.{Line}
 use Rattle.definitions.specs.Reading.{lineTests}
 use Rattle.definitions.specs.BookLines.{BookLine, H, Q, N, L, R, bookLine, headerIn, headerOf}
 use Rattle.definitions.specs.BookLines.{rootCount, nodesOf, nodeIn, nodeLineIn, rootsOf, rootIn}
+use Rattle.definitions.specs.BookLines.{rootNames}
 use Rattle.definitions.specs.BookReading.{Lent, nodeSize, bookKind, bookFollows, withinHeader}
 use Rattle.definitions.specs.BookReading.{bookInOrder, childrenGreater, wideEnough, bookTests}
 use Rattle.definitions.specs.BookReading.{bookComplete, orphans, judgeNames, readBook}
@@ -25,7 +26,7 @@ use Rattle.definitions.specs.laws.Judging.{testAt, passes-at, refused-no
 use Rattle.definitions.specs.laws.Reading.{Passed, text-holds}
 use Rattle.definitions.specs.laws.Ranges.{HeaderRanges, Ranged, line-ranged}
 use Rattle.definitions.specs.laws.Tables.{Heads, tables-book}
-use Rattle.definitions.specs.laws.SaidLines.{line-says, nodes-count, roots-count}
+use Rattle.definitions.specs.laws.SaidLines.{nodes-count, roots-count, line-of-root, root-words-count}
 
 -- what a line that passed its tests says
 pub record Fits (lent : Lent) (before : List BookLine) (line : BookLine) : Type 0 where
@@ -53,12 +54,12 @@ line-fits lent before bytes line p =
 
 -- the judgement of names keeps the lines
 pub names-judged : (lines answer : List BookLine) → judgeNames lines ≡ answered answer
-    → (lines ≡ answer) × (orphans (nodesOf lines) (rootsOf lines) ≡ [])
+    → (lines ≡ answer) × (orphans (nodesOf lines) (rootNames (rootsOf lines)) ≡ [])
 unfolding judgeNames
-names-judged lines answer e = none (orphans (nodesOf lines) (rootsOf lines)) refl
+names-judged lines answer e = none (orphans (nodesOf lines) (rootNames (rootsOf lines))) refl
   where
-    none : (l : List ℕ) → orphans (nodesOf lines) (rootsOf lines) ≡ l
-        → (lines ≡ answer) × (orphans (nodesOf lines) (rootsOf lines) ≡ [])
+    none : (l : List ℕ) → orphans (nodesOf lines) (rootNames (rootsOf lines)) ≡ l
+        → (lines ≡ answer) × (orphans (nodesOf lines) (rootNames (rootsOf lines)) ≡ [])
     none [] q =
         let same : _≡_ {A = Outcome (List BookLine)} (answered lines) (answered answer) =
         rw (q, judgeNames) at e in
@@ -69,7 +70,7 @@ names-judged lines answer e = none (orphans (nodesOf lines) (rootsOf lines)) ref
 pub record Whole (P : List BookLine → Type 0) (lines : List BookLine) : Type 0 where
   pub holds : P lines
   pub complete : T (bookComplete lines)
-  pub named-once : orphans (nodesOf lines) (rootsOf lines) ≡ []
+  pub named-once : orphans (nodesOf lines) (rootNames (rootsOf lines)) ≡ []
 
 -- a line other than H is never the first
 pub node-started : (before : List BookLine) → T (ltb (length (nodesOf before)) (headerOf before .nodes))
@@ -130,7 +131,7 @@ pub record Orderly (lines : List BookLine) : Type 0 where
   pub in-range : InRange (headerOf lines)
   pub nodes : length (nodesOf lines) ≡ headerOf lines .nodes
   pub roots : length (rootsOf lines) ≡ rootCount (headerOf lines)
-  pub named-once : orphans (nodesOf lines) (rootsOf lines) ≡ []
+  pub named-once : orphans (nodesOf lines) (rootNames (rootsOf lines)) ≡ []
 
 -- there is at least one phone and one state, so at least one root
 pub some-root : (header : Header) → InRange header → 0 < rootCount header
@@ -188,7 +189,7 @@ accepted-counted lent = accepted-holds lent Counted alone more
     alone : (half states phones classes nodes : ℕ) → Fits lent [] (H half states phones classes nodes)
         → Counted (H half states phones classes nodes ∷ [])
     alone half states phones classes nodes f =
-        let none = line-says (H half states phones classes nodes) .roots-said in
+        let none = line-of-root (H half states phones classes nodes) in
         record { in-range = f .ranged; counted = λ h. absurd (omega (arith, ap length none)) }
 
     more : (before : List BookLine) (line : BookLine) → headerOf (before ++ (line ∷ [])) ≡ headerOf before
@@ -227,7 +228,7 @@ orderly-heads lines o = record {
   phones = refl;
   nodes = sym (o .nodes);
   classes = sym (map-upFrom-length _ 1 (headerOf lines .classes));
-  roots = sym (o .roots);
+  roots = sym (root-words-count lines ∙ o .roots);
 }
 
 pub accepted-book : (lent : Lent) (text : List ℕ) (lines : List BookLine) → readBook lent text ≡ answered lines

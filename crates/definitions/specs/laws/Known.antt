@@ -18,7 +18,7 @@ use Rattle.definitions.specs.Faults.{answered, judge, _unless_}
 use Rattle.definitions.specs.Forms.{Range, _‥_}
 use Rattle.definitions.specs.Lines.{formOf, inRanges, inFixedRanges}
 use Rattle.definitions.specs.BookLines.{BookLine, bookLine, headerOf, rootCount, Member, membersOf}
-use Rattle.definitions.specs.BookLines.{TreeNode, question, leaf, nodesOf, rootsOf}
+use Rattle.definitions.specs.BookLines.{TreeNode, question, leaf, nodesOf, rootsOf, rootWords}
 use Rattle.definitions.specs.BookReading.{Lent, nodeSize, wideEnough, readBook}
 use Rattle.definitions.specs.Tables.{bookOf, phonesOfClass, classSets, nodeWords, nodeOf, nodeRecords}
 use Rattle.definitions.specs.Tables.{Tables, tablesOf, tablesLeft, tablesBook}
@@ -225,9 +225,9 @@ module _ (lent : Lent) (text : List ℕ) (lines : List BookLine) (e : readBook l
 
   known-roots : T (rootTableKnown header (tables .roots))
   unfolding rootTableKnown tablesOf bookOf
-  known-roots = words-known (lent .roots) (rootCount header) (rootsOf lines) _
+  known-roots = words-known (lent .roots) (rootCount header) (rootWords (rootsOf lines)) _
       (heads .roots) (room .roots)
-      (λ root i. lt→ltb _ _ (all-in (RootFits header) 0 (rootsOf lines) (fit .roots) root i .1))
+      (λ root i. lt→ltb _ _ (all-in (RootFits header) 0 (rootWords (rootsOf lines)) (fit .roots) root i .1))
 
   known-names : T (namedOnce (tablesBook header tables))
   unfolding namedOnce bookOf

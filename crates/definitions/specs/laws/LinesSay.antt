@@ -1,6 +1,6 @@
 -- Laws about what the lines of a written book say: the members, nodes and roots that were written, no others.
 -- The laws about the texts of books use them, of all lines and of those before a line.
-use mathlib.Core.Path.{_≡_, refl, ap, _∙_}
+use mathlib.Core.Path.{_≡_, refl, ap, _∙_, sym}
 use mathlib.Core.List.{List, [], _∷_, _++_, map, append-nil}
 use Prim.Native.Nat.{ℕ, suc, _+_, _/_, _%_, _<_}
 use native.Mathlib.Omega.{arith}
@@ -8,8 +8,9 @@ use lib.ListN.{length, length-append}
 use Rattle.definitions.specs.declared.Header.{Header}
 use Rattle.definitions.specs.BookLines.{BookLine, N, L, R, headerIn, headerOf, Member, memberIn}
 use Rattle.definitions.specs.BookLines.{membersOf, TreeNode, question, leaf, nodeLineIn, nodesOf}
-use Rattle.definitions.specs.BookLines.{rootIn, rootsOf}
+use Rattle.definitions.specs.BookLines.{rootIn, rootsOf, rootWords}
 use Rattle.definitions.specs.laws.SaidLines.{Says, none-says, line-says, says-parts, header-parts}
+use Rattle.definitions.specs.laws.SaidLines.{line-of-root, root-words-count}
 use Rattle.definitions.specs.laws.WrittenBooks.{linesOfNodes, linesOfRoots, lineOfHeader, lineOfMember}
 use Rattle.definitions.specs.laws.WrittenBooks.{linesStating}
 
@@ -61,7 +62,7 @@ before-others header =
       header-is = refl;
       members-are = says .members-said;
       nodes-many = ap length (says .nodes-said);
-      roots-many = ap length (says .roots-said);
+      roots-many = ap length (line-of-root (lineOfHeader header));
     }
 
 pub before-more : {header : Header} {before lines : List BookLine} {members others : List Member}
@@ -69,7 +70,7 @@ pub before-more : {header : Header} {before lines : List BookLine} {members othe
     → Says lines others more further
     → Before header (before ++ lines) (members ++ others) (nodes + length more) (roots + length further)
 before-more {before = before} {lines = lines} b s =
-    let own : Says before (membersOf before) (nodesOf before) (rootsOf before) =
+    let own : Says before (membersOf before) (nodesOf before) (rootWords (rootsOf before)) =
     record { members-said = refl; nodes-said = refl; roots-said = refl } in
     let all = says-parts own s in
     record {
@@ -77,5 +78,7 @@ before-more {before = before} {lines = lines} b s =
       header-is = header-parts before lines (b .some-line) ∙ b .header-is;
       members-are = all .members-said ∙ rw (b .members-are);
       nodes-many = ap length (all .nodes-said) ∙ rw (length-append, b .nodes-many);
-      roots-many = ap length (all .roots-said) ∙ rw (length-append, b .roots-many);
+      roots-many =
+          sym (root-words-count (before ++ lines)) ∙ ap length (all .roots-said)
+          ∙ rw (length-append, root-words-count before, b .roots-many);
     }

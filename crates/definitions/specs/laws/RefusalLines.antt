@@ -12,14 +12,15 @@ use lib.Dec.{ltb}
 use lib.ListN.{length, length-append}
 use Rattle.definitions.specs.declared.Header.{Header}
 use Rattle.definitions.specs.declared.Fault.{Fault}
-use Rattle.definitions.specs.declared.Fault.the-variants.{Ragged, Misprint, Orphan, Count, Crowd, Tangle}
+use Rattle.definitions.specs.declared.Fault.the-variants.{Ragged, Misprint, Orphan, Count, Crowd}
+use Rattle.definitions.specs.declared.Fault.the-variants.{Tangle}
 use Rattle.definitions.specs.declared.Refusal.{Refusal}
 use Rattle.definitions.specs.Lists.{if_then_else_}
 use Rattle.definitions.specs.Faults.{Outcome, answered, refused, refuse, Test, _unless_, judge, andThen}
 use Rattle.definitions.specs.Forms.{Form}
 use Rattle.definitions.specs.Lines.{Line, lineOf, linesOf, wholeLines}
 use Rattle.definitions.specs.Reading.{Kind, lineTests, lineRead, withLine, readFrom, readText}
-use Rattle.definitions.specs.BookLines.{BookLine, nodesOf, rootsOf, headerOf}
+use Rattle.definitions.specs.BookLines.{BookLine, nodesOf, rootsOf, headerOf, rootNames}
 use Rattle.definitions.specs.BookReading.{Lent, orphans, isLineOf, lineNumberFrom, judgeNames, bookKind}
 use Rattle.definitions.specs.BookReading.{readBook}
 use Rattle.definitions.specs.Tables.{Book, Tables, tablesLeft, tablesBook}
@@ -122,7 +123,7 @@ node-line at node (line ∷ lines) = go (isLineOf node line) (node-line (suc at)
 
 names-lines : (lines : List BookLine) → RefusesUpTo (suc (length lines)) (judgeNames lines)
 unfolding judgeNames
-names-lines lines = go (orphans (nodesOf lines) (rootsOf lines))
+names-lines lines = go (orphans (nodesOf lines) (rootNames (rootsOf lines)))
   where
     go : (found : List ℕ)
         → RefusesUpTo {A = List BookLine} (suc (length lines))

@@ -9,7 +9,7 @@ use lib.ListN.{length, length-append, length-map}
 use Rattle.definitions.specs.Lists.{concatMap}
 use Rattle.definitions.specs.BookLines.{BookLine, H, Q, N, L, R, headerOf}
 use Rattle.definitions.specs.BookLines.{Member, memberIn, membersOf, TreeNode, nodeIn, nodesOf}
-use Rattle.definitions.specs.BookLines.{nodeLineIn, nodeLinesOf, rootIn, rootsOf}
+use Rattle.definitions.specs.BookLines.{nodeLineIn, nodeLinesOf, rootIn, rootsOf, rootWords}
 use Rattle.definitions.specs.laws.Lists.{concatMap-append, concatMap-snoc}
 
 -- what lines say
@@ -17,19 +17,28 @@ pub record Says (lines : List BookLine) (members : List Member) (nodes : List Tr
     : Type 0 where
   pub members-said : membersOf lines ≡ members
   pub nodes-said : nodesOf lines ≡ nodes
-  pub roots-said : rootsOf lines ≡ roots
+  pub roots-said : rootWords (rootsOf lines) ≡ roots
 
 pub none-says : Says [] [] [] []
 unfolding membersOf nodesOf nodeLinesOf rootsOf concatMap
 none-says = record { members-said = refl; nodes-said = refl; roots-said = refl }
 
-pub line-says : (line : BookLine) → Says (line ∷ []) (memberIn line) (nodeIn line) (rootIn line)
+pub line-says : (line : BookLine) → Says (line ∷ []) (memberIn line) (nodeIn line) (rootWords (rootIn line))
 unfolding membersOf nodesOf nodeLinesOf rootsOf concatMap
 line-says line = record {
   members-said = append-nil (memberIn line);
   nodes-said = ap (map (λ l. l .node)) (append-nil (nodeLineIn line));
-  roots-said = append-nil (rootIn line);
+  roots-said = ap (map (λ r. r .node)) (append-nil (rootIn line));
 }
+
+-- the roots and the nodes' lines themselves
+pub roots-none : rootsOf [] ≡ []
+unfolding rootsOf concatMap
+roots-none = refl
+
+pub line-of-root : (line : BookLine) → rootsOf (line ∷ []) ≡ rootIn line
+unfolding rootsOf concatMap
+line-of-root line = append-nil (rootIn line)
 
 pub line-of-node : (line : BookLine) → nodeLinesOf (line ∷ []) ≡ nodeLineIn line
 unfolding nodeLinesOf concatMap
@@ -43,6 +52,10 @@ nodes-lines lines = refl
 pub node-lines-count : (lines : List BookLine) → length (nodeLinesOf lines) ≡ length (nodesOf lines)
 unfolding nodesOf
 node-lines-count lines = sym (length-map (nodeLinesOf lines) (λ l. l .node))
+
+-- as many words as roots
+pub root-words-count : (lines : List BookLine) → length (rootWords (rootsOf lines)) ≡ length (rootsOf lines)
+root-words-count lines = length-map (rootsOf lines) (λ r. r .node)
 
 -- the header stays after the first line
 pub header-parts : (before lines : List BookLine) → 0 < length before
@@ -70,6 +83,9 @@ module _ (k l : List BookLine) where
   unfolding rootsOf
   roots-parts = concatMap-append rootIn k l
 
+  root-words-parts : rootWords (rootsOf (k ++ l)) ≡ rootWords (rootsOf k) ++ rootWords (rootsOf l)
+  root-words-parts = ap (map (λ r. r .node)) roots-parts ∙ map-append _ (rootsOf k) (rootsOf l)
+
 pub says-parts : {k l : List BookLine} {members others : List Member} {nodes more : List TreeNode}
     {roots further : List ℕ} → Says k members nodes roots → Says l others more further
     → Says (k ++ l) (members ++ others) (nodes ++ more) (roots ++ further)
@@ -77,7 +93,7 @@ says-parts {k} {l} s t =
     record {
       members-said = members-parts k l ∙ ap₂ _++_ (s .members-said) (t .members-said);
       nodes-said = nodes-parts k l ∙ ap₂ _++_ (s .nodes-said) (t .nodes-said);
-      roots-said = roots-parts k l ∙ ap₂ _++_ (s .roots-said) (t .roots-said);
+      roots-said = root-words-parts k l ∙ ap₂ _++_ (s .roots-said) (t .roots-said);
     }
 
 -- ---- one line more, at the end
@@ -95,7 +111,12 @@ module _ (before : List BookLine) (line : BookLine) where
   nodes-more = nodes-parts before (line ∷ []) ∙ ap (λ m. nodesOf before ++ m) (line-says line .nodes-said)
 
   pub roots-more : rootsOf (before ++ (line ∷ [])) ≡ rootsOf before ++ rootIn line
-  roots-more = roots-parts before (line ∷ []) ∙ ap (λ m. rootsOf before ++ m) (line-says line .roots-said)
+  unfolding rootsOf
+  roots-more = concatMap-snoc rootIn before line
+
+  pub root-words-more : rootWords (rootsOf (before ++ (line ∷ [])))
+      ≡ rootWords (rootsOf before) ++ rootWords (rootIn line)
+  root-words-more = ap (map (λ r. r .node)) roots-more ∙ map-append _ (rootsOf before) (rootIn line)
 
   -- and so many more
   pub nodes-count : length (nodesOf (before ++ (line ∷ []))) ≡ length (nodesOf before) + length (nodeIn line)
