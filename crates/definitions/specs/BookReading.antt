@@ -117,8 +117,9 @@ bookKind lent =
       follows = bookFollows;
       withinCounts = λ before line. withinHeader (headerOf before) line;
       inOrder = bookInOrder;
-      furtherTests = bookTests lent;
-      complete = bookComplete;
+      furtherTests = λ before line. bookTests lent line;
+      full = bookComplete;
+      enough = bookComplete;
       afterLast = judgeNames;
     }
 

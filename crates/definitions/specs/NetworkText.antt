@@ -79,8 +79,9 @@ networkKind lent =
       follows = networkFollows;
       withinCounts = λ before line. withinCounts (countsOf before) line;
       inOrder = networkInOrder;
-      furtherTests = networkTests lent;
-      complete = networkComplete;
+      furtherTests = λ before line. networkTests lent line;
+      full = networkComplete;
+      enough = networkComplete;
       afterLast = answered;
     }
 

@@ -21,9 +21,11 @@ pub record Kind (L : Type 0) : Type 0 where
   -- "numbers out of the order above": whether a line's numbers come next
   pub inOrder : (before : List L) → L → Bool
   -- what else is asked of a line, after the others
-  pub furtherTests : L → List Test
-  -- whether these lines are all that the first line promised
-  pub complete : List L → Bool
+  pub furtherTests : (before : List L) → L → List Test
+  -- 17, "going on": whether no line may follow these
+  pub full : List L → Bool
+  -- 17, "ending early": whether the text may end after these
+  pub enough : List L → Bool
   -- what is judged of all lines after the last
   pub afterLast : List L → Outcome (List L)
 
@@ -34,7 +36,7 @@ lineTests kind before line =
     ∷ Range unless inFixedRanges (kind .forms) line
     ∷ Range unless kind .withinCounts before (kind .view line)
     ∷ Order unless kind .inOrder before (kind .view line)
-    ∷ kind .furtherTests (kind .view line)
+    ∷ kind .furtherTests before (kind .view line)
 
 -- 12, or the line
 unfoldable pub lineRead : List Form → (at : ℕ) → (bytes : List ℕ) → Outcome Line
@@ -47,9 +49,9 @@ withLine kind before line = before ++ (kind .view line ∷ [])
 -- "line by line 17 (going on), 12, ..; then 17 (ending early, line one past the last)", from line number `at`
 unfoldable pub readFrom : {L : Type 0} → Kind L
     → (at : ℕ) → (before : List L) → (lines : List (List ℕ)) → Outcome (List L)
-readFrom kind at before [] = judge at (Count unless kind .complete before ∷ []) (kind .afterLast before)
+readFrom kind at before [] = judge at (Count unless kind .enough before ∷ []) (kind .afterLast before)
 readFrom kind at before (bytes ∷ rest) =
-    judge at (Count unless not (kind .complete before) ∷ [])
+    judge at (Count unless not (kind .full before) ∷ [])
     (andThen (lineRead (kind .forms) at bytes)
     (λ line. judge at (lineTests kind before line) (readFrom kind (suc at) (withLine kind before line) rest)))
 

@@ -19,10 +19,10 @@ unfoldable pub verdictOf : List Test → Verdict
 verdictOf [] = Passed
 verdictOf (t ∷ ts) = if t .passes then verdictOf ts else Failed (t .fault)
 
--- "17 (going on), 12", then the line's tests: by whether the lines before are all, and by what tests it meets
-unfoldable pub verdictBy : (complete : Bool) → List Form → (Line → List Test) → (bytes : List ℕ) → Verdict
-verdictBy complete forms tests bytes =
-    if complete then Failed Count else
+-- "17 (going on), 12", then the line's tests: by whether no line may follow, and by what tests it meets
+unfoldable pub verdictBy : (full : Bool) → List Form → (Line → List Test) → (bytes : List ℕ) → Verdict
+verdictBy full forms tests bytes =
+    if full then Failed Count else
     elim (lineOf forms bytes) [
       | none ↦ Failed Misprint
       | some line ↦ verdictOf (tests line)
@@ -38,7 +38,7 @@ module _ {L : Type 0} (kind : Kind L) where
 
   -- what becomes of a line after the lines `before` it
   abbrev pub lineVerdict : (before : List L) → (bytes : List ℕ) → Verdict
-  lineVerdict before bytes = verdictBy (kind .complete before) (kind .forms) (lineTests kind before) bytes
+  lineVerdict before bytes = verdictBy (kind .full before) (kind .forms) (lineTests kind before) bytes
 
   -- the lines taken from the first lines of a text
   unfoldable pub linesBefore : (text : List ℕ) → (i : ℕ) → List L

@@ -111,7 +111,7 @@ module _ (lent : Lent) (P : List BookLine → Type 0)
         let a = text-holds (bookKind lent) (AfterFirst P) passed text lines tt e in
         let (same, named) = names-judged (a .lines) lines (a .judged) in
         subst (Whole P) same
-        (record { holds = all (a .lines) (a .holds) (a .complete); complete = a .complete; named-once = named })
+        (record { holds = all (a .lines) (a .holds) (a .enough); complete = a .enough; named-once = named })
       where
         passed : (before : List BookLine) (bytes : List ℕ) (line : Line) → AfterFirst P before
             → Passed (bookKind lent) before bytes line → AfterFirst P (before ++ (bookLine line ∷ []))

@@ -31,7 +31,7 @@ line-read forms at bytes line e = found (lineOf forms bytes) refl
 
 -- one more line after `before`, that was read from its bytes and passed its tests
 pub record Passed {L : Type 0} (kind : Kind L) (before : List L) (bytes : List ℕ) (line : Line) : Type 0 where
-  pub unfinished : T (not (kind .complete before))
+  pub unfinished : T (not (kind .full before))
   pub parsed : lineOf (kind .forms) bytes ≡ some line
   pub tested : allPass (lineTests kind before line)
 
@@ -42,8 +42,8 @@ module _ {L : Type 0} (kind : Kind L) where
       → readFrom kind at before (bytes ∷ rest) ≡ readFrom kind (suc at) (withLine kind before line) rest
   unfolding readFrom lineRead andThen every
   line-taken at before bytes line rest p =
-      judge-passing at (Count unless not (kind .complete before) ∷ []) _
-      (T-and (not (kind .complete before)) true .1 (p .unfinished, tt))
+      judge-passing at (Count unless not (kind .full before) ∷ []) _
+      (T-and (not (kind .full before)) true .1 (p .unfinished, tt))
       ∙ rw (p .parsed, lineRead, andThen) (judge-passing at (lineTests kind before line) _ (p .tested))
 
   -- and every line of an accepted text is such a line
@@ -53,7 +53,7 @@ module _ {L : Type 0} (kind : Kind L) where
       × (readFrom kind (suc at) (withLine kind before line) rest ≡ answered answer)
   unfolding readFrom
   line-passed at before bytes rest answer e =
-      let j = judge-answered at (Count unless not (kind .complete before) ∷ []) _ answer e in
+      let j = judge-answered at (Count unless not (kind .full before) ∷ []) _ answer e in
       let (line, read, next) = andThen-answered (lineRead (kind .forms) at bytes) _ answer (j .1) in
       let t = judge-answered at (lineTests kind before line) _ answer next in
       let passed : Passed kind before bytes line = record {
@@ -63,20 +63,20 @@ module _ {L : Type 0} (kind : Kind L) where
       } in
       (line, passed, t .1)
 
-  -- after the last line all lines are there
+  -- after the last line there are enough
   pub lines-end : (at : ℕ) (before answer : List L) → readFrom kind at before [] ≡ answered answer
-      → T (kind .complete before) × (kind .afterLast before ≡ answered answer)
+      → T (kind .enough before) × (kind .afterLast before ≡ answered answer)
   unfolding readFrom
   lines-end at before answer e =
-      let j = judge-answered at (Count unless kind .complete before ∷ []) (kind .afterLast before) answer e in
+      let j = judge-answered at (Count unless kind .enough before ∷ []) (kind .afterLast before) answer e in
       (passes-at _ (j .0) 0 (lit< tt), j .1)
 
-  pub lines-ended : (at : ℕ) (before : List L) → T (kind .complete before)
+  pub lines-ended : (at : ℕ) (before : List L) → T (kind .enough before)
       → readFrom kind at before [] ≡ kind .afterLast before
   unfolding readFrom every
   lines-ended at before h =
-      judge-passing at (Count unless kind .complete before ∷ []) (kind .afterLast before)
-      (T-and (kind .complete before) true .1 (h, tt))
+      judge-passing at (Count unless kind .enough before ∷ []) (kind .afterLast before)
+      (T-and (kind .enough before) true .1 (h, tt))
 
   -- a text is read by its lines, where these are whole
   pub text-lines : (text : List ℕ) (answer : List L) → readText kind text ≡ answered answer
@@ -97,7 +97,7 @@ module _ {L : Type 0} (kind : Kind L) where
 pub record Accepted {L : Type 0} (kind : Kind L) (P : List L → Type 0) (answer : List L) : Type 0 where
   pub lines : List L
   pub holds : P lines
-  pub complete : T (kind .complete lines)
+  pub enough : T (kind .enough lines)
   pub judged : kind .afterLast lines ≡ answered answer
 
 module _ {L : Type 0} (kind : Kind L) (P : List L → Type 0)
@@ -107,8 +107,8 @@ module _ {L : Type 0} (kind : Kind L) (P : List L → Type 0)
     lines-hold : (at : ℕ) (before : List L) (rest : List (List ℕ)) (answer : List L)
         → P before → readFrom kind at before rest ≡ answered answer → Accepted kind P answer
     lines-hold at before [] answer p e =
-        let (complete, judged) = lines-end kind at before answer e in
-        record { lines = before; holds = p; complete = complete; judged = judged }
+        let (enough, judged) = lines-end kind at before answer e in
+        record { lines = before; holds = p; enough = enough; judged = judged }
     lines-hold at before (bytes ∷ rest) answer p e =
         let (line, passed, next) = line-passed kind at before bytes rest answer e in
         lines-hold (suc at) (withLine kind before line) rest answer (keep before bytes line p passed) next

@@ -89,10 +89,10 @@ module _ {L : Type 0} (kind : Kind L)
         → at + length rest ≤ most → RefusesUpTo most (readFrom kind at before rest)
     unfolding readFrom
     from-lines most at before [] e l =
-        judge-lines most at (Count unless kind .complete before ∷ []) (kind .afterLast before) (omega arith)
+        judge-lines most at (Count unless kind .enough before ∷ []) (kind .afterLast before) (omega arith)
         (more-lines _ most (kind .afterLast before) (omega arith) (last before))
     from-lines most at before (bytes ∷ rest) e l =
-        judge-lines most at (Count unless not (kind .complete before) ∷ []) _ (omega arith)
+        judge-lines most at (Count unless not (kind .full before) ∷ []) _ (omega arith)
         (steps-lines most (lineRead (kind .forms) at bytes) _
         (line-lines (kind .forms) most at bytes (omega arith))
         (λ line.

@@ -150,7 +150,7 @@ module _ {L : Type 0} {kind : Kind L} (w : Writer kind) where
 
   -- a line that passes its tests after those before it
   pub record Next (before : List L) (line : L) : Type 0 where
-    pub unfinished : T (not (kind .complete before))
+    pub unfinished : T (not (kind .full before))
     pub tested : allPass (lineTests kind before (w .lineFor line))
 
   next-ranged : (before : List L) (line : L) → Next before line → T (ranged line)
@@ -188,7 +188,7 @@ module _ {L : Type 0} {kind : Kind L} (w : Writer kind) where
       every-cons ranged line lines .1
       (next-ranged before line (n .0), all-ranged (before ++ (line ∷ [])) lines (n .1))
 
-  lines-taken : (at : ℕ) (before lines : List L) → allNext before lines → T (kind .complete (before ++ lines))
+  lines-taken : (at : ℕ) (before lines : List L) → allNext before lines → T (kind .enough (before ++ lines))
       → readFrom kind at before (map lineBytes lines) ≡ kind .afterLast (before ++ lines)
   lines-taken at before [] n full = lines-ended kind at before (rw append-nil at full) ∙ rw append-nil
   lines-taken at before (line ∷ lines) n full =
@@ -199,7 +199,7 @@ module _ {L : Type 0} {kind : Kind L} (w : Writer kind) where
       ∙ rw (w .writes line .again) (next ∙ rw (append-snoc before line lines))
 
   -- the text of all lines is read to its end
-  pub text-taken : (lines : List L) → 0 < length lines → allNext [] lines → T (kind .complete lines)
+  pub text-taken : (lines : List L) → 0 < length lines → allNext [] lines → T (kind .enough lines)
       → readText kind (written lines) ≡ kind .afterLast lines
   text-taken lines some-line n full =
       let h = all-ranged [] lines n in

@@ -53,18 +53,18 @@ verdict-failed at (t ∷ ts) answer fault e = go (t .passes) (λ k. verdict-fail
     go false rest k = let same : t .fault ≡ fault = cc in rw same
 
 -- what becomes of a line, by what its bytes are
-module _ (forms : List Form) (tests : Line → List Test) (bytes : List ℕ) {complete : Bool} where
-  pub verdict-complete : complete ≡ true → verdictBy complete forms tests bytes ≡ Failed Count
+module _ (forms : List Form) (tests : Line → List Test) (bytes : List ℕ) {full : Bool} where
+  pub verdict-full : full ≡ true → verdictBy full forms tests bytes ≡ Failed Count
   unfolding verdictBy
-  verdict-complete c = rw c
+  verdict-full c = rw c
 
-  pub verdict-misprint : complete ≡ false → lineOf forms bytes ≡ none
-      → verdictBy complete forms tests bytes ≡ Failed Misprint
+  pub verdict-misprint : full ≡ false → lineOf forms bytes ≡ none
+      → verdictBy full forms tests bytes ≡ Failed Misprint
   unfolding verdictBy
   verdict-misprint c e = rw (c, e)
 
-  pub verdict-line : {line : Line} → complete ≡ false → lineOf forms bytes ≡ some line
-      → verdictBy complete forms tests bytes ≡ verdictOf (tests line)
+  pub verdict-line : {line : Line} → full ≡ false → lineOf forms bytes ≡ some line
+      → verdictBy full forms tests bytes ≡ verdictOf (tests line)
   unfolding verdictBy
   verdict-line c e = rw (c, e)
 
@@ -83,7 +83,7 @@ module _ {L : Type 0} (kind : Kind L) (before : List L) (bytes : List ℕ) where
     pub passed : lines.Passed kind before bytes line
     pub taken : lineTaken kind bytes ≡ kind .view line
 
-  line-passed : (line : Line) → kind .complete before ≡ false → lineOf (kind .forms) bytes ≡ some line
+  line-passed : (line : Line) → kind .full before ≡ false → lineOf (kind .forms) bytes ≡ some line
       → verdictOf (lineTests kind before line) ≡ Passed → Taken
   line-passed line c e v =
       record {
@@ -94,11 +94,11 @@ module _ {L : Type 0} (kind : Kind L) (before : List L) (bytes : List ℕ) where
 
   pub verdict-taken : lineVerdict kind before bytes ≡ Passed → Taken
   verdict-taken k =
-      by-test (kind .complete before)
-      (λ c. absurd (passed-or-failed Count (sym (verdict-complete _ _ _ c) ∙ k)))
+      by-test (kind .full before)
+      (λ c. absurd (passed-or-failed Count (sym (verdict-full _ _ _ c) ∙ k)))
       (λ c. by-line c (lineOf (kind .forms) bytes) refl)
     where
-      by-line : kind .complete before ≡ false → (o : Option Line) → lineOf (kind .forms) bytes ≡ o → Taken
+      by-line : kind .full before ≡ false → (o : Option Line) → lineOf (kind .forms) bytes ≡ o → Taken
       by-line c none e = absurd (passed-or-failed Misprint (sym (verdict-misprint _ _ _ c e) ∙ k))
       by-line c (some line) e = line-passed line c e (sym (verdict-line _ _ _ c e) ∙ k)
 
@@ -107,14 +107,14 @@ module _ {L : Type 0} (kind : Kind L) (before : List L) (bytes : List ℕ) where
       → (at : ℕ) (rest : List (List ℕ)) → readFrom kind at before (bytes ∷ rest) ≡ refuse fault at
   unfolding readFrom judge lineRead andThen
   verdict-refused fault k at rest =
-      by-test (kind .complete before)
-      (λ c. rw c (named Count (sym (verdict-complete _ _ _ c) ∙ k)))
+      by-test (kind .full before)
+      (λ c. rw c (named Count (sym (verdict-full _ _ _ c) ∙ k)))
       (λ c. rw c (by-line c (lineOf (kind .forms) bytes) refl))
     where
       named : (other : Fault) → Failed other ≡ Failed fault → refuse {A = List L} other at ≡ refuse fault at
       named other q = let same : other ≡ fault = cc in rw same
 
-      by-line : kind .complete before ≡ false → (o : Option Line) → lineOf (kind .forms) bytes ≡ o
+      by-line : kind .full before ≡ false → (o : Option Line) → lineOf (kind .forms) bytes ≡ o
           → andThen (lineRead (kind .forms) at bytes)
           (λ line. judge at (lineTests kind before line)
           (readFrom kind (suc at) (reading.withLine kind before line) rest)) ≡ refuse fault at

@@ -4,7 +4,7 @@ use mathlib.Core.Bool.{false}
 use borrow.Author.Tests.{not-true, not-false}
 use borrow.Author.Needs.{needs}
 use Rattle.lines.specs.laws.Rows.{none-parsed, some-parsed, whole-row}
-use Rattle.lines.specs.laws.Judging.{verdict-complete, verdict-misprint, verdict-line}
+use Rattle.lines.specs.laws.Judging.{verdict-full, verdict-misprint, verdict-line}
 use Rattle.tables.specs.Lending.{lengthsOf}
 use Rattle.book.specs.declared.Step.the-variants.{Next}
 use Rattle.book.specs.States.{completeIn}
@@ -40,7 +40,7 @@ returns : tie.Need-returns
 unfolding whereTaken
 returns c =
     let complete = sym (c .before .complete .ensures) ∙ c .if1 .taken in
-    let step = step-failed _ _ _ (verdict-complete _ _ _ complete) in
+    let step = step-failed _ _ _ (verdict-full _ _ _ complete) in
     (step, (refl, (refl, (refl, refl))))
 
 parse-requires : tie.Need-parse-requires

@@ -7,7 +7,7 @@ use borrow.Author.Needs.{needs}
 use Rattle.definitions.specs.NetworkText.{networkKind}
 use Rattle.lines.specs.Judging.{lineTaken}
 use Rattle.lines.specs.laws.Rows.{none-parsed, some-parsed, whole-row}
-use Rattle.lines.specs.laws.Judging.{verdict-complete, verdict-misprint, verdict-line}
+use Rattle.lines.specs.laws.Judging.{verdict-full, verdict-misprint, verdict-line}
 use Rattle.nettext.specs.declared.Step.the-variants.{Next}
 use Rattle.nettext.specs.States.{completeIn}
 use Rattle.nettext.specs.Taking.{verdictIn, arcsTaken}
@@ -41,7 +41,7 @@ returns : tie.Need-returns
 unfolding arcsTaken
 returns c =
     let complete = sym (c .before .complete .ensures) ∙ c .if1 .taken in
-    (step-failed _ _ _ (verdict-complete _ _ _ complete), refl)
+    (step-failed _ _ _ (verdict-full _ _ _ complete), refl)
 
 parse-requires : tie.Need-parse-requires
 parse-requires c κs = search needs
