@@ -2,16 +2,15 @@
 -- that line.
 use mathlib.Core.List.{List, [], _∷_}
 use mathlib.Core.Bool.{Bool, true, _&&_}
-use Prim.Native.Nat.{ℕ, suc, _+_, _/_, _%_, _≤_, _<_}
+use Prim.Native.Nat.{_+_, _/_, _%_, _≤_, _<_}
 use lib.Dec.{ltb, eqb}
 use lib.ListN.{length}
 use Rattle.definitions.specs.declared.Fault.the-variants.{Range, Order}
 use Rattle.definitions.specs.Faults.{Test, _unless_}
-use Rattle.definitions.specs.Lists.{if_then_else_}
 use Rattle.definitions.specs.Forms.{bookForms}
 use Rattle.definitions.specs.Lines.{Line, inFixedRanges}
 use Rattle.definitions.specs.BookLines.{BookLine, H, Q, N, L, R, bookLine, headerIn, headerOf, rootCount}
-use Rattle.definitions.specs.BookLines.{Member, membersOf, nodeIn, nodesOf, rootsOf, nextPlace}
+use Rattle.definitions.specs.BookLines.{Member, membersOf, nodesOf, rootsOf, nextPlace}
 use Rattle.definitions.specs.BookReading.{Lent, withinHeader, comesBefore, bookTests}
 use Rattle.book.specs.declared.State.{State}
 use Rattle.book.specs.declared.Last.{Last}
@@ -23,12 +22,6 @@ lastOf [] = last.Nothing
 lastOf (m ∷ []) = last.Member (m .class) (m .phone)
 lastOf (m ∷ n ∷ members) = lastOf (n ∷ members)
 
--- the number of the first node's line, where the first of these lines has number `at`; 0 without nodes
-unfoldable pub firstNodeFrom : (at : ℕ) → List BookLine → ℕ
-firstNodeFrom at [] = 0
-firstNodeFrom at (line ∷ lines) =
-    if eqb (length (nodeIn line)) 0 then firstNodeFrom (suc at) lines else at
-
 -- what is kept of the lines taken so far
 unfoldable pub stateOf : (before : List BookLine) → State
 stateOf before =
@@ -37,7 +30,6 @@ stateOf before =
       header = headerOf before;
       last = lastOf (membersOf before);
       nodes = length (nodesOf before);
-      first = firstNodeFrom 1 before;
       roots = nextPlace (rootsOf before);
     }
 
@@ -93,7 +85,6 @@ withNode s =
       header = s .header;
       last = s .last;
       nodes = s .nodes + 1;
-      first = if eqb (s .nodes) 0 then s .lines + 1 else s .first;
       roots = s .roots;
     }
 
@@ -105,7 +96,6 @@ nextState s (H half states phones classes nodes) =
       header = headerIn (H half states phones classes nodes);
       last = s .last;
       nodes = s .nodes;
-      first = s .first;
       roots = s .roots;
     }
 nextState s (Q class phone) =
@@ -114,7 +104,6 @@ nextState s (Q class phone) =
       header = s .header;
       last = last.Member class phone;
       nodes = s .nodes;
-      first = s .first;
       roots = s .roots;
     }
 nextState s (N _ _ _ _ _) = withNode s
@@ -125,6 +114,5 @@ nextState s (R _ _ _) =
       header = s .header;
       last = s .last;
       nodes = s .nodes;
-      first = s .first;
       roots = s .roots + 1;
     }

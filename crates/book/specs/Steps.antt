@@ -1,13 +1,14 @@
 -- What becomes of one line, and what is judged after the last, by the state of the code.
-use mathlib.Core.List.{List}
+use mathlib.Core.List.{List, map}
 use Prim.Native.Nat.{ℕ, _+_}
 use lib.Dec.{ltb}
 use lib.ListN.{take}
 use Rattle.definitions.specs.declared.Fault.the-variants.{Orphan, Count}
 use Rattle.definitions.specs.Lists.{if_then_else_}
+use Rattle.definitions.specs.Lines.{linesOf}
 use Rattle.definitions.specs.Forms.{bookForms}
 use Rattle.definitions.specs.BookLines.{BookLine, bookLine}
-use Rattle.definitions.specs.BookReading.{Lent}
+use Rattle.definitions.specs.BookReading.{Lent, isLineOf, lineWhere}
 use Rattle.lines.specs.declared.Verdict.{Verdict}
 use Rattle.lines.specs.declared.Verdict.the-variants.{Passed, Failed}
 use Rattle.lines.specs.Judging.{verdictBy, takenBy}
@@ -40,11 +41,15 @@ unfoldable pub whereTaken : Step → (before after : List ℕ) → List ℕ
 whereTaken (Next s) before after = after
 whereTaken (Stop fault) before after = before
 
+-- the number of a node's line in a text
+abbrev pub lineOfNode : (text : List ℕ) → (node : ℕ) → ℕ
+lineOfNode text node = lineWhere (isLineOf node) 1 (map bookTaken (linesOf text))
+
 -- after the last line: 17 (ending early), then 16 at the lowest such node's line
-unfoldable pub finishOf : State → (counts : List ℕ) → Reading
-finishOf s counts =
+unfoldable pub finishOf : (text : List ℕ) → State → (counts : List ℕ) → Reading
+finishOf text s counts =
     let node : ℕ = firstMisnamed (take (s .nodes) counts) in
     if completeIn s then
-    (if ltb node (s .nodes) then Refused (record { fault = Orphan; line = s .first + node }) else
+    (if ltb node (s .nodes) then Refused (record { fault = Orphan; line = lineOfNode text node }) else
     Accepted (s .header))
     else Refused (record { fault = Count; line = s .lines + 1 })

@@ -1,7 +1,7 @@
 -- What the steps of reading can rely on, and what they leave in each table.
 use mathlib.Core.Path.{_≡_}
 use mathlib.Core.List.{List}
-use Prim.Native.Nat.{ℕ, _+_, _≤_, _<_}
+use Prim.Native.Nat.{ℕ, _≤_, _<_}
 use lib.ListN.{length}
 use Rattle.definitions.specs.Faults.{answered}
 use Rattle.definitions.specs.Lists.{cleared}
@@ -39,11 +39,10 @@ pub record Ready (lent : Lent) (s : State) (bytes : List ℕ) : Type 0 where
   pub room : (next : State) → stepOf lent s bytes ≡ Next next
       → HasRoom (s .roots) (lent .nodes) (lent .classes) (lent .roots) (bookTaken bytes)
 
--- a state after which can be judged: each node has a count, and the lines' numbers do not overflow
+-- a state after which can be judged: each node has a count, and the next line's number does not overflow
 pub record Endable (s : State) (counts : List ℕ) : Type 0 where
   pub counted : s .nodes ≤ length counts
   pub lines : s .lines < 18446744073709551615
-  pub last-node : 0 < s .nodes → s .first + s .nodes ≤ 18446744073709551615
 
 -- each table after a line of these bytes, where this became of it
 abbrev pub nodesTaken : Step → (bytes table : List ℕ) → List ℕ

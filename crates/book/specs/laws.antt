@@ -6,10 +6,10 @@ pub mod Putting
 pub mod Taking
 pub mod States
 pub mod Steps
-pub mod NodeLines
 pub mod Keeping
 pub mod Readying
 pub mod Stored
+pub mod Finding
 pub mod Finishing
 pub mod Reading
 pub mod Answering

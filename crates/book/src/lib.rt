@@ -1,5 +1,6 @@
 // Reading a tree book into lent tables.
 mod entries;
+mod finding;
 mod judging;
 pub mod reader;
 mod states;
@@ -41,8 +42,6 @@ struct State {
     header: Header,
     last: Last,
     nodes: u32,
-    // The number of the first node's line, 0 before it.
-    first: usize,
     roots: usize,
 }
 

@@ -52,7 +52,7 @@ fn read_lines(text: &[u8], nodes: &mut [u32], classes: &mut [u64], roots: &mut [
         }
         i += 1;
     }
-    finish(state, &counts)
+    finish(text, state, &counts)
 }
 
 // Clears the three tables.

@@ -24,7 +24,6 @@ pub fn no_lines() -> State
         },
         last: Last::Nothing,
         nodes: 0,
-        first: 0,
         roots: 0,
     }
 }
@@ -46,16 +45,11 @@ fn with_node(s: State) -> State
 {
     let header = s.header;
     let last = s.last;
-    let mut first = s.first;
-    if s.nodes == 0 {
-        first = s.lines + 1;
-    }
     State {
         lines: s.lines + 1,
         header,
         last,
         nodes: s.nodes + 1,
-        first,
         roots: s.roots,
     }
 }
@@ -74,7 +68,6 @@ pub fn next_state(s: State, entry: Entry) -> State
             header,
             last,
             nodes: s.nodes,
-            first: s.first,
             roots: s.roots,
         },
         Entry::Q(class, phone) => State {
@@ -82,7 +75,6 @@ pub fn next_state(s: State, entry: Entry) -> State
             header,
             last: Last::Member(class, phone),
             nodes: s.nodes,
-            first: s.first,
             roots: s.roots,
         },
         Entry::N(_, _, _, _, _) => with_node(s),
@@ -92,7 +84,6 @@ pub fn next_state(s: State, entry: Entry) -> State
             header,
             last,
             nodes: s.nodes,
-            first: s.first,
             roots: s.roots + 1,
         },
     }

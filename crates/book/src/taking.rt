@@ -4,6 +4,7 @@ use crate::Reading;
 use crate::State;
 use crate::Step;
 use crate::entries::entry_of;
+use crate::finding::line_of_node;
 use crate::judging::judge_line;
 use crate::states::complete;
 use crate::states::next_state;
@@ -65,10 +66,10 @@ pub fn take_line(
     Step::Next(next_state(s, entry))
 }
 
-// What is judged after the last line: 17 where lines are missing, then 16.
-pub fn finish(s: State, counts: &[u32]) -> Reading
+// What is judged after the last line of a text: 17 where lines are missing, then 16.
+pub fn finish(text: &[u8], s: State, counts: &[u32]) -> Reading
     requires { ⌜ Endable s (now counts) ⌝ }
-    ensures { λ r. ⌜ r ≡ finishOf s (now (counts .entry)) ⌝ }
+    ensures { λ r. ⌜ r ≡ finishOf (now (text .entry)) s (now (counts .entry)) ⌝ }
 {
     if !complete(s) {
         return Reading::Refused(Refusal {
@@ -81,7 +82,7 @@ pub fn finish(s: State, counts: &[u32]) -> Reading
     if node < nodes {
         return Reading::Refused(Refusal {
             fault: Fault::Orphan,
-            line: s.first + node,
+            line: line_of_node(text, node),
         });
     }
     let header = s.header;

@@ -96,17 +96,18 @@ orphans nodes roots =
 unfoldable pub isLineOf : (node : ℕ) → BookLine → Bool
 isLineOf node line = atLeastOne (λ l. eqb node (l .number)) (nodeLineIn line)
 
--- the number of a node's line, where the first of these lines has number `at`
-unfoldable pub lineNumberFrom : (at node : ℕ) → List BookLine → ℕ
-lineNumberFrom at node [] = at
-lineNumberFrom at node (line ∷ lines) = if isLineOf node line then at else lineNumberFrom (suc at) node lines
+-- the number of the first line that passes a test, where the first of these lines has number `at`; after the
+-- last line where none does
+unfoldable pub lineWhere : (test : BookLine → Bool) → (at : ℕ) → List BookLine → ℕ
+lineWhere test at [] = at
+lineWhere test at (line ∷ lines) = if test line then at else lineWhere test (suc at) lines
 
 -- "then 16 at the lowest such node's line"
 unfoldable pub judgeNames : List BookLine → Outcome (List BookLine)
 judgeNames lines =
     elim (orphans (nodesOf lines) (rootNames (rootsOf lines))) [
       | [] ↦ answered lines
-      | node ∷ others ↦ refuse Orphan (lineNumberFrom 1 node lines)
+      | node ∷ others ↦ refuse Orphan (lineWhere (isLineOf node) 1 lines)
     ]
 
 unfoldable pub bookKind : Lent → Kind BookLine

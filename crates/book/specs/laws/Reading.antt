@@ -1,16 +1,17 @@
 -- Laws about the reading loop: what holds after each line that was taken, and what a refusal and the end give.
 -- The idea: the state and the tables are those of the lines before, and reading goes on from there.
 use mathlib.Core.Path.{_≡_, refl, sym, ap, _∙_}
-use mathlib.Core.List.{List, [], _∷_, _++_}
+use mathlib.Core.List.{List, [], _∷_, _++_, map}
 use mathlib.Core.Bool.{true, false}
 use Prim.Native.Nat.{ℕ, suc, _+_, _/_, _≤_, _<_}
 use native.Mathlib.Numerals.{add-one}
 use native.Mathlib.Omega.{arith}
 use lib.ListN.{length, replicate}
+use lib.Seq.{take-all}
 use Rattle.definitions.specs.declared.Fault.{Fault}
 use Rattle.definitions.specs.declared.Fault.the-variants.{Ragged}
 use Rattle.definitions.specs.Faults.{refuse}
-use Rattle.definitions.specs.Lines.{wholeLines}
+use Rattle.definitions.specs.Lines.{wholeLines, linesOf}
 use Rattle.definitions.specs.Reading.{readFrom}
 use Rattle.definitions.specs.BookLines.{BookLine, rootsOf}
 use Rattle.definitions.specs.BookReading.{Lent, bookKind, readBook}
@@ -19,6 +20,7 @@ use Rattle.definitions.specs.laws.Judging.{refused-not-answered}
 use Rattle.lines.specs.Judging.{lineTaken, linesBefore, lineBytes}
 use Rattle.lines.specs.laws.Judging.{lines-none, lines-more, lines-counted, GoesOn, goes-on-first, text-torn}
 use Rattle.lines.specs.laws.Judging.{goes-on-more, goes-on-refused, goes-on-end}
+use Rattle.lines.specs.laws.Texts.{lines-count}
 use Rattle.tables.specs.Lending.{lengthsOf, lentTables}
 use Rattle.book.specs.declared.Reading.{Reading}
 use Rattle.book.specs.declared.Reading.the-variants.{Refused}
@@ -35,8 +37,8 @@ use Rattle.book.specs.Taking.{nodesTaken, classesTaken, rootsTaken, coun
 use Rattle.book.specs.laws.Steps.{Taken, step-next, step-stop}
 use Rattle.book.specs.laws.Keeping.{Kept, kept-none, kept-more}
 use Rattle.book.specs.laws.Readying.{kept-ready, kept-endable}
-use Rattle.book.specs.laws.Stored.{nodes-stored, classes-stored, roots-stored, counts-stored, stored-none}
-use Rattle.book.specs.laws.Stored.{stored-lengths}
+use Rattle.book.specs.laws.Stored.{nodes-stored, classes-stored, roots-stored, counts-stored}
+use Rattle.book.specs.laws.Stored.{stored-none, stored-lengths}
 use Rattle.book.specs.laws.Finishing.{finish-state, finish-accepted}
 
 -- ---- the state and the tables after the lines `before`
@@ -93,11 +95,12 @@ module _ {lent : Lent} {before : List BookLine} {s : State} {nodes classes roots
         }
 
     -- after the last line
-    held-finished : finishOf s counts ≡ readingOf (readFrom (bookKind lent) (suc (length before)) before [])
-    held-finished =
-        ap (λ (z : State). finishOf z counts) (h .state)
-        ∙ ap (finishOf (stateOf before)) (h .counts-hold)
-        ∙ finish-state lent before (h .kept)
+    held-finished : (text : List ℕ) → before ≡ map bookTaken (linesOf text)
+        → finishOf text s counts ≡ readingOf (readFrom (bookKind lent) (suc (length before)) before [])
+    held-finished text all =
+        ap (λ (z : State). finishOf text z counts) (h .state)
+        ∙ ap (finishOf text (stateOf before)) (h .counts-hold)
+        ∙ finish-state lent text before (h .kept) all
 
     -- the tables hold the book of these lines
     held-book : lentTables nodes classes roots ≡ tablesOf lent (bookOf before)
@@ -229,13 +232,18 @@ module _ {lent : Lent} {text : List ℕ} {i : ℕ} {s : State} {nodes classes ro
         let same : lengthsOf nodes′ classes′ roots′ ≡ lent = rw (en, ec, er, k) lengths in
         refused-returns lent text nodes′ classes′ roots′ fault (i + 1) refusal same
 
-    pub end-returns : (answer : Reading) → length text / 32 ≤ i → answer ≡ finishOf s counts
+    -- at the end these are all lines of the text
+    all-taken : length text / 32 ≤ i → before ≡ map bookTaken (linesOf text)
+    unfolding linesBefore lineTaken bookKind
+    all-taken e = ap (map bookTaken) (take-all i (linesOf text) (omega (arith, e, lines-count text)))
+
+    pub end-returns : (answer : Reading) → length text / 32 ≤ i → answer ≡ finishOf text s counts
         → (answer ≡ readingOf (readBook lent text)) × Read lent text nodes classes roots
     unfolding readBook
     end-returns answer e a =
         let end : readBook lent text ≡ readFrom (bookKind lent) (suc i) before [] =
         goes-on-end (bookKind lent) text i (t .goes-on) e in (
-          a ∙ held-finished (t .held)
+          a ∙ held-finished (t .held) text (all-taken e)
               ∙ ap (λ (z : ℕ). readingOf (readFrom (bookKind lent) (suc z) before [])) counted
               ∙ ap readingOf (sym end),
           record {

@@ -31,8 +31,4 @@ pub kept-endable : (lent : Lent) (before : List BookLine) (counts : List ℕ) �
 unfolding stateOf
 kept-endable lent before counts k l e =
     let (nodes, roots) = kept-few lent before k in
-    record {
-      counted = omega arith;
-      lines = l;
-      last-node = λ some. omega (arith, k .together some);
-    }
+    record { counted = omega arith; lines = l }

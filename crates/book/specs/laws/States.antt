@@ -2,27 +2,23 @@
 -- and after one more line it is again what is kept of the lines.
 use mathlib.Core.Path.{_≡_, refl, sym, ap, _∙_}
 use mathlib.Core.List.{List, [], _∷_, _++_, append-nil}
-use mathlib.Core.Bool.{false}
-use Prim.Native.Nat.{ℕ, suc, _+_, _<_}
+use Prim.Native.Nat.{suc, _+_, _<_}
 use native.Mathlib.Omega.{arith}
 use lib.Dec.{T, eqb, eqb→eq}
 use lib.ListN.{length, length-append}
-use borrow.Author.Tests.{ne-eqb}
-use Rattle.definitions.specs.Lists.{if_then_else_, lastPasses}
+use Rattle.definitions.specs.Lists.{lastPasses}
 use Rattle.definitions.specs.Lines.{Line}
 use Rattle.definitions.specs.Reading.{lineTests}
-use Rattle.definitions.specs.BookLines.{BookLine, H, Q, N, L, R, bookLine, headerOf}
-use Rattle.definitions.specs.BookLines.{Member, membersOf, memberIn}
-use Rattle.definitions.specs.BookLines.{TreeNode, nodesOf, nodeIn, nodeLineIn, rootsOf, rootIn}
+use Rattle.definitions.specs.BookLines.{BookLine, H, Q, N, L, R, bookLine, headerOf, Member, membersOf}
+use Rattle.definitions.specs.BookLines.{memberIn, nodesOf, nodeIn, nodeLineIn, rootsOf, rootIn}
 use Rattle.definitions.specs.BookReading.{Lent, bookKind, bookFollows, comesBefore, bookInOrder}
 use Rattle.definitions.specs.BookReading.{bookComplete}
-use Rattle.definitions.specs.laws.SaidLines.{none-says, line-says, nodes-parts, members-more, nodes-count}
-use Rattle.definitions.specs.laws.SaidLines.{roots-count, header-parts}
+use Rattle.definitions.specs.laws.SaidLines.{members-more, nodes-count, roots-count, header-parts}
 use Rattle.definitions.specs.laws.Books.{node-started, test-started}
 use Rattle.book.specs.declared.State.{State}
 use Rattle.book.specs.declared.Last.the-variants as last
-use Rattle.book.specs.States.{lastOf, firstNodeFrom, stateOf, followsIn, afterLastMember, inOrderIn}
-use Rattle.book.specs.States.{testsIn, completeIn, withNode, nextState}
+use Rattle.book.specs.States.{lastOf, stateOf, followsIn, afterLastMember, inOrderIn, testsIn}
+use Rattle.book.specs.States.{completeIn, withNode, nextState}
 
 -- ---- the tests
 
@@ -69,43 +65,11 @@ last-snoc [] m = refl
 last-snoc (a ∷ []) m = refl
 last-snoc (a ∷ b ∷ members) m = last-snoc (b ∷ members) m
 
--- the first node's line, where one more line has no node
-pub first-other : (at : ℕ) (before : List BookLine) (line : BookLine) → nodeIn line ≡ []
-    → firstNodeFrom at (before ++ (line ∷ [])) ≡ firstNodeFrom at before
-unfolding firstNodeFrom
-first-other at [] line e = rw e
-first-other at (x ∷ before) line e = rw (first-other (suc at) before line e)
-
--- the first node's line, where one more line has a node
-pub first-node : (at : ℕ) (before : List BookLine) (line : BookLine) → eqb (length (nodeIn line)) 0 ≡ false
-    → firstNodeFrom at (before ++ (line ∷ []))
-    ≡ (if eqb (length (nodesOf before)) 0 then length before + at else firstNodeFrom at before)
-unfolding firstNodeFrom
-first-node at [] line e = let start : 0 + at ≡ at = omega arith in rw (e, start, none-says .nodes-said)
-first-node at (x ∷ before) line e =
-    rw (nodes-parts (x ∷ []) before, line-says x .nodes-said)
-    (go (nodeIn x) (first-node (suc at) before line e))
-  where
-    go : (nodes : List TreeNode)
-        → firstNodeFrom (suc at) (before ++ (line ∷ []))
-        ≡ (if eqb (length (nodesOf before)) 0 then length before + suc at else firstNodeFrom (suc at) before)
-        → (if eqb (length nodes) 0 then firstNodeFrom (suc at) (before ++ (line ∷ [])) else at)
-        ≡ (if eqb (length (nodes ++ nodesOf before)) 0 then suc (length before) + at else
-        (if eqb (length nodes) 0 then firstNodeFrom (suc at) before else at))
-    go [] rest =
-        let moved : length before + suc at ≡ suc (length before) + at = omega arith in
-        rest ∙ rw moved
-    go (node ∷ nodes) rest =
-        rw (
-          ne-eqb (suc (length nodes)) 0 (λ e. omega arith),
-          ne-eqb (suc (length (nodes ++ nodesOf before))) 0 (λ e. omega arith),
-        )
-
 -- states with the same fields
 same-state : {s t : State} → s .lines ≡ t .lines → s .header ≡ t .header → s .last ≡ t .last
-    → s .nodes ≡ t .nodes → s .first ≡ t .first → s .roots ≡ t .roots → s ≡ t
-same-state a b c d e f =
-    λ i. record { lines = a i; header = b i; last = c i; nodes = d i; first = e i; roots = f i }
+    → s .nodes ≡ t .nodes → s .roots ≡ t .roots → s ≡ t
+same-state a b c d e =
+    λ i. record { lines = a i; header = b i; last = c i; nodes = d i; roots = e i }
 
 -- what one more line adds to the counts and to the last Q line
 module _ (before : List BookLine) (line : BookLine) where
@@ -135,14 +99,14 @@ module _ (before : List BookLine) (line : BookLine) where
   unfolding withNode stateOf
   node-state started m n r =
       same-state lines-more (sym (header-parts before (line ∷ []) started)) (last-same m) (nodes-next n)
-      (sym (first-node 1 before line (rw n))) (roots-same r)
+      (roots-same r)
 
 pub next-state : (before : List BookLine) (line : BookLine) → T (bookFollows before line)
     → nextState (stateOf before) line ≡ stateOf (before ++ (line ∷ []))
-unfolding nextState stateOf bookFollows headerOf lastOf firstNodeFrom memberIn nodeLineIn rootIn
+unfolding nextState stateOf bookFollows headerOf lastOf memberIn nodeLineIn rootIn
 next-state [] (H half states phones classes nodes) f =
     let line : BookLine = H half states phones classes nodes in
-    same-state refl refl (last-same [] line refl) (nodes-same [] line refl) refl (roots-same [] line refl)
+    same-state refl refl (last-same [] line refl) (nodes-same [] line refl) (roots-same [] line refl)
 next-state (x ∷ before) (H half states phones classes nodes) f =
     absurd (omega (arith, eqb→eq (suc (length before)) 0 f))
 next-state before (Q class phone) f =
@@ -150,13 +114,11 @@ next-state before (Q class phone) f =
     let newest : lastOf (membersOf (before ++ (line ∷ []))) ≡ last.Member class phone =
     ap lastOf (members-more before line) ∙ last-snoc (membersOf before) _ in
     same-state (lines-more before line) (sym (header-parts before (line ∷ []) (test-started before _ f)))
-    (sym newest) (nodes-same before line refl) (sym (first-other 1 before line refl))
-    (roots-same before line refl)
+    (sym newest) (nodes-same before line refl) (roots-same before line refl)
 next-state before (N node class position yesNode noNode) f =
     node-state before (N node class position yesNode noNode) (node-started before f) refl refl refl
 next-state before (L node model) f = node-state before (L node model) (node-started before f) refl refl refl
 next-state before (R phone state root) f =
     let line : BookLine = R phone state root in
     same-state (lines-more before line) (sym (header-parts before (line ∷ []) (test-started before _ f)))
-    (last-same before line refl) (nodes-same before line refl)
-    (sym (first-other 1 before line refl)) (roots-next before line refl)
+    (last-same before line refl) (nodes-same before line refl) (roots-next before line refl)

@@ -14,7 +14,7 @@ use Rattle.book.specs.declared.Reading.the-variants.{Accepted, Refused}
 use Rattle.book.specs.declared.State.{State}
 use Rattle.book.specs.declared.Step.the-variants.{Next, Stop}
 use Rattle.book.specs.States.{completeIn, nextState}
-use Rattle.book.specs.Steps.{bookTaken, verdictIn, stepAfter, stepOf, finishOf}
+use Rattle.book.specs.Steps.{bookTaken, verdictIn, stepAfter, stepOf, finishOf, lineOfNode}
 
 module _ (lent : Lent) (s : State) (bytes : List ℕ) where
   pub step-failed : {fault : Fault} → verdictIn lent s bytes ≡ Failed fault → Stop fault ≡ stepOf lent s bytes
@@ -27,18 +27,18 @@ module _ (lent : Lent) (s : State) (bytes : List ℕ) where
 
 -- ---- after the last line
 
-module _ (s : State) (counts : List ℕ) where
+module _ (text : List ℕ) (s : State) (counts : List ℕ) where
   pub finish-early : completeIn s ≡ false
-      → Refused (record { fault = Count; line = s .lines + 1 }) ≡ finishOf s counts
+      → Refused (record { fault = Count; line = s .lines + 1 }) ≡ finishOf text s counts
   unfolding finishOf
   finish-early e = rw e
 
   module _ (node : ℕ) (all : completeIn s ≡ true) (found : node ≡ firstMisnamed (take (s .nodes) counts)) where
     pub finish-orphan : node < s .nodes
-        → Refused (record { fault = Orphan; line = s .first + node }) ≡ finishOf s counts
+        → Refused (record { fault = Orphan; line = lineOfNode text node }) ≡ finishOf text s counts
     unfolding finishOf
     finish-orphan l = rw (all, ← found, lt-ltb node (s .nodes) l)
 
-    pub finish-fine : s .nodes ≤ node → Accepted (s .header) ≡ finishOf s counts
+    pub finish-fine : s .nodes ≤ node → Accepted (s .header) ≡ finishOf text s counts
     unfolding finishOf
     finish-fine l = rw (all, ← found, le-ltb node (s .nodes) l)

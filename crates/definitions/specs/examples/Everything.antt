@@ -12,7 +12,7 @@ use Rattle.definitions.specs.BookLines.{membersOf, nodeLineIn, nodeLines
 use Rattle.definitions.specs.BookLines.{childrenOf}
 use Rattle.definitions.specs.BookReading.{bookFollows, withinHeader, comesBefore, bookInOrder}
 use Rattle.definitions.specs.BookReading.{childrenGreater, wideEnough, bookTests, bookComplete}
-use Rattle.definitions.specs.BookReading.{orphans, isLineOf, lineNumberFrom, judgeNames, bookKind}
+use Rattle.definitions.specs.BookReading.{orphans, isLineOf, lineWhere, judgeNames, bookKind}
 use Rattle.definitions.specs.BookReading.{readBook}
 use Rattle.definitions.specs.Tables.{phonesOfClass, classSets, bookOf, nodeWords, tablesOf, noTables}
 use Rattle.definitions.specs.Tables.{tablesLeft, nodeOf, treeNode, nodeRecords, tablesBook}
@@ -59,7 +59,7 @@ unfolding every atLeastOne firstWhere mapOption select lastPasses concatMap upFr
     linesOf endsInLineFeed wholeLines lineTests lineRead readFrom readText bookLine headerIn headerOf
     rootCount isPhone memberIn membersOf nodeLineIn nodeLinesOf nodesOf rootIn rootsOf childrenOf
     bookFollows withinHeader comesBefore bookInOrder childrenGreater wideEnough bookTests bookComplete
-    orphans isLineOf lineNumberFrom judgeNames bookKind readBook phonesOfClass classSets bookOf nodeWords
+    orphans isLineOf lineWhere judgeNames bookKind readBook phonesOfClass classSets bookOf nodeWords
     tablesOf noTables tablesLeft nodeOf treeNode nodeRecords tablesBook headerKnown questionKnown leafKnown
     nodesKnown holdsOnly nodeTableKnown classTableKnown rootTableKnown namedOnce tablesKnown modelAt answers
     walk leafReached lookupKnown isContext leafLookup leafLookupInTable has alone allPhones without setOf

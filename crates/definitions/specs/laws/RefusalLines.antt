@@ -21,7 +21,7 @@ use Rattle.definitions.specs.Forms.{Form}
 use Rattle.definitions.specs.Lines.{Line, lineOf, linesOf, wholeLines}
 use Rattle.definitions.specs.Reading.{Kind, lineTests, lineRead, withLine, readFrom, readText}
 use Rattle.definitions.specs.BookLines.{BookLine, nodesOf, rootsOf, headerOf, rootNames}
-use Rattle.definitions.specs.BookReading.{Lent, orphans, isLineOf, lineNumberFrom, judgeNames, bookKind}
+use Rattle.definitions.specs.BookReading.{Lent, orphans, isLineOf, lineWhere, judgeNames, bookKind}
 use Rattle.definitions.specs.BookReading.{readBook}
 use Rattle.definitions.specs.Tables.{Book, Tables, tablesLeft, tablesBook}
 use Rattle.definitions.specs.Combinations.{Combination, combinations, combine}
@@ -110,14 +110,15 @@ module _ {L : Type 0} (kind : Kind L)
         judge-lines most 0 (Ragged unless wholeLines text ∷ []) _ (omega arith)
         (from-lines most 1 [] lines refl (omega (arith, many)))
 
--- a book's last judgement is at the line of a node
-node-line : (at node : ℕ) (lines : List BookLine) → lineNumberFrom at node lines ≤ at + length lines
-unfolding lineNumberFrom
-node-line at node [] = omega arith
-node-line at node (line ∷ lines) = go (isLineOf node line) (node-line (suc at) node lines)
+-- a book's last judgement is at one of its lines
+line-within : (test : BookLine → Bool) (at : ℕ) (lines : List BookLine)
+    → lineWhere test at lines ≤ at + length lines
+unfolding lineWhere
+line-within test at [] = omega arith
+line-within test at (line ∷ lines) = go (test line) (line-within test (suc at) lines)
   where
-    go : (b : Bool) → lineNumberFrom (suc at) node lines ≤ suc at + length lines
-        → (if b then at else lineNumberFrom (suc at) node lines) ≤ at + suc (length lines)
+    go : (b : Bool) → lineWhere test (suc at) lines ≤ suc at + length lines
+        → (if b then at else lineWhere test (suc at) lines) ≤ at + suc (length lines)
     go true rest = omega arith
     go false rest = omega arith
 
@@ -127,9 +128,12 @@ names-lines lines = go (orphans (nodesOf lines) (rootNames (rootsOf lines)))
   where
     go : (found : List ℕ)
         → RefusesUpTo {A = List BookLine} (suc (length lines))
-        (elim found [ [] ↦ answered lines | node ∷ others ↦ refuse Orphan (lineNumberFrom 1 node lines) ])
+        (elim found [
+          | [] ↦ answered lines
+          | node ∷ others ↦ refuse Orphan (lineWhere (isLineOf node) 1 lines)
+        ])
     go [] = tt
-    go (node ∷ others) = omega (arith, node-line 1 node lines)
+    go (node ∷ others) = omega (arith, line-within (isLineOf node) 1 lines)
 
 -- reading refuses at a line of the text, or at the one after the last
 book-lines : (lent : Lent) (text : List ℕ) → RefusesUpTo (suc (length text / 32)) (readBook lent text)

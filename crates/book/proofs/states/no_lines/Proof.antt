@@ -2,12 +2,12 @@
 use mathlib.Core.Path.{refl}
 use Rattle.definitions.specs.BookLines.{headerOf}
 use Rattle.definitions.specs.laws.SaidLines.{none-says, roots-none}
-use Rattle.book.specs.States.{stateOf, lastOf, firstNodeFrom}
+use Rattle.book.specs.States.{stateOf, lastOf}
 use Rattle.book.proofs.states.no_lines.Statement.{statement}
 use Rattle.book.proofs.states.no_lines.Tie as tie
 
 returns : tie.Need-returns
-unfolding stateOf lastOf firstNodeFrom headerOf
+unfolding stateOf lastOf headerOf
 returns c = rw (none-says .members-said, none-says .nodes-said, roots-none) refl
 
 pub no-lines-spec : {M : Type 1} → statement M

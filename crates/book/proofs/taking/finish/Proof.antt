@@ -15,11 +15,11 @@ use Rattle.book.proofs.taking.finish.Tie as tie
 complete-requires : tie.Need-complete-requires
 complete-requires c κs = search needs
 
-add-t9 : tie.Need-add-t9
-add-t9 c = search needs
+add-t10 : tie.Need-add-t10
+add-t10 c = search needs
 
 returns : tie.Need-returns
-returns c = finish-early _ _ (failed (c .before .before .complete .ensures) (c .before .if1 .taken))
+returns c = finish-early _ _ _ (failed (c .before .before .complete .ensures) (c .before .if1 .taken))
 
 wide-requires : tie.Need-wide-requires
 wide-requires c κs = search needs
@@ -30,14 +30,12 @@ slice-aggregate-first-misnamed c = sym (length-take-le _ _ (omega arith))
 first-misnamed-requires : tie.Need-first-misnamed-requires
 first-misnamed-requires c κs = search needs
 
-add-t14 : tie.Need-add-t14
-add-t14 c =
-    let start = c .before .before .before .before .before .before .before .before in
-    omega (arith, start .pre .last-node (omega arith))
+line-of-node-requires : tie.Need-line-of-node-requires
+line-of-node-requires c κs = search needs
 
 -- where the counts were looked through: no line is missing, and which node is the first misnamed
 abbrev startOf : tie.After-first-misnamed → tie.Start
-startOf c = c .before .before .before .before .before .before
+startOf c = c .before .before .before .before .before .before .before
 
 all-there : (c : tie.After-first-misnamed) → completeIn (startOf c .args .s) ≡ true
 all-there c =
@@ -50,22 +48,24 @@ first-is c = rw (c .before .before .wide .ensures) at (c .first-misnamed .ensure
 
 returns-2 : tie.Need-returns-2
 returns-2 c =
-    let found = c .before .before in finish-orphan _ _ _ (all-there found) (first-is found) (omega arith)
+    let found = c .before .before in
+    rw (c .line-of-node .ensures)
+    (finish-orphan _ _ _ _ (all-there found) (first-is found) (omega (arith, c .before .if2 .taken)))
 
 returns-3 : tie.Need-returns-3
 returns-3 c =
-    let found = c .before .before in finish-fine _ _ _ (all-there found) (first-is found) (omega arith)
+    let found = c .before .before in finish-fine _ _ _ _ (all-there found) (first-is found) (omega arith)
 
 pub finish-spec : {M : Type 1} → statement M
 finish-spec =
     tie.close
     (tie.spec
     complete-requires
-    add-t9
+    add-t10
     returns
     wide-requires
     slice-aggregate-first-misnamed
     first-misnamed-requires
-    add-t14
+    line-of-node-requires
     returns-2
     returns-3)
