@@ -11,8 +11,8 @@ use lib.Dec.{T, ltb→lt, nltb→le}
 use lib.ListN.{length, getD}
 use Rattle.definitions.specs.Lists.{if_then_else_, concatMap, upFrom}
 use Rattle.definitions.specs.Faults.{answered}
-use Rattle.definitions.specs.BookLines.{BookLine}
-use Rattle.definitions.specs.BookReading.{orphans, Lent, readBook}
+use Rattle.definitions.specs.BookLines.{BookLine, nodesOf, rootNames, rootsOf}
+use Rattle.definitions.specs.BookReading.{Lent, readBook}
 use Rattle.definitions.specs.Tables.{Book, bookOf}
 use Rattle.definitions.specs.Matrices.{Matrix, rootMatrix, valid, meet}
 use Rattle.definitions.specs.Tables.{rootOf}
@@ -186,22 +186,21 @@ combinations-rising book forward once =
 abbrev pub keyAt : Book → (number : ℕ) → List ℕ
 keyAt book number = key (getD (combinations book) number noCombination)
 
-combinations-ascend : (book : Book) → Forward (book .nodes) → orphans (book .nodes) (book .roots) ≡ []
+combinations-ascend : (book : Book) → Forward (book .nodes) → ChildOnce (book .nodes)
     → (i j : ℕ) → i < j → j < length (combinations book) → T (precedes (keyAt book i) (keyAt book j))
-combinations-ascend book forward none =
-    rising-at combinationBefore (combinations book) noCombination
-    (combinations-rising book forward (child-once (book .nodes) (book .roots) forward none))
+combinations-ascend book forward once =
+    rising-at combinationBefore (combinations book) noCombination (combinations-rising book forward once)
 
 -- a key has one number
-pub key-injective : (book : Book) → Forward (book .nodes) → orphans (book .nodes) (book .roots) ≡ []
+pub key-injective : (book : Book) → Forward (book .nodes) → ChildOnce (book .nodes)
     → (i j : ℕ) → i < length (combinations book) → j < length (combinations book)
     → keyAt book i ≡ keyAt book j → i ≡ j
-key-injective book forward none i j h k e = omega (arith, never i j k e, never j i h (sym e))
+key-injective book forward once i j h k e = omega (arith, never i j k e, never j i h (sym e))
   where
     never : (a b : ℕ) → b < length (combinations book) → keyAt book a ≡ keyAt book b → a < b → ⊥
     never a b l q less =
         precedes-irreflexive (keyAt book b)
-        (subst (λ x. T (precedes x (keyAt book b))) q (combinations-ascend book forward none a b less l))
+        (subst (λ x. T (precedes x (keyAt book b))) q (combinations-ascend book forward once a b less l))
 
 -- so it is for every accepted book; the build's tables hold that book (`accepted-book` in laws/Books)
 pub accepted-ascend : (lent : Lent) (text : List ℕ) (lines : List BookLine)
@@ -210,5 +209,7 @@ pub accepted-ascend : (lent : Lent) (text : List ℕ) (lines : List BookLine)
     → T (precedes (keyAt (bookOf lines) i) (keyAt (bookOf lines) j))
 unfolding bookOf
 accepted-ascend lent text lines e =
-    combinations-ascend (bookOf lines) (accepted-sound lent text lines e .forward)
-    (accepted-orderly lent text lines e .named-once)
+    let forward = accepted-sound lent text lines e .forward in
+    combinations-ascend (bookOf lines) forward
+    (child-once (nodesOf lines) (rootNames (rootsOf lines)) forward
+    (accepted-orderly lent text lines e .named-once))
