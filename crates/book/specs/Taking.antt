@@ -7,7 +7,7 @@ use Rattle.definitions.specs.Faults.{answered}
 use Rattle.definitions.specs.Lists.{cleared}
 use Rattle.definitions.specs.BookLines.{BookLine}
 use Rattle.definitions.specs.BookReading.{Lent, readBook}
-use Rattle.definitions.specs.Tables.{bookOf, tablesOf}
+use Rattle.definitions.specs.Tables.{tablesOf, contentsOf}
 use Rattle.tables.specs.Lending.{lengthsOf, lentTables}
 use Rattle.book.specs.declared.State.{State}
 use Rattle.book.specs.declared.Step.{Step}
@@ -30,7 +30,7 @@ Cleared nodes classes roots = ClearedFrom nodes classes roots nodes classes root
 pub record Read (lent : Lent) (text nodes classes roots : List ℕ) : Type 0 where
   pub lengths : lengthsOf nodes classes roots ≡ lent
   pub book : (lines : List BookLine) → readBook lent text ≡ answered lines
-      → lentTables nodes classes roots ≡ tablesOf lent (bookOf lines)
+      → lentTables nodes classes roots ≡ tablesOf lent (contentsOf lines)
 
 -- a state in which a line can be taken: its counts do not overflow, and a line that passes has room
 pub record Ready (lent : Lent) (s : State) (bytes : List ℕ) : Type 0 where

@@ -11,7 +11,7 @@ use Rattle.definitions.specs.Forms.{formH}
 use Rattle.definitions.specs.Lines.{inRanges}
 use Rattle.definitions.specs.BookLines.{rootCount}
 use Rattle.definitions.specs.BookReading.{nodeSize, orphans}
-use Rattle.definitions.specs.Tables.{Book, Tables, nodeRecords, tablesBook}
+use Rattle.definitions.specs.Tables.{Tables, nodeRecords, Contents, tablesContents}
 
 -- a header that an H line states
 unfoldable pub headerKnown : Header → Bool
@@ -61,8 +61,8 @@ rootTableKnown header words =
     && every (λ root. ltb root (header .nodes)) (take (rootCount header) words)
 
 -- "Every node is named exactly once, as a child or as a root"
-unfoldable pub namedOnce : Book → Bool
-namedOnce book = eqb (length (orphans (book .nodes) (book .roots))) 0
+unfoldable pub namedOnce : Contents → Bool
+namedOnce contents = eqb (length (orphans (contents .nodes) (contents .roots))) 0
 
 -- not 18: tables that reading leaves
 unfoldable pub tablesKnown : Header → Tables → Bool
@@ -71,4 +71,4 @@ tablesKnown header tables =
     && nodeTableKnown header (tables .nodes)
     && classTableKnown header (tables .classes)
     && rootTableKnown header (tables .roots)
-    && namedOnce (tablesBook header tables)
+    && namedOnce (tablesContents header tables)

@@ -13,6 +13,16 @@ use Rattle.definitions.specs.BookLines.{BookLine, headerOf, rootCount, M
 use Rattle.definitions.specs.BookLines.{question, leaf, nodesOf, rootsOf, Asked, asks, rootWords}
 use Rattle.definitions.specs.BookReading.{Lent, nodeSize}
 
+-- What the lines of a book state and the tables hold: its nodes, the set of each class, and the root that
+-- each R line gives.
+pub record Contents : Type 0 where
+  pub half : ℕ
+  pub states : ℕ
+  pub phones : ℕ
+  pub nodes : List TreeNode
+  pub classes : List ℕ
+  pub roots : List ℕ
+
 -- A book as the later stages use it: its nodes, the set of each class, and the roots by phone and state.
 pub record Book : Type 0 where
   pub half : ℕ
@@ -22,11 +32,23 @@ pub record Book : Type 0 where
   pub classes : List ℕ
   pub roots : List ℕ
 
+-- The book with these contents: each phone has the trees that its R lines give.
+unfoldable pub bookIn : Contents → Book
+bookIn contents =
+    record {
+      half = contents .half;
+      states = contents .states;
+      phones = contents .phones;
+      nodes = contents .nodes;
+      classes = contents .classes;
+      roots = contents .roots;
+    }
+
 -- the root of a phone's tree for a state, "in R order"; phones and states count from 1
 unfoldable pub rootOf : Book → (phone state : ℕ) → ℕ
 rootOf book phone state = book .roots ! ((phone - 1) * book .states + (state - 1))
 
--- The book of the lines.
+-- The contents of the lines, and their book.
 -- "for each class one 64-bit word, phone p being the bit worth 2^(p−1)"; "A class without Q lines is empty."
 unfoldable pub phonesOfClass : ℕ → List Member → List ℕ
 phonesOfClass class members = map (λ m. m .phone) (select (λ m. eqb (m .class) class) members)
@@ -34,8 +56,8 @@ phonesOfClass class members = map (λ m. m .phone) (select (λ m. eqb (m .class)
 unfoldable pub classSets : (classes : ℕ) → List Member → List ℕ
 classSets classes members = map (λ class. setOf (phonesOfClass class members)) (upFrom 1 classes)
 
-unfoldable pub bookOf : List BookLine → Book
-bookOf lines =
+unfoldable pub contentsOf : List BookLine → Contents
+contentsOf lines =
     record {
       half = headerOf lines .half;
       states = headerOf lines .states;
@@ -44,6 +66,9 @@ bookOf lines =
       classes = classSets (headerOf lines .classes) (membersOf lines);
       roots = rootWords (rootsOf lines);
     }
+
+unfoldable pub bookOf : List BookLine → Book
+bookOf lines = bookIn (contentsOf lines)
 
 -- The words of the tables.
 -- "for each node five 32-bit words (1 question or 2 leaf; class or model; position; yes; no; the last three
@@ -72,12 +97,12 @@ lentOf tables =
     }
 
 -- "Words beyond these are 0."
-unfoldable pub tablesOf : Lent → Book → Tables
-tablesOf lent book =
+unfoldable pub tablesOf : Lent → Contents → Tables
+tablesOf lent contents =
     record {
-      nodes = padded (lent .nodes) (concatMap nodeWords (book .nodes));
-      classes = padded (lent .classes) (book .classes);
-      roots = padded (lent .roots) (book .roots);
+      nodes = padded (lent .nodes) (concatMap nodeWords (contents .nodes));
+      classes = padded (lent .classes) (contents .classes);
+      roots = padded (lent .roots) (contents .roots);
     }
 
 -- "every word of every output buffer 0"
@@ -87,10 +112,10 @@ noTables lent =
 
 -- what reading leaves in the lent tables
 unfoldable pub tablesLeft : Lent → Outcome (List BookLine) → Tables
-tablesLeft lent (answered lines) = tablesOf lent (bookOf lines)
+tablesLeft lent (answered lines) = tablesOf lent (contentsOf lines)
 tablesLeft lent (refused r) = noTables lent
 
--- The book read back out of words, with its header.
+-- The contents read back out of words, with their header, and their book.
 unfoldable pub nodeOf : List ℕ → Node
 nodeOf words =
     record { kind = words ! 0; value = words ! 1; position = words ! 2; yes = words ! 3; no = words ! 4 }
@@ -107,8 +132,8 @@ treeNode node =
 unfoldable pub nodeRecords : Header → (words : List ℕ) → List Node
 nodeRecords header words = map nodeOf (records nodeSize (header .nodes) words)
 
-unfoldable pub tablesBook : Header → Tables → Book
-tablesBook header tables =
+unfoldable pub tablesContents : Header → Tables → Contents
+tablesContents header tables =
     record {
       half = header .half;
       states = header .states;
@@ -117,3 +142,6 @@ tablesBook header tables =
       classes = take (header .classes) (tables .classes);
       roots = take (rootCount header) (tables .roots);
     }
+
+unfoldable pub tablesBook : Header → Tables → Book
+tablesBook header tables = bookIn (tablesContents header tables)

@@ -20,7 +20,7 @@ ghost use Rattle.definitions.specs.ForeignTables.{headerKnown, holdsOnly, nodeT
 ghost use Rattle.definitions.specs.ForeignTables.{rootTableKnown, namedOnce, tablesKnown};
 ghost use Rattle.definitions.specs.Lists.{concatMap};
 ghost use Rattle.definitions.specs.Lookup.{lookupKnown};
-ghost use Rattle.definitions.specs.Tables.{nodeRecords, tablesBook, treeNode};
+ghost use Rattle.definitions.specs.Tables.{nodeRecords, treeNode, tablesContents};
 ghost use Rattle.tables.specs.Lending.{lentTables};
 ghost use Rattle.tables.specs.Naming.{namedAll};
 
@@ -65,7 +65,7 @@ fn name_roots(counts: &mut [u32], roots: &[u32])
 fn named_once(header: Header, nodes: &[u32], roots: &[u32]) -> bool
     requires { ⌜ T (headerKnown header) × T (rootTableKnown header (now roots)) ⌝ }
     ensures { λ r. ⌜
-        r ≡ namedOnce (tablesBook header (lentTables (now (nodes .entry)) [] (now (roots .entry))))
+        r ≡ namedOnce (tablesContents header (lentTables (now (nodes .entry)) [] (now (roots .entry))))
         ⌝ }
 {
     let mut counts = [0u32; 4096];

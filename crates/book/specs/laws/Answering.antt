@@ -7,7 +7,7 @@ use Rattle.definitions.specs.declared.Refusal.{Refusal}
 use Rattle.definitions.specs.Faults.{Outcome, answered, refused}
 use Rattle.definitions.specs.BookLines.{BookLine}
 use Rattle.definitions.specs.BookReading.{Lent, readBook}
-use Rattle.definitions.specs.Tables.{Tables, noTables, bookOf, tablesOf, tablesLeft}
+use Rattle.definitions.specs.Tables.{Tables, noTables, tablesOf, tablesLeft, contentsOf}
 use Rattle.definitions.specs.laws.Lists.{clear-length, clear-itself}
 use Rattle.tables.specs.Lending.{lengthsOf, lentTables}
 use Rattle.book.specs.declared.Reading.{Reading}
@@ -37,7 +37,7 @@ module _ {nodes classes roots nodes′ classes′ roots′ : List ℕ}
 -- an accepted book: the tables hold it
 accepted-left : (lent : Lent) (o : Outcome (List BookLine)) (tables : Tables) (header : Header)
     → readingOf o ≡ Accepted header
-    → ((lines : List BookLine) → o ≡ answered lines → tables ≡ tablesOf lent (bookOf lines))
+    → ((lines : List BookLine) → o ≡ answered lines → tables ≡ tablesOf lent (contentsOf lines))
     → tables ≡ tablesLeft lent o
 unfolding readingOf tablesLeft
 accepted-left lent (answered lines) tables header a holds = holds lines refl

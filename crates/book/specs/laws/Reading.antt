@@ -15,7 +15,7 @@ use Rattle.definitions.specs.Lines.{wholeLines, linesOf}
 use Rattle.definitions.specs.Reading.{readFrom}
 use Rattle.definitions.specs.BookLines.{BookLine, rootsOf}
 use Rattle.definitions.specs.BookReading.{Lent, bookKind, readBook}
-use Rattle.definitions.specs.Tables.{bookOf, tablesOf}
+use Rattle.definitions.specs.Tables.{tablesOf, contentsOf}
 use Rattle.definitions.specs.laws.Judging.{refused-not-answered}
 use Rattle.lines.specs.Judging.{lineTaken, linesBefore, lineBytes}
 use Rattle.lines.specs.laws.Judging.{lines-none, lines-more, lines-counted, GoesOn, goes-on-first, text-torn}
@@ -102,9 +102,9 @@ module _ {lent : Lent} {before : List BookLine} {s : State} {nodes classes roots
         ∙ ap (finishOf text (stateOf before)) (h .counts-hold)
         ∙ finish-state lent text before (h .kept) all
 
-    -- the tables hold the book of these lines
-    held-book : lentTables nodes classes roots ≡ tablesOf lent (bookOf before)
-    unfolding tablesOf bookOf nodesStored classesStored rootsStored
+    -- the tables hold the contents of these lines
+    held-book : lentTables nodes classes roots ≡ tablesOf lent (contentsOf before)
+    unfolding tablesOf contentsOf nodesStored classesStored rootsStored
     held-book = rw (h .nodes-hold, h .classes-hold, h .roots-hold) refl
 
 -- ---- the loop's turns: the first i lines of a text were taken
@@ -250,7 +250,7 @@ module _ {lent : Lent} {text : List ℕ} {i : ℕ} {s : State} {nodes classes ro
             lengths = lengths;
             book = λ lines r.
                 held-book (t .held)
-                ∙ ap (λ (l : List BookLine). tablesOf lent (bookOf l))
+                ∙ ap (λ (l : List BookLine). tablesOf lent (contentsOf l))
                 (sym (finish-accepted lent before lines (suc i) (sym end ∙ r)));
           },
         )

@@ -24,7 +24,7 @@ use Rattle.definitions.specs.Lookup.{leafLookup, leafLookupInTable}
 use Rattle.definitions.specs.PhoneSets.{has, alone, allPhones, without, setOf}
 use Rattle.definitions.specs.Matrices.{matrixWords, rootMatrix, yesSide, noSide, valid, meet, shift}
 use Rattle.definitions.specs.Matrices.{startCut, endsHere}
-use Rattle.definitions.specs.Tables.{rootOf}
+use Rattle.definitions.specs.Tables.{rootOf, bookIn, contentsOf, tablesContents}
 use Rattle.definitions.specs.Combinations.{leavesBelow, isBefore, insertLeaf, ascending}
 use Rattle.definitions.specs.Combinations.{leavesOf}
 use Rattle.definitions.specs.Combinations.{choose, combinationsOf, combinations, combinationWords}
@@ -59,21 +59,21 @@ unfolding every atLeastOne firstWhere mapOption select lastPasses concatMap upFr
     linesOf endsInLineFeed wholeLines lineTests lineRead readFrom readText bookLine headerIn headerOf
     rootCount isPhone memberIn membersOf nodeLineIn nodeLinesOf nodesOf rootIn rootsOf childrenOf
     bookFollows withinHeader comesBefore bookInOrder childrenGreater wideEnough bookTests bookComplete
-    orphans isLineOf lineWhere judgeNames bookKind readBook phonesOfClass classSets bookOf nodeWords
-    tablesOf noTables tablesLeft nodeOf treeNode nodeRecords tablesBook headerKnown questionKnown leafKnown
-    nodesKnown holdsOnly nodeTableKnown classTableKnown rootTableKnown namedOnce tablesKnown modelAt answers
-    walk leafReached lookupKnown isContext leafLookup leafLookupInTable has alone allPhones without setOf
-    matrixWords rootMatrix yesSide noSide valid meet shift startCut endsHere leavesBelow isBefore insertLeaf
-    ascending rootOf leavesOf choose combinationsOf combinations combinationWords combinationRoom combine
-    combinationSpace firstState lastState arcWords arcOf arcsIn sameMetastate metastateWords startsFrom
-    followersFrom combinationOf phoneOf starts followers modelsOf mayEnd ownArcs finalArcs startEvents
-    turnEvents arcInto placeFrom addArc addMetastate addBoth perform performAll expand turnsFrom connect
-    roomIn build networkIn countsIn buffersOf noBuffers buffersLeft leads accepting withoutZeros
-    modelsCarried phonesCarried partOf leaving partHanded partWords networkLine countsInLine countsOf
-    arcInLine arcsOf isState networkFollows withinCounts networkInOrder networkTests networkComplete
-    networkKind readNetwork arcsLeft arcKnown neverDescending networkKnown lineOfCounts lineOfArc
-    networkText writeNetwork windows withSilence contexts rootLine nodeLine putInClass answersByLines
-    modelBelow modelGiven together modelsAlong treesGive silentEnds modelOf transcription isUtterance
-    transcribe buildRead buildBook tablesAfter buffersAfter textOfBuilt networkOf refusalText printed
-    program
+    orphans isLineOf lineWhere judgeNames bookKind readBook phonesOfClass classSets bookOf bookIn contentsOf
+    nodeWords tablesOf noTables tablesLeft nodeOf treeNode nodeRecords tablesBook tablesContents headerKnown
+    questionKnown leafKnown nodesKnown holdsOnly nodeTableKnown classTableKnown rootTableKnown namedOnce
+    tablesKnown modelAt answers walk leafReached lookupKnown isContext leafLookup leafLookupInTable has
+    alone allPhones without setOf matrixWords rootMatrix yesSide noSide valid meet shift startCut endsHere
+    leavesBelow isBefore insertLeaf ascending rootOf leavesOf choose combinationsOf combinations
+    combinationWords combinationRoom combine combinationSpace firstState lastState arcWords arcOf arcsIn
+    sameMetastate metastateWords startsFrom followersFrom combinationOf phoneOf starts followers modelsOf
+    mayEnd ownArcs finalArcs startEvents turnEvents arcInto placeFrom addArc addMetastate addBoth perform
+    performAll expand turnsFrom connect roomIn build networkIn countsIn buffersOf noBuffers buffersLeft
+    leads accepting withoutZeros modelsCarried phonesCarried partOf leaving partHanded partWords networkLine
+    countsInLine countsOf arcInLine arcsOf isState networkFollows withinCounts networkInOrder networkTests
+    networkComplete networkKind readNetwork arcsLeft arcKnown neverDescending networkKnown lineOfCounts
+    lineOfArc networkText writeNetwork windows withSilence contexts rootLine nodeLine putInClass
+    answersByLines modelBelow modelGiven together modelsAlong treesGive silentEnds modelOf transcription
+    isUtterance transcribe buildRead buildBook tablesAfter buffersAfter textOfBuilt networkOf refusalText
+    printed program
 everything = tt

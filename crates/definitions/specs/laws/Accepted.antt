@@ -16,9 +16,9 @@ use Rattle.definitions.specs.BookLines.{BookLine, H, Q, N, L, R, headerO
 use Rattle.definitions.specs.BookLines.{nodesOf, nodeIn, nodeLineIn, rootsOf, rootIn, Member, membersOf}
 use Rattle.definitions.specs.BookLines.{memberIn, Asked, asks, rootWords}
 use Rattle.definitions.specs.BookReading.{Lent, withinHeader, bookInOrder, childrenGreater, readBook}
-use Rattle.definitions.specs.Tables.{Book, bookOf}
+use Rattle.definitions.specs.Tables.{bookOf}
 use Rattle.definitions.specs.Lookup.{nodeAt}
-use Rattle.definitions.specs.Tables.{rootOf}
+use Rattle.definitions.specs.Tables.{rootOf, Contents, bookIn, contentsOf}
 use Rattle.definitions.specs.laws.Tests.{T-and, T-three}
 use Rattle.definitions.specs.laws.Ranges.{Within}
 use Rattle.definitions.specs.laws.Tables.{Heads}
@@ -224,25 +224,27 @@ module _ (header : Header) (nodes : List TreeNode) (fit : allFrom (NodeFits head
         record { greater = f .no-greater; listed = rw (← count) (f .no-listed) },
       )
 
--- a header with its ranges, a book with its counts, nodes and roots that fit
-module _ (header : Header) (book : Book) (ranged : InRange header) (heads : Heads header book)
-    (nodes : allFrom (NodeFits header) 0 (book .nodes)) (roots : allFrom (RootFits header) 0 (book .roots))
+-- a header with its ranges, contents with its counts, nodes and roots that fit
+module _ (header : Header) (contents : Contents) (ranged : InRange header) (heads : Heads header contents)
+    (nodes : allFrom (NodeFits header) 0 (contents .nodes))
+    (roots : allFrom (RootFits header) 0 (contents .roots))
   where
-    pub fitting-sound : Sound book
-    unfolding rootOf
+    pub fitting-sound : Sound (bookIn contents)
+    unfolding rootOf bookIn
     fitting-sound = record {
       some-state = omega (arith, ranged .states-range .low, heads .states);
       some-phone = omega (arith, ranged .phones-range .low, heads .phones);
-      forward = fitting-forward header (book .nodes) nodes (heads .nodes);
+      forward = fitting-forward header (contents .nodes) nodes (heads .nodes);
       position = λ node asked yesNode noNode q.
           omega (
             arith,
-            question-fitting header (book .nodes) nodes node asked yesNode noNode q .in-range .position-high,
+            question-fitting header (contents .nodes) nodes node asked yesNode noNode q .in-range
+                .position-high,
             heads .half,
           );
-      model = λ node model h q. leaf-fitting header (book .nodes) nodes node model h q .low;
+      model = λ node model h q. leaf-fitting header (contents .nodes) nodes node model h q .low;
       root = λ phone state.
-          rw (← heads .nodes) (root-listed header 0 (book .roots) _ (ranged .nodes-range .low) roots);
+          rw (← heads .nodes) (root-listed header 0 (contents .roots) _ (ranged .nodes-range .low) roots);
     }
 
 module _ (lent : Lent) (text : List ℕ) (lines : List BookLine)
@@ -260,7 +262,7 @@ module _ (lent : Lent) (text : List ℕ) (lines : List BookLine)
     accepted-question = question-fitting (headerOf lines) (nodesOf lines) (fit .nodes)
 
     pub accepted-sound : Sound (bookOf lines)
-    unfolding bookOf
+    unfolding bookOf bookIn contentsOf
     accepted-sound =
-        fitting-sound (headerOf lines) (bookOf lines) (orderly .in-range) (orderly-heads lines orderly)
+        fitting-sound (headerOf lines) (contentsOf lines) (orderly .in-range) (orderly-heads lines orderly)
         (fit .nodes) (fit .roots)

@@ -15,7 +15,7 @@ use Rattle.definitions.specs.BookLines.{BookLine, nodesOf, rootNames, ro
 use Rattle.definitions.specs.BookReading.{Lent, readBook}
 use Rattle.definitions.specs.Tables.{Book, bookOf}
 use Rattle.definitions.specs.Matrices.{Matrix, rootMatrix, valid, meet}
-use Rattle.definitions.specs.Tables.{rootOf}
+use Rattle.definitions.specs.Tables.{rootOf, bookIn, contentsOf}
 use Rattle.definitions.specs.Combinations.{Leaf, leavesBelow, isBefore, insertLeaf, ascending}
 use Rattle.definitions.specs.Combinations.{leavesOf, Combination, choose, combinationsOf}
 use Rattle.definitions.specs.Combinations.{combinations, onYes, onNo}
@@ -207,7 +207,7 @@ pub accepted-ascend : (lent : Lent) (text : List ℕ) (lines : List BookLine)
     → readBook lent text ≡ answered lines
     → (i j : ℕ) → i < j → j < length (combinations (bookOf lines))
     → T (precedes (keyAt (bookOf lines) i) (keyAt (bookOf lines) j))
-unfolding bookOf
+unfolding bookOf bookIn contentsOf
 accepted-ascend lent text lines e =
     let forward = accepted-sound lent text lines e .forward in
     combinations-ascend (bookOf lines) forward

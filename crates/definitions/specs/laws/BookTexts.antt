@@ -25,7 +25,7 @@ use Rattle.definitions.specs.BookLines.{nodeLineIn, rootIn, rootsOf}
 use Rattle.definitions.specs.BookReading.{Lent, bookKind, bookFollows, withinHeader, comesBefore}
 use Rattle.definitions.specs.BookReading.{bookInOrder, childrenGreater, wideEnough, bookTests}
 use Rattle.definitions.specs.BookReading.{bookComplete, judgeNames, readBook}
-use Rattle.definitions.specs.Tables.{Book, bookOf, classSets}
+use Rattle.definitions.specs.Tables.{classSets, Contents, contentsOf}
 use Rattle.definitions.specs.laws.Tests.{eq→eqb}
 use Rattle.definitions.specs.laws.Members.{isIn}
 use Rattle.definitions.specs.laws.Judging.{pass-none, pass-more}
@@ -257,37 +257,37 @@ module _ (lent : Lent) (header : Header) (range : InRange header) where
 
 -- ---- a book that is stated
 
-module _ (header : Header) (book : Book) where
+module _ (header : Header) (contents : Contents) where
   abbrev members : List Member
-  members = membersFrom (header .phones) 1 (book .classes)
+  members = membersFrom (header .phones) 1 (contents .classes)
 
   -- its lines say its header and what it holds
-  pub header-again : headerOf (linesOfBook header book) ≡ header
+  pub header-again : headerOf (linesOfBook header contents) ≡ header
   unfolding linesOfBook headerOf headerIn
   header-again = refl
 
-  all-said : Says (linesOfBook header book) members (book .nodes) (book .roots)
+  all-said : Says (linesOfBook header contents) members (contents .nodes) (contents .roots)
   unfolding linesOfBook
-  all-said = lines-say header members (book .nodes) (book .roots)
+  all-said = lines-say header members (contents .nodes) (contents .roots)
 
-module _ (header : Header) (book : Book) (s : Stated header book) where
-  sets-said : classSets (header .classes) (membersOf (linesOfBook header book)) ≡ book .classes
+module _ (header : Header) (contents : Contents) (s : Stated header contents) where
+  sets-said : classSets (header .classes) (membersOf (linesOfBook header contents)) ≡ contents .classes
   sets-said =
-      rw (all-said header book .members-said, s .heads .classes)
-      (sets-again (header .phones) (book .classes) (s .sets))
+      rw (all-said header contents .members-said, s .heads .classes)
+      (sets-again (header .phones) (contents .classes) (s .sets))
 
-  pub book-again : bookOf (linesOfBook header book) ≡ book
-  unfolding bookOf linesOfBook headerOf headerIn
-  book-again = λ i. record {
+  pub contents-again : contentsOf (linesOfBook header contents) ≡ contents
+  unfolding contentsOf linesOfBook headerOf headerIn
+  contents-again = λ i. record {
     half = s .heads .half i;
     states = s .heads .states i;
     phones = s .heads .phones i;
-    nodes = all-said header book .nodes-said i;
+    nodes = all-said header contents .nodes-said i;
     classes = sets-said i;
-    roots = all-said header book .roots-said i;
+    roots = all-said header contents .roots-said i;
   }
 
-module _ (lent : Lent) (header : Header) (book : Book) (s : Stated header book)
+module _ (lent : Lent) (header : Header) (contents : Contents) (s : Stated header contents)
     (wide : T (wideEnough lent header)) where
   abbrev w : Writer (bookKind lent)
   w = bookWriter lent
@@ -297,34 +297,34 @@ module _ (lent : Lent) (header : Header) (book : Book) (s : Stated header book)
   first = lineOfHeader header ∷ []
 
   abbrev qs : List BookLine
-  qs = map lineOfMember (members header book)
+  qs = map lineOfMember (members header contents)
 
   abbrev ns : List BookLine
-  ns = linesOfNodes 0 (book .nodes)
+  ns = linesOfNodes 0 (contents .nodes)
 
   abbrev rs : List BookLine
-  rs = linesOfRoots (header .states) 0 (book .roots)
+  rs = linesOfRoots (header .states) 0 (contents .roots)
 
   next-members : allNext w first qs
   next-members =
-      members-next lent header (s .in-range) first [] (members header book) (before-others header)
-      (λ m i. rw (s .heads .classes) (members-within (header .phones) (book .classes) m i))
-      (members-ascend (header .phones) (book .classes))
+      members-next lent header (s .in-range) first [] (members header contents) (before-others header)
+      (λ m i. rw (s .heads .classes) (members-within (header .phones) (contents .classes) m i))
+      (members-ascend (header .phones) (contents .classes))
 
   next-nodes : allNext w (first ++ qs) ns
   next-nodes =
-      nodes-next lent header (s .in-range) (first ++ qs) (members header book) 0 (book .nodes)
-      (before-more (before-others header) (members-say (members header book)))
+      nodes-next lent header (s .in-range) (first ++ qs) (members header contents) 0 (contents .nodes)
+      (before-more (before-others header) (members-say (members header contents)))
       (omega (arith, s .heads .nodes)) (s .nodes)
 
   next-roots : allNext w (first ++ (qs ++ ns)) rs
   next-roots =
-      let all : 0 + length (book .nodes) ≡ header .nodes = omega (arith, s .heads .nodes) in
-      let said = says-parts (members-say (members header book)) (nodes-say 0 (book .nodes)) in
-      roots-next lent header (s .in-range) (first ++ (qs ++ ns)) (members header book ++ []) 0 (book .roots)
-      (rw all at (before-more (before-others header) said)) (omega (arith, s .heads .roots)) (s .roots)
+      let all : 0 + length (contents .nodes) ≡ header .nodes = omega (arith, s .heads .nodes) in
+      let said = says-parts (members-say (members header contents)) (nodes-say 0 (contents .nodes)) in
+      roots-next lent header (s .in-range) (first ++ (qs ++ ns)) (members header contents ++ []) 0
+      (contents .roots) (rw all at (before-more (before-others header) said)) (omega (arith, s .heads .roots)) (s .roots)
 
-  lines-next : allNext w [] (linesOfBook header book)
+  lines-next : allNext w [] (linesOfBook header contents)
   unfolding linesOfBook
   lines-next = (
     header-next lent header (s .in-range) wide,
@@ -332,11 +332,11 @@ module _ (lent : Lent) (header : Header) (book : Book) (s : Stated header book)
   )
 
   -- what was written is read
-  pub book-read : readBook lent (textOfBook header book) ≡ answered (linesOfBook header book)
+  pub book-read : readBook lent (textOfBook header contents) ≡ answered (linesOfBook header contents)
   unfolding readBook textOfBook bookKind bookComplete judgeNames linesOfBook headerOf headerIn
   book-read =
-      let lines : List BookLine = linesOfBook header book in
-      let said = all-said header book in
+      let lines : List BookLine = linesOfBook header contents in
+      let said = all-said header contents in
       let full : T (bookComplete lines) =
       let count = sym (root-words-count lines) ∙ ap length (said .roots-said) ∙ sym (s .heads .roots) in
       rw (lt-ltb 0 (length lines) (omega arith)) (eq→eqb (length (rootsOf lines)) (rootCount header) count) in

@@ -19,13 +19,14 @@ use Rattle.definitions.specs.BookLines.{rootNames}
 use Rattle.definitions.specs.BookReading.{Lent, nodeSize, bookKind, bookFollows, withinHeader}
 use Rattle.definitions.specs.BookReading.{bookInOrder, childrenGreater, wideEnough, bookTests}
 use Rattle.definitions.specs.BookReading.{bookComplete, orphans, judgeNames, readBook}
-use Rattle.definitions.specs.Tables.{bookOf, classSets, tablesLeft, tablesBook}
+use Rattle.definitions.specs.Tables.{bookOf, classSets, tablesLeft, tablesBook, bookIn, contentsOf}
+use Rattle.definitions.specs.Tables.{tablesContents}
 use Rattle.definitions.specs.laws.Tests.{T-and, T-three}
 use Rattle.definitions.specs.laws.Lists.{map-upFrom-length}
 use Rattle.definitions.specs.laws.Judging.{testAt, passes-at, refused-not-answered}
 use Rattle.definitions.specs.laws.Reading.{Passed, text-holds}
 use Rattle.definitions.specs.laws.Ranges.{HeaderRanges, Ranged, line-ranged}
-use Rattle.definitions.specs.laws.Tables.{Heads, tables-book}
+use Rattle.definitions.specs.laws.Tables.{Heads, tables-contents}
 use Rattle.definitions.specs.laws.SaidLines.{nodes-count, roots-count, line-of-root, root-words-count}
 
 -- what a line that passed its tests says
@@ -219,9 +220,9 @@ accepted-orderly lent text lines e =
       named-once = a .named-once;
     }
 
--- its header states the counts of its book, so the tables hold that book
-pub orderly-heads : (lines : List BookLine) → Orderly lines → Heads (headerOf lines) (bookOf lines)
-unfolding bookOf classSets
+-- its header states the counts of its contents, so the tables hold those, and so its book
+pub orderly-heads : (lines : List BookLine) → Orderly lines → Heads (headerOf lines) (contentsOf lines)
+unfolding contentsOf classSets
 orderly-heads lines o = record {
   half = refl;
   states = refl;
@@ -231,9 +232,15 @@ orderly-heads lines o = record {
   roots = sym (root-words-count lines ∙ o .roots);
 }
 
+pub accepted-contents : (lent : Lent) (text : List ℕ) (lines : List BookLine)
+    → readBook lent text ≡ answered lines
+    → tablesContents (headerOf lines) (tablesLeft lent (readBook lent text)) ≡ contentsOf lines
+unfolding tablesLeft
+accepted-contents lent text lines e =
+    let heads = orderly-heads lines (accepted-orderly lent text lines e) in
+    rw e (tables-contents (headerOf lines) lent (contentsOf lines) heads)
+
 pub accepted-book : (lent : Lent) (text : List ℕ) (lines : List BookLine) → readBook lent text ≡ answered lines
     → tablesBook (headerOf lines) (tablesLeft lent (readBook lent text)) ≡ bookOf lines
-unfolding tablesLeft
-accepted-book lent text lines e =
-    let heads = orderly-heads lines (accepted-orderly lent text lines e) in
-    rw e (tables-book (headerOf lines) lent (bookOf lines) heads)
+unfolding tablesBook bookOf
+accepted-book lent text lines e = ap bookIn (accepted-contents lent text lines e)

@@ -19,7 +19,7 @@ use Rattle.definitions.specs.BookLines.{NodeLine, nodeLineIn, nodeLinesO
 use Rattle.definitions.specs.BookReading.{Lent, bookInOrder, readBook}
 use Rattle.definitions.specs.Tables.{bookOf}
 use Rattle.definitions.specs.Lookup.{nodeAt}
-use Rattle.definitions.specs.Tables.{rootOf}
+use Rattle.definitions.specs.Tables.{rootOf, bookIn, contentsOf}
 use Rattle.definitions.specs.TreesGive.{rootLine, nodeLine}
 use Rattle.definitions.specs.laws.Tests.{T-and, same-tests, eq→eqb}
 use Rattle.definitions.specs.laws.Lists.{map-at}
@@ -162,7 +162,7 @@ module _ (lent : Lent) (text : List ℕ) (lines : List BookLine)
     pub accepted-root-line : (phone state : ℕ) → 1 ≤ phone → phone ≤ headerOf lines .phones
         → 1 ≤ state → state ≤ headerOf lines .states
         → rootLine lines phone state ≡ some (rootOf (bookOf lines) phone state)
-    unfolding rootLine mapOption rootOf bookOf rootCount
+    unfolding rootLine mapOption rootOf bookOf bookIn contentsOf rootCount
     accepted-root-line phone state p P s S =
         let c : ℕ = headerOf lines .states in
         let place : ℕ = (phone - 1) * c + (state - 1) in

@@ -12,7 +12,7 @@ use Rattle.definitions.specs.Lists.{every}
 use Rattle.definitions.specs.Faults.{answered}
 use Rattle.definitions.specs.BookLines.{BookLine, headerOf}
 use Rattle.definitions.specs.BookReading.{Lent, readBook}
-use Rattle.definitions.specs.Tables.{Book, Tables, lentOf, tablesOf, tablesLeft, tablesBook}
+use Rattle.definitions.specs.Tables.{Tables, lentOf, tablesOf, tablesLeft, Contents, tablesContents}
 use Rattle.definitions.specs.ForeignTables.{tablesKnown}
 use Rattle.definitions.specs.NetworkText.{networkKnown}
 use Rattle.definitions.specs.laws.WrittenTexts.{text-bytes}
@@ -22,7 +22,7 @@ use Rattle.definitions.specs.laws.RoundTrips.{Leaves, textHeld, known-le
 use Rattle.definitions.specs.laws.Known.{accepted-known}
 use Rattle.definitions.specs.laws.KnownBooks.{Stated, known-stated, known-wide, tables-again}
 use Rattle.definitions.specs.laws.WrittenBooks.{linesOfBook, bookWriter, textOfBook}
-use Rattle.definitions.specs.laws.BookTexts.{header-again, book-again, book-read}
+use Rattle.definitions.specs.laws.BookTexts.{header-again, book-read, contents-again}
 
 -- ---- arcs
 
@@ -49,17 +49,17 @@ LeavesTables lent text header tables =
 
 -- known tables are left by the text of the book that they hold
 known-left : (header : Header) (tables : Tables) → T (tablesKnown header tables)
-    → LeavesTables (lentOf tables) (textOfBook header (tablesBook header tables)) header tables
+    → LeavesTables (lentOf tables) (textOfBook header (tablesContents header tables)) header tables
 unfolding tablesLeft
 known-left header tables known =
-    let book : Book = tablesBook header tables in
+    let contents : Contents = tablesContents header tables in
     let lent : Lent = lentOf tables in
-    let stated : Stated header book = known-stated header tables known in
-    let read = book-read lent header book stated (known-wide header tables known) in (
-      linesOfBook header book,
+    let stated : Stated header contents = known-stated header tables known in
+    let read = book-read lent header contents stated (known-wide header tables known) in (
+      linesOfBook header contents,
       read,
-      header-again header book,
-      ap (tablesLeft lent) read ∙ ap (tablesOf lent) (book-again header book stated)
+      header-again header contents,
+      ap (tablesLeft lent) read ∙ ap (tablesOf lent) (contents-again header contents stated)
           ∙ tables-again header tables known,
     )
 
@@ -76,10 +76,10 @@ pub tables-known-exactly : (header : Header) (tables : Tables)
     × LeavesTables (lentOf tables) text header tables)
 unfolding textOfBook
 tables-known-exactly header tables =
-    let book : Book = tablesBook header tables in (
+    let contents : Contents = tablesContents header tables in (
       λ h. (
-        textOfBook header book,
-        text-bytes (bookWriter (lentOf tables)) (linesOfBook header book),
+        textOfBook header contents,
+        text-bytes (bookWriter (lentOf tables)) (linesOfBook header contents),
         known-left header tables h,
       ),
       λ (text, bytes, left). left-known header tables (lentOf tables) text left,

@@ -21,7 +21,7 @@ use Rattle.definitions.specs.BookLines.{BookLine, bookLine, headerOf, ro
 use Rattle.definitions.specs.BookLines.{TreeNode, question, leaf, nodesOf, rootsOf, rootWords}
 use Rattle.definitions.specs.BookReading.{Lent, nodeSize, wideEnough, readBook}
 use Rattle.definitions.specs.Tables.{bookOf, phonesOfClass, classSets, nodeWords, nodeOf, nodeRecords}
-use Rattle.definitions.specs.Tables.{Tables, tablesOf, tablesLeft, tablesBook}
+use Rattle.definitions.specs.Tables.{Tables, tablesOf, tablesLeft, bookIn, contentsOf, tablesContents}
 use Rattle.definitions.specs.ForeignTables.{headerKnown, questionKnown, leafKnown, nodesKnown}
 use Rattle.definitions.specs.ForeignTables.{holdsOnly, nodeTableKnown, classTableKnown, rootTableKnown}
 use Rattle.definitions.specs.ForeignTables.{namedOnce, tablesKnown}
@@ -33,7 +33,7 @@ use Rattle.definitions.specs.laws.Members.{isIn, of-map, every-in}
 use Rattle.definitions.specs.laws.Selected.{of-select}
 use Rattle.definitions.specs.laws.Records.{flat-length}
 use Rattle.definitions.specs.laws.Ranges.{Within, line-ranged}
-use Rattle.definitions.specs.laws.Tables.{Heads, node-sized, tables-records, tables-book}
+use Rattle.definitions.specs.laws.Tables.{Heads, node-sized, tables-records, tables-contents}
 use Rattle.definitions.specs.laws.Books.{InRange, Roomy, roomy, Orderly, accepted-holds}
 use Rattle.definitions.specs.laws.Books.{accepted-orderly, orderly-heads, accepted-book}
 use Rattle.definitions.specs.laws.Accepted.{allFrom, NodeFits, RootFits, MemberFits, AllFit}
@@ -67,21 +67,28 @@ header-ranges header h =
 
 -- ---- the parts of the test for foreign tables
 
+pub record KnownParts (header : Header) (tables : Tables) : Type 0 where
+  pub own : T (headerKnown header)
+  pub nodes : T (nodeTableKnown header (tables .nodes))
+  pub classes : T (classTableKnown header (tables .classes))
+  pub roots : T (rootTableKnown header (tables .roots))
+  pub once : T (namedOnce (tablesContents header tables))
+
 pub tables-parts : (header : Header) (tables : Tables)
-    → T (tablesKnown header tables)
-    ↔ (T (headerKnown header) × T (nodeTableKnown header (tables .nodes))
-    × T (classTableKnown header (tables .classes)) × T (rootTableKnown header (tables .roots))
-    × T (namedOnce (tablesBook header tables)))
+    → T (tablesKnown header tables) ↔ KnownParts header tables
 unfolding tablesKnown
 tables-parts header tables =
     let nodes : Bool = nodeTableKnown header (tables .nodes) in
     let classes : Bool = classTableKnown header (tables .classes) in
     let roots : Bool = rootTableKnown header (tables .roots) in
-    let once : Bool = namedOnce (tablesBook header tables) in
+    let once : Bool = namedOnce (tablesContents header tables) in
     let first = T-three (headerKnown header) nodes classes in
     let last = T-three (headerKnown header && nodes && classes) roots once in (
-      λ h. let (before, r, o) = last .0 h in let (k, n, c) = first .0 before in (k, n, c, r, o),
-      λ (k, n, c, r, o). last .1 (first .1 (k, n, c), r, o),
+      λ h.
+          let (before, r, o) = last .0 h in
+          let (k, n, c) = first .0 before in
+          record { own = k; nodes = n; classes = c; roots = r; once = o },
+      λ p. last .1 (first .1 (p .own, p .nodes, p .classes), p .roots, p .once),
     )
 
 -- ---- what holds of each element of a list with its number
@@ -200,12 +207,12 @@ module _ (lent : Lent) (text : List ℕ) (lines : List BookLine) (e : readBook l
   header = headerOf lines
 
   abbrev tables : Tables
-  tables = tablesOf lent (bookOf lines)
+  tables = tablesOf lent (contentsOf lines)
 
   orderly : Orderly lines
   orderly = accepted-orderly lent text lines e
 
-  heads : Heads header (bookOf lines)
+  heads : Heads header (contentsOf lines)
   heads = orderly-heads lines orderly
 
   fit : AllFit header lines
@@ -215,28 +222,33 @@ module _ (lent : Lent) (text : List ℕ) (lines : List BookLine) (e : readBook l
   room = roomy lent header (accepted-wide lent text lines e)
 
   known-nodes : T (nodeTableKnown header (tables .nodes))
-  unfolding tablesOf bookOf
+  unfolding tablesOf contentsOf
   known-nodes = node-table-known header (lent .nodes) (nodesOf lines) (heads .nodes) (room .nodes) (fit .nodes)
 
   known-classes : T (classTableKnown header (tables .classes))
-  unfolding classTableKnown tablesOf bookOf
-  known-classes = words-known (lent .classes) (header .classes) (bookOf lines .classes) _
+  unfolding classTableKnown tablesOf bookOf bookIn contentsOf
+  known-classes = words-known (lent .classes) (header .classes) (contentsOf lines .classes) _
       (heads .classes) (room .classes) (classes-below header (membersOf lines) (fit .members))
 
   known-roots : T (rootTableKnown header (tables .roots))
-  unfolding rootTableKnown tablesOf bookOf
+  unfolding rootTableKnown tablesOf bookOf bookIn contentsOf
   known-roots = words-known (lent .roots) (rootCount header) (rootWords (rootsOf lines)) _
       (heads .roots) (room .roots)
       (λ root i. lt→ltb _ _ (all-in (RootFits header) 0 (rootWords (rootsOf lines)) (fit .roots) root i .1))
 
-  known-names : T (namedOnce (tablesBook header tables))
-  unfolding namedOnce bookOf
-  known-names = rw (tables-book header lent (bookOf lines) heads, orderly .named-once) tt
+  known-names : T (namedOnce (tablesContents header tables))
+  unfolding namedOnce contentsOf
+  known-names = rw (tables-contents header lent (contentsOf lines) heads, orderly .named-once) tt
 
   all-known : T (tablesKnown header tables)
   all-known =
-      tables-parts header tables .1
-      (header-known header (orderly .in-range), known-nodes, known-classes, known-roots, known-names)
+      tables-parts header tables .1 (record {
+        own = header-known header (orderly .in-range);
+        nodes = known-nodes;
+        classes = known-classes;
+        roots = known-roots;
+        once = known-names;
+      })
 
   pub accepted-known : T (tablesKnown (headerOf lines) (tablesLeft lent (readBook lent text)))
   unfolding tablesLeft

@@ -15,9 +15,9 @@ use Rattle.definitions.specs.declared.Node.{Node}
 use Rattle.definitions.specs.Lists.{every, concatMap, records, padded}
 use Rattle.definitions.specs.BookLines.{rootCount}
 use Rattle.definitions.specs.BookReading.{nodeSize, wideEnough, orphans}
-use Rattle.definitions.specs.Tables.{Book, nodeWords, Tables, lentOf, tablesOf, nodeOf, treeNode}
-use Rattle.definitions.specs.Tables.{recordWords, nodeRecords, tablesBook}
-use Rattle.definitions.specs.ForeignTables.{headerKnown, questionKnown, leafKnown, nodesKnown, holdsOnly}
+use Rattle.definitions.specs.Tables.{nodeWords, Tables, lentOf, tablesOf, nodeOf, treeNode, recordWords}
+use Rattle.definitions.specs.Tables.{nodeRecords, tablesContents, Contents}
+use Rattle.definitions.specs.ForeignTables.{questionKnown, leafKnown, nodesKnown, holdsOnly}
 use Rattle.definitions.specs.ForeignTables.{nodeTableKnown, classTableKnown, rootTableKnown, namedOnce}
 use Rattle.definitions.specs.ForeignTables.{tablesKnown}
 use Rattle.definitions.specs.laws.Tests.{T-and, T-three}
@@ -27,16 +27,16 @@ use Rattle.definitions.specs.laws.Tables.{Heads, tree-nodes-length}
 use Rattle.definitions.specs.laws.Books.{InRange}
 use Rattle.definitions.specs.laws.Accepted.{allFrom, NodeFits, RootFits}
 use Rattle.definitions.specs.laws.KnownRecords.{record-exactly, known-first}
-use Rattle.definitions.specs.laws.Known.{header-ranges, tables-parts, holds-padded}
+use Rattle.definitions.specs.laws.Known.{header-ranges, tables-parts, holds-padded, KnownParts}
 
 -- a header with a book that lines can state
-pub record Stated (header : Header) (book : Book) : Type 0 where
+pub record Stated (header : Header) (contents : Contents) : Type 0 where
   pub in-range : InRange header
-  pub heads : Heads header book
-  pub nodes : allFrom (NodeFits header) 0 (book .nodes)
-  pub sets : T (every (λ set. ltb set (2 ^ header .phones)) (book .classes))
-  pub roots : allFrom (RootFits header) 0 (book .roots)
-  pub named-once : orphans (book .nodes) (book .roots) ≡ []
+  pub heads : Heads header contents
+  pub nodes : allFrom (NodeFits header) 0 (contents .nodes)
+  pub sets : T (every (λ set. ltb set (2 ^ header .phones)) (contents .classes))
+  pub roots : allFrom (RootFits header) 0 (contents .roots)
+  pub named-once : orphans (contents .nodes) (contents .roots) ≡ []
 
 -- ---- records
 
@@ -104,9 +104,10 @@ all-listed header at (root ∷ roots) h =
     let (first, rest) = every-cons (λ root. ltb root (header .nodes)) root roots .0 h in
     (ltb→lt root (header .nodes) first, all-listed header (suc at) roots rest)
 
-pub none-orphaned : (book : Book) → T (namedOnce book) → orphans (book .nodes) (book .roots) ≡ []
+pub none-orphaned : (contents : Contents) → T (namedOnce contents)
+    → orphans (contents .nodes) (contents .roots) ≡ []
 unfolding namedOnce
-none-orphaned book h = none (orphans (book .nodes) (book .roots)) (eqb→eq _ 0 h)
+none-orphaned contents h = none (orphans (contents .nodes) (contents .roots)) (eqb→eq _ 0 h)
   where
     none : (l : List ℕ) → length l ≡ 0 → l ≡ []
     none [] e = refl
@@ -117,28 +118,26 @@ abbrev Held : (count : ℕ) → List ℕ → Type 0
 Held count words = (count ≤ length words) × (words ≡ padded (length words) (take count words))
 
 module _ (header : Header) (tables : Tables) (known : T (tablesKnown header tables)) where
-  parts : T (headerKnown header) × T (nodeTableKnown header (tables .nodes))
-      × T (classTableKnown header (tables .classes)) × T (rootTableKnown header (tables .roots))
-      × T (namedOnce (tablesBook header tables))
+  parts : KnownParts header tables
   parts = tables-parts header tables .0 known
 
   nodes-held : Held (nodeSize * header .nodes) (tables .nodes)
-  nodes-held = holds-padded _ (tables .nodes) (node-table-parts header (tables .nodes) (parts .1) .0)
+  nodes-held = holds-padded _ (tables .nodes) (node-table-parts header (tables .nodes) (parts .nodes) .0)
 
   classes-held : Held (header .classes) (tables .classes)
-  classes-held = holds-padded _ (tables .classes) (class-table-parts header (tables .classes) (parts .2) .0)
+  classes-held = holds-padded _ (tables .classes) (class-table-parts header (tables .classes) (parts .classes) .0)
 
   roots-held : Held (rootCount header) (tables .roots)
-  roots-held = holds-padded _ (tables .roots) (root-table-parts header (tables .roots) (parts .3) .0)
+  roots-held = holds-padded _ (tables .roots) (root-table-parts header (tables .roots) (parts .roots) .0)
 
   records-known : T (nodesKnown header 0 (nodeRecords header (tables .nodes)))
-  records-known = node-table-parts header (tables .nodes) (parts .1) .1
+  records-known = node-table-parts header (tables .nodes) (parts .nodes) .1
 
-  pub known-stated : Stated header (tablesBook header tables)
-  unfolding tablesBook
+  pub known-stated : Stated header (tablesContents header tables)
+  unfolding tablesContents
   known-stated =
       record {
-        in-range = header-ranges header (parts .0);
+        in-range = header-ranges header (parts .own);
         heads =
             record {
               half = refl;
@@ -149,9 +148,9 @@ module _ (header : Header) (tables : Tables) (known : T (tablesKnown header tabl
               roots = sym (length-take-le (rootCount header) (tables .roots) (roots-held .0));
             };
         nodes = known-nodes header 0 (nodeRecords header (tables .nodes)) records-known;
-        sets = class-table-parts header (tables .classes) (parts .2) .1;
-        roots = all-listed header 0 _ (root-table-parts header (tables .roots) (parts .3) .1);
-        named-once = none-orphaned (tablesBook header tables) (parts .4);
+        sets = class-table-parts header (tables .classes) (parts .classes) .1;
+        roots = all-listed header 0 _ (root-table-parts header (tables .roots) (parts .roots) .1);
+        named-once = none-orphaned (tablesContents header tables) (parts .once);
       }
 
   -- they are wide enough for their header
@@ -163,9 +162,9 @@ module _ (header : Header) (tables : Tables) (known : T (tablesKnown header tabl
       (le→leb _ _ (nodes-held .0), le→leb _ _ (classes-held .0), le→leb _ _ (roots-held .0))
 
   -- and hold that book, and nothing beyond
-  nodes-again : padded (length (tables .nodes)) (concatMap nodeWords (tablesBook header tables .nodes))
+  nodes-again : padded (length (tables .nodes)) (concatMap nodeWords (tablesContents header tables .nodes))
       ≡ tables .nodes
-  unfolding tablesBook nodeRecords
+  unfolding tablesContents nodeRecords
   nodes-again =
       let own : List (List ℕ) = records nodeSize (header .nodes) (tables .nodes) in
       ap (padded (length (tables .nodes)))
@@ -174,8 +173,8 @@ module _ (header : Header) (tables : Tables) (known : T (tablesKnown header tabl
       ∙ joined-records nodeSize (header .nodes) (tables .nodes) (nodes-held .0))
       ∙ sym (nodes-held .1)
 
-  pub tables-again : tablesOf (lentOf tables) (tablesBook header tables) ≡ tables
-  unfolding tablesOf tablesBook
+  pub tables-again : tablesOf (lentOf tables) (tablesContents header tables) ≡ tables
+  unfolding tablesOf tablesContents
   tables-again = λ i. record {
     nodes = nodes-again i;
     classes = sym (classes-held .1) i;

@@ -14,7 +14,7 @@ use Rattle.definitions.specs.Lists.{if_then_else_, every, concatMap, upF
 use Rattle.definitions.specs.Faults.{answered}
 use Rattle.definitions.specs.BookLines.{BookLine, headerOf, isPhone}
 use Rattle.definitions.specs.BookReading.{Lent, readBook}
-use Rattle.definitions.specs.Tables.{Book, bookOf}
+use Rattle.definitions.specs.Tables.{Book, bookOf, bookIn, contentsOf}
 use Rattle.definitions.specs.Lookup.{modelAt}
 use Rattle.definitions.specs.TreesGive.{withSilence, contexts, modelGiven, together, modelsAlong}
 use Rattle.definitions.specs.TreesGive.{treesGive}
@@ -68,7 +68,7 @@ leafModels book leaves = map (λ node. modelAt (book .nodes) node) leaves
 pub models-along : (lent : Lent) (text : List ℕ) (lines : List BookLine)
     → readBook lent text ≡ answered lines → (S : List ℕ) → T (every (isPhone (headerOf lines .phones)) S)
     → treesGive lines S ≡ some (transcription (bookOf lines) S)
-unfolding treesGive modelsAlong bookOf transcription
+unfolding treesGive modelsAlong bookOf bookIn contentsOf transcription
 models-along lent text lines e S h =
     if-true (every (isPhone (headerOf lines .phones)) S) _ none h
     ∙ ap together (concatMap-some _ _ (contexts (headerOf lines .half) S) each) ∙ together-some _
@@ -104,7 +104,7 @@ pub record Reaches (book : Book) (S M : List ℕ) : Type 0 where
 -- so what the trees give is what the contexts reach
 pub given-is : (lent : Lent) (text : List ℕ) (lines : List BookLine) → readBook lent text ≡ answered lines
     → (S M : List ℕ) → (treesGive lines S ≡ some M) ↔ Reaches (bookOf lines) S M
-unfolding bookOf
+unfolding bookOf bookIn contentsOf
 given-is lent text lines e S M =
     (there, λ r. models-along lent text lines e S (r .phones-in) ∙ ap some (r .models))
   where

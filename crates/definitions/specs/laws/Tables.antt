@@ -11,19 +11,19 @@ use Rattle.definitions.specs.declared.Header.{Header}
 use Rattle.definitions.specs.Lists.{concatMap, cleared, padded}
 use Rattle.definitions.specs.BookLines.{TreeNode, question, leaf, rootCount}
 use Rattle.definitions.specs.BookReading.{Lent, nodeSize}
-use Rattle.definitions.specs.Tables.{Book, nodeWords, nodeOf, treeNode, nodeRecords, tablesOf}
-use Rattle.definitions.specs.Tables.{tablesBook}
+use Rattle.definitions.specs.Tables.{nodeWords, nodeOf, treeNode, nodeRecords, tablesOf, Contents}
+use Rattle.definitions.specs.Tables.{tablesContents}
 use Rattle.definitions.specs.laws.Lists.{padded-take}
 use Rattle.definitions.specs.laws.Records.{read-length, flat-records}
 
 -- a header that states a book's counts
-pub record Heads (header : Header) (book : Book) : Type 0 where
-  pub half : header .half ≡ book .half
-  pub states : header .states ≡ book .states
-  pub phones : header .phones ≡ book .phones
-  pub nodes : header .nodes ≡ length (book .nodes)
-  pub classes : header .classes ≡ length (book .classes)
-  pub roots : rootCount header ≡ length (book .roots)
+pub record Heads (header : Header) (contents : Contents) : Type 0 where
+  pub half : header .half ≡ contents .half
+  pub states : header .states ≡ contents .states
+  pub phones : header .phones ≡ contents .phones
+  pub nodes : header .nodes ≡ length (contents .nodes)
+  pub classes : header .classes ≡ length (contents .classes)
+  pub roots : rootCount header ≡ length (contents .roots)
 
 pub node-sized : (node : TreeNode) → length (nodeWords node) ≡ nodeSize
 unfolding nodeWords
@@ -82,14 +82,14 @@ tables-nodes : (header : Header) (size : ℕ) (nodes : List TreeNode) → header
     → map treeNode (nodeRecords header (padded size (concatMap nodeWords nodes))) ≡ nodes
 tables-nodes header size nodes e = ap (map treeNode) (tables-records header size nodes e) ∙ nodes-back nodes
 
-pub tables-book : (header : Header) (lent : Lent) (book : Book) → Heads header book
-    → tablesBook header (tablesOf lent book) ≡ book
-unfolding tablesBook tablesOf
-tables-book header lent book h = λ i. record {
+pub tables-contents : (header : Header) (lent : Lent) (contents : Contents) → Heads header contents
+    → tablesContents header (tablesOf lent contents) ≡ contents
+unfolding tablesContents tablesOf
+tables-contents header lent contents h = λ i. record {
   half = h .half i;
   states = h .states i;
   phones = h .phones i;
-  nodes = tables-nodes header (lent .nodes) (book .nodes) (h .nodes) i;
-  classes = padded-take (lent .classes) (header .classes) (book .classes) (h .classes) i;
-  roots = padded-take (lent .roots) (rootCount header) (book .roots) (h .roots) i;
+  nodes = tables-nodes header (lent .nodes) (contents .nodes) (h .nodes) i;
+  classes = padded-take (lent .classes) (header .classes) (contents .classes) (h .classes) i;
+  roots = padded-take (lent .roots) (rootCount header) (contents .roots) (h .roots) i;
 }

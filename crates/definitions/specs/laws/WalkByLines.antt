@@ -14,7 +14,7 @@ use Rattle.definitions.specs.Faults.{answered}
 use Rattle.definitions.specs.BookLines.{BookLine, headerOf, isPhone, Member, membersOf}
 use Rattle.definitions.specs.BookLines.{TreeNode, question, leaf, nodesOf, Asked}
 use Rattle.definitions.specs.BookReading.{Lent, readBook}
-use Rattle.definitions.specs.Tables.{Book, phonesOfClass, classSets, bookOf}
+use Rattle.definitions.specs.Tables.{Book, phonesOfClass, classSets, bookOf, bookIn, contentsOf}
 use Rattle.definitions.specs.Lookup.{nodeAt, modelAt, walk, leafReached, answers}
 use Rattle.definitions.specs.PhoneSets.{has}
 use Rattle.definitions.specs.TreesGive.{nodeLine, putInClass, modelBelow, modelGiven, answersByLines}
@@ -59,7 +59,7 @@ put-listed (m ∷ members) class phone = go (eqb (m .class) class) (put-listed m
 -- classes count from 1
 put-in-class : (lines : List BookLine) (class phone : ℕ) → 1 ≤ class → class ≤ headerOf lines .classes
     → 1 ≤ phone → putInClass lines class phone ≡ has phone (bookOf lines .classes ! (class - 1))
-unfolding putInClass bookOf classSets
+unfolding putInClass bookOf bookIn contentsOf classSets
 put-in-class lines class zero c C p = absurd (omega arith)
 put-in-class lines class (suc i) c C p =
     let set = map-upFrom-at _ 1 (headerOf lines .classes) (class - 1) class (omega arith) (omega arith) in
@@ -145,7 +145,7 @@ module _ (lent : Lent) (text : List ℕ) (lines : List BookLine)
     walks-alike : (steps levels node : ℕ) → node < length (nodesOf lines)
         → length (nodesOf lines) ≤ node + steps → length (nodesOf lines) ≤ node + levels
         → Alike steps levels node
-    unfolding bookOf
+    unfolding bookOf bookIn contentsOf
     walks-alike zero levels node h k l = absurd (omega arith)
     walks-alike (suc steps) zero node h k l = absurd (omega arith)
     walks-alike (suc steps) (suc levels) node h k l =
@@ -163,7 +163,7 @@ pub given-by-tables : (lent : Lent) (text : List ℕ) (lines : List BookLine)
     → (context : List ℕ) (state : ℕ) → length context ≡ headerOf lines .half + headerOf lines .half + 1
     → T (every (isPhone (headerOf lines .phones)) context) → 1 ≤ state → state ≤ headerOf lines .states
     → modelGiven lines context state ≡ some (modelOf (bookOf lines) context state)
-unfolding modelGiven modelOf leafReached bookOf
+unfolding modelGiven modelOf leafReached bookOf bookIn contentsOf
 given-by-tables lent text lines accepted context state columns phones s S =
     let half : ℕ = headerOf lines .half in
     let phone = phone-at lent text lines accepted context columns phones half (omega arith) in

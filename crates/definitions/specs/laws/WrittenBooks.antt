@@ -13,7 +13,7 @@ use Rattle.definitions.specs.PhoneSets.{has}
 use Rattle.definitions.specs.BookLines.{BookLine, H, Q, N, L, R, bookLine, Member, TreeNode, question}
 use Rattle.definitions.specs.BookLines.{leaf}
 use Rattle.definitions.specs.BookReading.{Lent, bookKind}
-use Rattle.definitions.specs.Tables.{Book}
+use Rattle.definitions.specs.Tables.{Contents}
 use Rattle.definitions.specs.laws.WrittenTexts.{Writes, Writer}
 
 abbrev pub memberOf : (class phone : ℕ) → Member
@@ -55,10 +55,11 @@ abbrev pub linesStating : Header → List Member → List TreeNode → (roots : 
 linesStating header members nodes roots =
     lineOfHeader header ∷ map lineOfMember members ++ linesOfNodes 0 nodes ++ linesOfRoots (header .states) 0 roots
 
--- all lines of a book with its header
-unfoldable pub linesOfBook : Header → Book → List BookLine
-linesOfBook header book =
-    linesStating header (membersFrom (header .phones) 1 (book .classes)) (book .nodes) (book .roots)
+-- all lines of a book with its header and contents
+unfoldable pub linesOfBook : Header → Contents → List BookLine
+linesOfBook header contents =
+    linesStating header (membersFrom (header .phones) 1 (contents .classes)) (contents .nodes)
+    (contents .roots)
 
 -- the numbers of a line in its fields
 unfoldable pub bookLineFor : BookLine → Line
@@ -91,5 +92,5 @@ book-writes lent (R phone state root) = record { again = refl; known = refl; man
 abbrev pub bookWriter : (lent : Lent) → Writer (bookKind lent)
 bookWriter lent = record { lineFor = bookLineFor; form = formFor; writes = book-writes lent }
 
-unfoldable pub textOfBook : Header → Book → List ℕ
-textOfBook header book = concatMap (λ line. lineText (bookLineFor line)) (linesOfBook header book)
+unfoldable pub textOfBook : Header → Contents → List ℕ
+textOfBook header contents = concatMap (λ line. lineText (bookLineFor line)) (linesOfBook header contents)

@@ -14,7 +14,7 @@ use Rattle.definitions.specs.BookLines.{rootCount}
 use Rattle.definitions.specs.Tables.{Book, Tables, tablesBook}
 use Rattle.definitions.specs.PhoneSets.{alone, allPhones}
 use Rattle.definitions.specs.Matrices.{Matrix, matrixSize, matrixWords, rootMatrix}
-use Rattle.definitions.specs.Tables.{rootOf}
+use Rattle.definitions.specs.Tables.{rootOf, bookIn, tablesContents}
 use Rattle.definitions.specs.Combinations.{Leaf, leavesBelow, ascending, leavesOf, onYes, onNo}
 use Rattle.definitions.specs.laws.Members.{isIn, distinct, of-append, of-single, of-map}
 use Rattle.definitions.specs.laws.Walks.{Forward, by-node}
@@ -122,7 +122,7 @@ top-words header tables fit phone h all one columns e f g =
 
 pub none-listed : (header : Header) (tables : Tables) (phone state : ℕ) → header .states < state
     → [] ≡ concatMap leafWords (leavesFor (tablesBook header tables) phone state)
-unfolding leavesFor concatMap tablesBook
+unfolding leavesFor concatMap tablesBook bookIn tablesContents
 none-listed header tables phone state h = rw (lt-leb state (header .states) h)
 
 -- a table whose used records are some leaves ascending, all from one node to another
@@ -153,7 +153,7 @@ module _ (header : Header) (nodes classes roots : List ℕ)
     forward = known-forward header nodes (fit .nodes)
 
     found-fit : AllInTable (header .nodes) found
-    unfolding tablesBook
+    unfolding tablesBook bookIn tablesContents
     found-fit =
         let count = tree-nodes-length header nodes in
         let narrow : length matrix ≤ 7 =
@@ -165,13 +165,13 @@ module _ (header : Header) (nodes classes roots : List ℕ)
         rw count at (below-in-table bare forward (header .nodes) matrix root (omega arith) narrow)
 
     found-apart : distinct (leafNodes found)
-    unfolding tablesBook
+    unfolding tablesBook bookIn tablesContents
     found-apart =
         subst distinct (sym (nodes-below (header .nodes) bare matrix root))
         (leaves-once (treeNodes header nodes) forward (fit .once) (header .nodes) root)
 
     found-are : ascending found ≡ leavesFor book phone state
-    unfolding leavesFor leavesOf rootOf tablesBook
+    unfolding leavesFor leavesOf rootOf tablesBook bookIn tablesContents
     found-are =
         let count = tree-nodes-length header nodes in
         rw (le-leb state (header .states) few, top .taken, count, ← own)
@@ -185,7 +185,7 @@ module _ (header : Header) (nodes classes roots : List ℕ)
         (tablesBook header (lentTables nodes classes [])) (matrixIn (header .half) columns) root)
         → TreePut header (leavesFor (tablesBook header (lentTables nodes classes roots)) phone state) root last
         table
-    unfolding tablesBook
+    unfolding tablesBook bookIn tablesContents
     leaves-put empty table sized none put e = record {
       inside = rw e (last-below (header .nodes) (omega arith) found (λ l i. found-fit l i .listed));
       within = λ n t.

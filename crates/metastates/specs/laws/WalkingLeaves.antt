@@ -13,7 +13,8 @@ use Rattle.definitions.specs.declared.Header.{Header}
 use Rattle.definitions.specs.declared.Node.{Node}
 use Rattle.definitions.specs.Lists.{_!_}
 use Rattle.definitions.specs.BookReading.{nodeSize}
-use Rattle.definitions.specs.Tables.{Book, nodeOf, treeNode, nodeRecords, tablesBook, askedOf}
+use Rattle.definitions.specs.Tables.{Book, nodeOf, treeNode, nodeRecords, tablesBook, askedOf, bookIn}
+use Rattle.definitions.specs.Tables.{tablesContents}
 use Rattle.definitions.specs.ForeignTables.{headerKnown, nodesKnown}
 use Rattle.definitions.specs.Matrices.{Matrix, matrixWords, yesSide, noSide}
 use Rattle.definitions.specs.Combinations.{Leaf, leavesBelow, onYes, onNo}
@@ -95,7 +96,7 @@ module _ (header : Header) (nodes classes : List ℕ) where
       some-level = omega arith
 
       leaf-below : (m : Matrix) → (x .kind ≡ 1 → ⊥) → leaves m node ≡ record { node = node; matrix = m } ∷ []
-      unfolding treeNode tablesBook
+      unfolding treeNode tablesBook bookIn tablesContents
       leaf-below m other =
           ap (λ (n : ℕ). leavesBelow n book m node) some-level
           ∙ below-leaf book (header .nodes - 1) m node (x .value)
@@ -104,7 +105,7 @@ module _ (header : Header) (nodes classes : List ℕ) where
       sides-below : (m : Matrix) → x .kind ≡ 1 → leaves m node
           ≡ leaves (yesSide (x .position) (classes ! (x .value - 1)) m) (x .yes)
           ++ leaves (noSide (x .position) (classes ! (x .value - 1)) m) (x .no)
-      unfolding treeNode tablesBook
+      unfolding treeNode tablesBook bookIn tablesContents
       sides-below m kind =
           let fits = question-fits header nodes known node listed x own kind in
           let less : ℕ = header .nodes - 1 in

@@ -10,7 +10,7 @@ use Rattle.definitions.specs.declared.Header.{Header}
 use Rattle.definitions.specs.Faults.{answered}
 use Rattle.definitions.specs.Forms.{_‥_}
 use Rattle.definitions.specs.BookLines.{leaf}
-use Rattle.definitions.specs.Tables.{Tables, nodeRecords, tablesBook}
+use Rattle.definitions.specs.Tables.{Tables, nodeRecords, tablesBook, bookIn, tablesContents}
 use Rattle.definitions.specs.ForeignTables.{tablesKnown}
 use Rattle.definitions.specs.Lookup.{nodeAt}
 use Rattle.definitions.specs.Arcs.{arcsIn}
@@ -28,7 +28,7 @@ use Rattle.tables.specs.laws.KnownTables.{tables-fit, known-sound}
 known-leaf : (header : Header) (tables : Tables) → T (tablesKnown header tables)
     → (node model : ℕ) → node < length (tablesBook header tables .nodes)
     → nodeAt (tablesBook header tables .nodes) node ≡ leaf model → Within (1 ‥ 65535) model
-unfolding tablesBook
+unfolding tablesBook bookIn tablesContents
 known-leaf header tables known =
     leaf-fitting header (tablesBook header tables .nodes)
     (known-nodes header 0 (nodeRecords header (tables .nodes)) (tables-fit header tables known .nodes))
@@ -39,7 +39,7 @@ module _ (header : Header) (tables : Tables) (space : Space) (limit : ℕ) (buil
     -- network text can hold what is left
     pub built-known : T (networkKnown (countsIn (header .states) (networkIn built))
         (buffersLeft (tablesBook header tables) space (build header tables space limit) .arcs))
-    unfolding tablesBook buffersLeft
+    unfolding tablesBook bookIn tablesContents buffersLeft
     built-known =
         let known = built-tables-known header tables space limit built answers in
         let fit = tables-fit header tables known in

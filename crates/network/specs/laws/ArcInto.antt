@@ -7,7 +7,7 @@ use lib.ListN.{length, take, drop}
 use Rattle.definitions.specs.declared.Header.{Header}
 use Rattle.definitions.specs.Lists.{_!_}
 use Rattle.definitions.specs.BookReading.{nodeSize}
-use Rattle.definitions.specs.Tables.{nodeOf, tablesBook}
+use Rattle.definitions.specs.Tables.{nodeOf, tablesBook, bookIn, tablesContents}
 use Rattle.definitions.specs.Combinations.{combinationSize}
 use Rattle.definitions.specs.Metastates.{Metastate, phoneOf, combinationOf, modelsOf}
 use Rattle.definitions.specs.Arcs.{arcSize, arcWords, firstState}
@@ -32,7 +32,7 @@ module _ (header : Header) (words : List ℕ) (usable : Usable header words) (nu
       (g : phone ≡ words ! (combinationSize * number)) where
     into-words : from ∷ (2 + place * states) ∷ model ∷ phone ∷ []
         ≡ arcWords (intoArc header nodes words from number place)
-    unfolding arcInto arcWords firstState tablesBook phoneOf combinationOf
+    unfolding arcInto arcWords firstState tablesBook bookIn tablesContents phoneOf combinationOf
     into-words =
         let first : model ≡ modelsOf (nodesBook header nodes) (combinationsIn header words) itself ! 0 =
         f

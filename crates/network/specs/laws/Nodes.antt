@@ -8,7 +8,7 @@ use lib.Dec.{ltb}
 use lib.ListN.{length, getD}
 use Rattle.definitions.specs.declared.Header.{Header}
 use Rattle.definitions.specs.Faults.{Outcome, answered, andThen}
-use Rattle.definitions.specs.Tables.{Book, tablesBook}
+use Rattle.definitions.specs.Tables.{Book, tablesBook, bookIn, tablesContents}
 use Rattle.definitions.specs.Combinations.{Combination}
 use Rattle.definitions.specs.Metastates.{Metastate, starts, followers, modelsOf, mayEnd}
 use Rattle.definitions.specs.Connecting.{Network, Event, plain, enter, finalArcs, startEvents, turnEvents}
@@ -30,16 +30,16 @@ module _ (header : Header) (nodes classes roots : List ℕ) (cs : List Combinati
   bare = nodesBook header nodes
 
   start-nodes : startEvents whole cs ≡ startEvents bare cs
-  unfolding startEvents starts tablesBook
+  unfolding startEvents starts tablesBook bookIn tablesContents
   start-nodes = refl
 
   turn-nodes : (place : ℕ) (q : Metastate) → turnEvents whole cs place q ≡ turnEvents bare cs place q
-  unfolding turnEvents modelsOf finalArcs mayEnd followers tablesBook
+  unfolding turnEvents modelsOf finalArcs mayEnd followers tablesBook bookIn tablesContents
   turn-nodes place q = refl
 
   perform-nodes : (net : Network) (event : Event)
       → perform whole cs room net event ≡ perform bare cs room net event
-  unfolding perform arcInto modelsOf tablesBook
+  unfolding perform arcInto modelsOf tablesBook bookIn tablesContents
   perform-nodes net (plain a) = refl
   perform-nodes net (enter from x) = refl
 

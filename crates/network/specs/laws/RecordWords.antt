@@ -15,7 +15,7 @@ use Rattle.definitions.specs.Lists.{if_then_else_, _!_, concatMap, records, pad
 use Rattle.definitions.specs.BookLines.{question, leaf}
 use Rattle.definitions.specs.BookReading.{nodeSize}
 use Rattle.definitions.specs.Matrices.{matrixSize, matrixWords}
-use Rattle.definitions.specs.Tables.{nodeOf, treeNode, tablesBook, askedOf}
+use Rattle.definitions.specs.Tables.{nodeOf, treeNode, tablesBook, askedOf, bookIn, tablesContents}
 use Rattle.definitions.specs.Lookup.{modelAt}
 use Rattle.definitions.specs.Combinations.{Combination, combinationSize, combinationWords}
 use Rattle.definitions.specs.Metastates.{Metastate, noCombination, combinationOf, modelsOf}
@@ -170,7 +170,7 @@ module _ (header : Header) (words : List ℕ) where
           pub model-word : (state : ℕ) → state < header .states
               → nodeOf (drop (nodeSize * (here .leaves ! state)) nodes) .value
               ≡ modelsOf (nodesBook header nodes) (combinationsIn header words) x ! state
-          unfolding modelsOf combinationOf tablesBook
+          unfolding modelsOf combinationOf tablesBook bookIn tablesContents
           model-word state k =
               let at : ℕ = here .leaves ! state in
               let (inside, (model, is)) = modelled number state h k in

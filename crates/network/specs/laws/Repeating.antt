@@ -17,7 +17,7 @@ use Rattle.definitions.specs.Lists.{_!_, concatMap, padded, same}
 use Rattle.definitions.specs.PhoneSets.{allPhones}
 use Rattle.definitions.specs.Arcs.{Arc, arcSize, arcWords, lastState}
 use Rattle.definitions.specs.Matrices.{shift}
-use Rattle.definitions.specs.Tables.{Book, tablesBook}
+use Rattle.definitions.specs.Tables.{Book, tablesBook, bookIn, tablesContents}
 use Rattle.definitions.specs.Combinations.{Combination}
 use Rattle.definitions.specs.Metastates.{Metastate, metastateSize, followersFrom, followers}
 use Rattle.definitions.specs.Building.{roomIn}
@@ -36,7 +36,7 @@ use Rattle.network.specs.declared.Step.the-variants as step
 use Rattle.network.specs.Combinations.{combinationsIn, nodesBook, Usable, Modelled}
 use Rattle.network.specs.Networks.{networkHeld, arcRoom, roomOf, sizesOf, Holds}
 use Rattle.network.specs.Steps.{AfterStep, stepOf, enteringAll}
-use Rattle.network.specs.Spans.{leavingFrom, spanSize, followersAt, arcsTo, IsSpan, Spanned}
+use Rattle.network.specs.Spans.{leavingFrom, spanSize, followersAt, arcsTo, IsSpan}
 use Rattle.network.specs.Repeating.{copiedArcs, Repeated, Repeats, followedFrom, Onward, SpannedAfter}
 use Rattle.network.specs.laws.Steps.{step-stop}
 use Rattle.network.specs.laws.Outcomes.{next-answered}
@@ -139,7 +139,7 @@ module _ {header : Header} {nodes words metastates arcs chains spans : List ℕ}
     same-followers : (other : ℕ)
         → shift (header .phones) (getD (net .metastates) other noMetastate .matrix) ≡ matrixIn (header .half) columns
         → followersAt book cs net other ≡ xs
-    unfolding followers tablesBook
+    unfolding followers tablesBook bookIn tablesContents
     same-followers other e = ap (λ (m : List ℕ). followersFrom m 0 cs) e
 
     own-followers : followersAt book cs net place ≡ xs
@@ -159,7 +159,7 @@ module _ {header : Header} {nodes words metastates arcs chains spans : List ℕ}
         → SpannedAfter header nodes words outcome
         (set (set (set spans (spanSize * slot) (place + 1)) (spanSize * slot + 1) (sizes .arcs)) (spanSize * slot + 2)
         (next .arcs))
-    unfolding stepOf tablesBook
+    unfolding stepOf tablesBook bookIn tablesContents
     spans-after slot {next} h a now e =
         let sized : step.Next next ≡ step.Next (sizesOf now) = a ∙ ap stepOf e in
         let same : next ≡ sizesOf now = cc in
@@ -246,7 +246,7 @@ module _ {header : Header} {nodes words metastates arcs chains spans : List ℕ}
         copies = copiedArcs (sizes .arcs) first end from arcs
 
         copies-are : copies ≡ arcsTo book cs (net .metastates) from xs
-        unfolding tablesBook
+        unfolding tablesBook bookIn tablesContents
         copies-are =
             ap (map (leavingFrom from))
             (ap (λ (n : ℕ). take n (drop first (net .arcs))) (many ∙ sym (ap length followers-are)) ∙ span .arcs)

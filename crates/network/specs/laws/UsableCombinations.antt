@@ -11,7 +11,7 @@ use lib.Seq.{take-at, drop-at}
 use Rattle.definitions.specs.declared.Header.{Header}
 use Rattle.definitions.specs.Lists.{_!_, concatMap, cleared, padded}
 use Rattle.definitions.specs.Matrices.{matrixWords}
-use Rattle.definitions.specs.Tables.{Book, tablesBook}
+use Rattle.definitions.specs.Tables.{Book, tablesBook, bookIn, tablesContents}
 use Rattle.definitions.specs.ForeignTables.{tablesKnown}
 use Rattle.definitions.specs.BookLines.{leaf}
 use Rattle.definitions.specs.Lookup.{nodeAt}
@@ -110,7 +110,7 @@ module _ (header : Header) (nodes classes roots : List ℕ)
   chosen number h = chosen-at book (known-sound header nodes classes roots known) number h
 
   is-choice : (number : ℕ) → number < length found → IsCombination header (numbered found number)
-  unfolding tablesBook
+  unfolding tablesBook bookIn tablesContents
   is-choice number h =
       let c = chosen number h in
       let range = phone-range (header .phones) (numbered found number .phone) .0 (c .phone-of) in
@@ -151,7 +151,7 @@ module _ (header : Header) (nodes classes roots : List ℕ)
 
   leaves-in : (number state : ℕ) → number < length found → state < header .states
       → LeafIn (numbered found number .leaves ! state)
-  unfolding tablesBook
+  unfolding tablesBook bookIn tablesContents
   leaves-in number state h k =
       let c = chosen number h in
       let leaves : List ℕ = numbered found number .leaves in
@@ -166,7 +166,7 @@ module _ (header : Header) (nodes classes roots : List ℕ)
       leaves-in
 
   pub combinations-ending : Ending header words (padded 65 (endsOf book))
-  unfolding tablesBook
+  unfolding tablesBook bookIn tablesContents
   combinations-ending =
       let sound = known-sound header nodes classes roots known in
       record {

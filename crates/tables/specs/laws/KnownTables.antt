@@ -13,7 +13,8 @@ use Rattle.definitions.specs.declared.Header.{Header}
 use Rattle.definitions.specs.declared.Node.{Node}
 use Rattle.definitions.specs.Lists.{records}
 use Rattle.definitions.specs.BookReading.{nodeSize}
-use Rattle.definitions.specs.Tables.{Book, Tables, nodeOf, treeNode, nodeRecords, tablesBook, askedOf}
+use Rattle.definitions.specs.Tables.{Tables, nodeOf, treeNode, nodeRecords, tablesBook, askedOf, Contents}
+use Rattle.definitions.specs.Tables.{tablesContents}
 use Rattle.definitions.specs.ForeignTables.{headerKnown, nodesKnown, classTableKnown, rootTableKnown}
 use Rattle.definitions.specs.ForeignTables.{namedOnce, tablesKnown}
 use Rattle.definitions.specs.Lookup.{nodeAt}
@@ -85,11 +86,12 @@ module _ (header : Header) where
   classes-wide words h = holds-padded (header .classes) words (class-table-parts header words h .0) .0
 
   children-once : (tables : Tables) → T (nodesKnown header 0 (nodeRecords header (tables .nodes)))
-      → T (namedOnce (tablesBook header tables)) → ChildOnce (treeNodes header (tables .nodes))
-  unfolding tablesBook
+      → T (namedOnce (tablesContents header tables)) → ChildOnce (treeNodes header (tables .nodes))
+  unfolding tablesContents
   children-once tables known h =
-      let book : Book = tablesBook header tables in
-      child-once (book .nodes) (book .roots) (known-forward header (tables .nodes) known) (none-orphaned book h)
+      let contents : Contents = tablesContents header tables in
+      child-once (contents .nodes) (contents .roots) (known-forward header (tables .nodes) known)
+      (none-orphaned contents h)
 
 -- all of it, from the test for foreign tables
 pub record Fit (header : Header) (tables : Tables) : Type 0 where
@@ -102,15 +104,15 @@ pub record Fit (header : Header) (tables : Tables) : Type 0 where
 
 pub tables-fit : (header : Header) (tables : Tables) → T (tablesKnown header tables) → Fit header tables
 tables-fit header tables h =
-    let (own, nodes, classes, roots, once) = tables-parts header tables .0 h in
-    let (_, known) = node-table-parts header (tables .nodes) nodes in
+    let parts = tables-parts header tables .0 h in
+    let (_, known) = node-table-parts header (tables .nodes) (parts .nodes) in
     record {
-      header-known = own;
-      ranges = header-ranges header own;
+      header-known = parts .own;
+      ranges = header-ranges header (parts .own);
       nodes = known;
-      classes = classes-wide header (tables .classes) classes;
-      roots = roots;
-      once = children-once header tables known once;
+      classes = classes-wide header (tables .classes) (parts .classes);
+      roots = parts .roots;
+      once = children-once header tables known (parts .once);
     }
 
 -- ---- the book
@@ -121,9 +123,10 @@ module _ (header : Header) (nodes classes roots : List ℕ)
   tables = lentTables nodes classes roots
 
   pub known-header : T (headerKnown header)
-  known-header = tables-parts header tables .0 known .0
+  known-header = tables-parts header tables .0 known .own
 
   pub known-sound : Sound (tablesBook header tables)
+  unfolding tablesBook
   known-sound =
       let s = known-stated header tables known in
-      fitting-sound header (tablesBook header tables) (s .in-range) (s .heads) (s .nodes) (s .roots)
+      fitting-sound header (tablesContents header tables) (s .in-range) (s .heads) (s .nodes) (s .roots)

@@ -14,7 +14,7 @@ use Rattle.definitions.specs.declared.Node.{Node}
 use Rattle.definitions.specs.Lists.{_!_, concatMap}
 use Rattle.definitions.specs.BookLines.{TreeNode, childrenOf, rootCount}
 use Rattle.definitions.specs.BookReading.{nodeSize}
-use Rattle.definitions.specs.Tables.{nodeOf, treeNode, tablesBook}
+use Rattle.definitions.specs.Tables.{nodeOf, treeNode, tablesContents}
 use Rattle.definitions.specs.ForeignTables.{headerKnown, namedOnce}
 use Rattle.definitions.specs.laws.Tables.{tree-nodes-length}
 use Rattle.definitions.specs.laws.Books.{roots-few}
@@ -133,8 +133,8 @@ module _ (header : Header) (words roots : List ℕ) (known : T (headerKnown head
   pub once-counted : {used count first : ℕ} {children all : List ℕ} → used ≡ rootCount header
       → count ≡ header .nodes → children ≡ namedAll (replicate 4096 0) (childrenIn header words)
       → all ≡ namedAll children (take used roots) → first ≡ firstMisnamed (take count all)
-      → eqb first count ≡ namedOnce (tablesBook header (lentTables words [] roots))
-  unfolding namedOnce tablesBook
+      → eqb first count ≡ namedOnce (tablesContents header (lentTables words [] roots))
+  unfolding namedOnce tablesContents
   once-counted {used} {count} {first} {children} {all} a b c d e =
       let counted : all ≡ countsOf 4096 (allNames bookNodes bookRoots) = rw (d, c, a) counts-both in
       let many : count ≡ length bookNodes = b ∙ sym (nodes-length) in

@@ -17,7 +17,7 @@ use Rattle.definitions.specs.Faults.{refuse, judge, answerLeft}
 use Rattle.definitions.specs.Lists.{every, cleared, padded}
 use Rattle.definitions.specs.BookLines.{isPhone}
 use Rattle.definitions.specs.BookReading.{nodeSize}
-use Rattle.definitions.specs.Tables.{Tables, treeNode, nodeRecords, tablesBook}
+use Rattle.definitions.specs.Tables.{Tables, treeNode, nodeRecords, tablesBook, bookIn, tablesContents}
 use Rattle.definitions.specs.ForeignTables.{headerKnown, nodesKnown, holdsOnly, classTableKnown, tablesKnown}
 use Rattle.definitions.specs.Lookup.{leafReached, lookupKnown, isContext, leafLookup, leafLookupInTable}
 use Rattle.definitions.specs.TreesGive.{silentEnds}
@@ -163,7 +163,7 @@ module _ (header : Header) (tables : Tables) (S : List ℕ) (size : ℕ) (answer
           models = transcription (tablesBook header tables) S
 
           own-length : length models ≡ length S * header .states
-          unfolding tablesBook
+          unfolding tablesBook bookIn tablesContents
           own-length = transcription-length (tablesBook header tables) S
 
           models-length : length models ≡ length S * states

@@ -16,7 +16,7 @@ use Rattle.definitions.specs.BookLines.{TreeNode, rootCount, isPhone}
 use Rattle.definitions.specs.BookReading.{nodeSize}
 use Rattle.definitions.specs.Tables.{Book, nodeOf, tablesBook}
 use Rattle.definitions.specs.Lookup.{leafReached, modelAt, isContext}
-use Rattle.definitions.specs.Tables.{rootOf}
+use Rattle.definitions.specs.Tables.{rootOf, bookIn, tablesContents}
 use Rattle.definitions.specs.TreesGive.{withSilence, contexts}
 use Rattle.definitions.specs.Transcription.{modelOf, transcription}
 use Rattle.definitions.specs.laws.Tests.{T-and, eq→eqb}
@@ -38,7 +38,7 @@ pub model-reached : (header : Header) (nodes classes roots context : List ℕ)
     × (nodeOf (drop (nodeSize * leaf) nodes) .kind ≡ 1 → ⊥)
     → x ≡ nodeOf (drop (nodeSize * leaf) nodes)
     → x .value ≡ modelOf (tablesBook header (lentTables nodes classes roots)) context state
-unfolding modelOf tablesBook rootOf
+unfolding modelOf tablesBook bookIn tablesContents rootOf
 model-reached header nodes classes roots context state root count leaf x r n w own =
     let tree : List TreeNode = treeNodes header nodes in
     ap (λ (x : Node). x .value) own ∙ sym (model-is header nodes leaf (w .1) (w .2))

@@ -6,7 +6,7 @@ use native.Mathlib.Omega.{arith}
 use lib.Seq.{length-take-le}
 use borrow.Author.Needs.{needs}
 use Rattle.definitions.specs.Matrices.{matrixWords, rootMatrix}
-use Rattle.definitions.specs.Tables.{Book, tablesBook}
+use Rattle.definitions.specs.Tables.{Book, tablesBook, bookIn, tablesContents}
 use Rattle.definitions.specs.laws.Books.{InRange}
 use Rattle.tables.specs.Lending.{lentTables}
 use Rattle.tables.specs.laws.KnownTables.{tables-fit}
@@ -44,13 +44,13 @@ half-small : (c : tie.After-wide) → c .wide .result ≤ 3
 half-small c = omega (arith, ranges (start c) .half-range .high, c .wide .ensures)
 
 width-is : (c : tie.After-wide) → 2 * c .wide .result + 1 ≡ widthOf (book (start c) .half)
-unfolding tablesBook
+unfolding tablesBook bookIn tablesContents
 width-is c = omega (arith, c .wide .ensures)
 
 top-is : (c : tie.After-wide)
     → c .before .around .result .columns
     ≡ matrixWords (rootMatrix (book (start c) .half) (book (start c) .phones) (start c .args .phone))
-unfolding tablesBook
+unfolding tablesBook bookIn tablesContents
 top-is c =
     let r = ranges (start c) in
     let p = start c .pre in
@@ -131,7 +131,7 @@ slice-aggregate-choose-3 c =
     sym (length-take-le _ _ (three (c .before .before .before) .list-leaves3 .ensures .room))
 
 choose-requires : tie.Need-choose-requires
-unfolding tablesBook
+unfolding tablesBook bookIn tablesContents
 choose-requires c κs =
     let wide = c .before .before .before .before in
     let r = ranges (start wide) in
@@ -170,7 +170,7 @@ same-length-5 : tie.Need-same-length-5
 same-length-5 c = search needs
 
 returns : tie.Need-returns
-unfolding tablesBook
+unfolding tablesBook bookIn tablesContents
 returns c =
     let wide = c .before .before .before .before .before .before .before in
     let r = ranges (start wide) in

@@ -7,7 +7,7 @@ use native.Mathlib.Omega.{arith}
 use lib.ListN.{length}
 use borrow.Author.Needs.{needs}
 use Rattle.definitions.specs.Combinations.{combinationRoom}
-use Rattle.definitions.specs.Tables.{tablesBook}
+use Rattle.definitions.specs.Tables.{tablesBook, bookIn, tablesContents}
 use Rattle.definitions.specs.laws.Books.{InRange}
 use Rattle.tables.specs.Lending.{lentTables}
 use Rattle.tables.specs.laws.KnownTables.{tables-fit}
@@ -46,7 +46,7 @@ ranges : (c : tie.Start Inv-loop μ-loop) → InRange (c .args .header)
 ranges c = tables-fit _ _ (c .pre .0) .ranges
 
 ends-sized : (c : tie.At-loop Inv-loop μ-loop) → length (c .loop .ends) ≡ 65
-unfolding tablesBook
+unfolding tablesBook bookIn tablesContents
 ends-sized c = noted-length (c .loop .inv .0) (ranges (entry c) .phones-range .high)
 
 loop-holds : tie.Need-loop-holds Inv-loop μ-loop
@@ -55,7 +55,7 @@ loop-holds c =
     (added-start _ _ _ (p .1) (p .2), refl, refl, refl, refl, p .7)
 
 choose-phone-requires : tie.Need-choose-phone-requires Inv-loop μ-loop
-unfolding tablesBook
+unfolding tablesBook bookIn tablesContents
 choose-phone-requires c κs =
     let turn = c .before .before .before .before .before in
     let p = entry (loop-of turn) .pre in
@@ -96,7 +96,7 @@ same-length-6 c =
     ends-sized loop ∙ sym (ap length (entry loop .pre .2))
 
 returns : tie.Need-returns Inv-loop μ-loop
-unfolding tablesBook
+unfolding tablesBook bookIn tablesContents
 returns c =
     let room = c .before .room-in .ensures in
     let add = call (c .before) in
@@ -131,7 +131,7 @@ loop-less : tie.Need-loop-less Inv-loop μ-loop
 loop-less c = search needs
 
 loop-again : tie.Need-loop-again Inv-loop μ-loop
-unfolding tablesBook
+unfolding tablesBook bookIn tablesContents
 loop-again c =
     let add = call (c .before .before) in
     let loop = loop-of (turn add) in
@@ -170,7 +170,7 @@ same-length-12 c =
     ends-sized loop ∙ sym (ap length (entry loop .pre .2))
 
 returns-2 : tie.Need-returns-2 Inv-loop μ-loop
-unfolding tablesBook
+unfolding tablesBook bookIn tablesContents
 returns-2 c =
     let l = c .before .before .loop .inv .0 in
     let (grown, noted) = added-end l (c .if1 .left) in

@@ -3,7 +3,7 @@ use mathlib.Core.Path.{_≡_}
 use mathlib.Core.Bool.{true, _&&_}
 use borrow.Author.Needs.{needs}
 use lib.Dec.{T}
-use Rattle.definitions.specs.Tables.{tablesBook}
+use Rattle.definitions.specs.Tables.{tablesContents}
 use Rattle.definitions.specs.ForeignTables.{headerKnown, nodeTableKnown, classTableKnown, rootTableKnown}
 use Rattle.definitions.specs.ForeignTables.{namedOnce, tablesKnown}
 use Rattle.definitions.specs.laws.Tests.{T-three, held, failed}
@@ -48,7 +48,7 @@ named-once-requires : tie.Need-named-once-requires
 named-once-requires c κs = (header-held (c .before .before), rw (roots-held c) tt)
 
 returns-3 : tie.Need-returns-3
-unfolding tablesKnown namedOnce tablesBook
+unfolding tablesKnown namedOnce tablesContents
 returns-3 c =
     let roots = c .before in
     rw (records-held (roots .before .before), roots-held roots) (c .named-once .ensures)

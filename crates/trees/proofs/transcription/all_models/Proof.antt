@@ -4,7 +4,7 @@ use Prim.Native.Nat.{ℕ, _+_, _-_, _*_, _≤_}
 use native.Mathlib.Omega.{arith}
 use lib.ListN.{length}
 use borrow.Author.Needs.{needs}
-use Rattle.definitions.specs.Tables.{Book, tablesBook}
+use Rattle.definitions.specs.Tables.{Book, tablesBook, bookIn, tablesContents}
 use Rattle.tables.specs.Lending.{lentTables}
 use Rattle.trees.specs.laws.Models.{Placed, placed-start, room, placed-more, placed-end}
 use Rattle.trees.proofs.transcription.all_models.Statement.{statement}
@@ -30,7 +30,7 @@ book c =
 fits : (c : tie.In-loop Inv-loop μ-loop)
     → c .before .loop .place * c .before .before .wide .result + c .before .before .wide .result
     ≤ length (entry (c .before .before) .args .models .now)
-unfolding tablesBook
+unfolding tablesBook bookIn tablesContents
 fits c =
     let start = entry (c .before .before) in
     room (book start) (start .args .sequence .now) (start .args .models .now) (start .pre .2) _ _
@@ -73,7 +73,7 @@ loop-less : tie.Need-loop-less Inv-loop μ-loop
 loop-less c = search needs
 
 loop-again : tie.Need-loop-again Inv-loop μ-loop
-unfolding tablesBook
+unfolding tablesBook bookIn tablesContents
 loop-again c =
     let turn = c .before .before .before .before in
     let wide = turn .before .before in
@@ -88,7 +88,7 @@ same-length : tie.Need-same-length Inv-loop μ-loop
 same-length c = search needs
 
 returns : tie.Need-returns Inv-loop μ-loop
-unfolding tablesBook
+unfolding tablesBook bookIn tablesContents
 returns c = placed-end _ _ _ _ _ (c .before .loop .inv) (c .loop-test .left)
 
 pub all-models-spec : {M : Type 1} → statement M

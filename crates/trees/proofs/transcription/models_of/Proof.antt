@@ -6,7 +6,7 @@ use Prim.Native.Nat.{ℕ, _-_, _<_}
 use native.Mathlib.Omega.{arith}
 use lib.ListN.{length}
 use borrow.Author.Needs.{needs}
-use Rattle.definitions.specs.Tables.{tablesBook}
+use Rattle.definitions.specs.Tables.{tablesBook, bookIn, tablesContents}
 use Rattle.tables.specs.Lending.{lentTables}
 use Rattle.trees.specs.Answers.{stateModels}
 use Rattle.lines.specs.laws.Filling.{Filled, filled-start, filled-more, filled-end}
@@ -32,7 +32,7 @@ target c =
     (a .context .now)
 
 as-many : (c : tie.Start Inv-loop μ-loop) → length (target c) ≡ length (c .args .models .now)
-unfolding tablesBook
+unfolding tablesBook bookIn tablesContents
 as-many c = states-length _ _ ∙ sym (c .pre .2)
 
 -- a word for each state
@@ -69,7 +69,7 @@ loop-less : tie.Need-loop-less Inv-loop μ-loop
 loop-less c = search needs
 
 loop-again : tie.Need-loop-again Inv-loop μ-loop
-unfolding tablesBook
+unfolding tablesBook bookIn tablesContents
 loop-again c =
     let turn = c .before .before in
     let head = turn .before .before in
