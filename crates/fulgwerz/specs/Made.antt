@@ -16,8 +16,8 @@ use Rattle.network.specs.declared.Standing.{Standing}
 use Rattle.network.specs.declared.Standing.the-variants as standing
 use Rattle.nettext.specs.declared.Reading.{Reading as NetworkReading}
 use Rattle.nettext.specs.declared.Reading.the-variants as nettext
-use Rattle.nettext.specs.declared.Written.{Written}
-use Rattle.nettext.specs.declared.Written.the-variants as written
+use Rattle.lines.specs.declared.Written.{Written}
+use Rattle.lines.specs.declared.Written.the-variants as written
 use Rattle.fulgwerz.specs.declared.ReadAnswer.{ReadAnswer}
 use Rattle.fulgwerz.specs.declared.LeafAnswer.{LeafAnswer}
 use Rattle.fulgwerz.specs.declared.CountAnswer.{CountAnswer}

@@ -9,6 +9,10 @@ use Rattle.definitions.specs.Forms.{Range, Form, _‥_, bookForms, networkForms
 abbrev pub allForms : List Form
 allForms = bookForms ++ networkForms
 
+-- how many there are
+abbrev pub formCount : ℕ
+formCount = 7
+
 unfoldable pub formIn : List Form → (place : ℕ) → Option Form
 formIn [] place = none
 formIn (form ∷ forms) zero = some form

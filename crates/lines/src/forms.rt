@@ -6,15 +6,18 @@ ghost use Prim.Native.Nat.{_≤_, _<_};
 ghost use lib.Dec.{leb};
 ghost use lib.ListN.{length};
 ghost use Rattle.definitions.specs.Lines.{formOf};
-ghost use Rattle.lines.specs.Places.{formAt, rangesAt, rangeAt};
+ghost use Rattle.lines.specs.Places.{formAt, rangesAt, rangeAt, formCount};
 ghost use Rattle.lines.specs.Rows.{formsOf};
 ghost use Rattle.lines.specs.laws.Tables.{Placed};
 
 // The fixed range of a field: lowest and highest.
 struct Range(u32, u32);
 
+// How many letters the table has.
+const FORM_COUNT: usize = 7;
+
 // The place of a letter that the table does not have.
-pub const NO_LETTER: usize = 7;
+pub const NO_LETTER: usize = FORM_COUNT;
 
 const UNUSED: Range = Range(0, 0);
 
@@ -26,7 +29,7 @@ struct Form {
 }
 
 // The letters of a tree book, then those of network text.
-const FORMS: [Form; 7] = [
+const FORMS: [Form; FORM_COUNT] = [
     // half-width, states per phone, phones, classes, nodes
     Form {
         letter: b'H',
@@ -106,13 +109,16 @@ fn block_of(letters: Letters) -> Block
 {
     match letters {
         Letters::Book => Block { from: 0, end: 5 },
-        Letters::Network => Block { from: 5, end: 7 },
+        Letters::Network => Block {
+            from: 5,
+            end: FORM_COUNT,
+        },
     }
 }
 
-// The place of a letter among all letters, or 7 where this kind of text never has it.
+// The place of a letter among all letters, or one past the last where this kind of text never has it.
 pub fn place_of(letters: Letters, letter: u8) -> usize
-    ensures within { λ r. ⌜ r ≤ 7 ⌝ }
+    ensures within { λ r. ⌜ r ≤ formCount ⌝ }
     ensures found { λ r. ⌜ formAt r ≡ formOf (formsOf letters) letter ⌝ }
 {
     let block = block_of(letters);
@@ -130,7 +136,7 @@ pub fn place_of(letters: Letters, letter: u8) -> usize
 
 // How many fields the letter at a place uses.
 pub fn used_at(place: usize) -> usize
-    requires { ⌜ place < 7 ⌝ }
+    requires { ⌜ place < formCount ⌝ }
     ensures { λ r. ⌜ r ≡ length (rangesAt place) ⌝ }
 {
     let form = FORMS[place];
@@ -139,7 +145,7 @@ pub fn used_at(place: usize) -> usize
 
 // Whether a number lies in the fixed range of a used field of the letter at a place.
 pub fn in_range(place: usize, field: usize, n: u32) -> bool
-    requires { ⌜ (place < 7) × (field < length (rangesAt place)) ⌝ }
+    requires { ⌜ (place < formCount) × (field < length (rangesAt place)) ⌝ }
     ensures { λ r. ⌜ r ≡ (leb (rangeAt place field .lowest) n && leb n (rangeAt place field .highest)) ⌝ }
 {
     let form = FORMS[place];

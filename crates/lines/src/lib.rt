@@ -9,6 +9,7 @@ pub mod texts;
 pub mod writing;
 
 use definitions::Fault;
+use definitions::Refusal;
 
 // The letters that a kind of text has.
 pub enum Letters {
@@ -33,6 +34,12 @@ pub struct Parsed {
 pub enum Verdict {
     Passed,
     Failed(Fault),
+}
+
+// What writing a text answers: how many bytes the text has, or the refusal.
+pub enum Written {
+    Bytes(usize),
+    Refused(Refusal),
 }
 
 // One field of six bytes.

@@ -16,12 +16,6 @@ pub enum Reading {
     Refused(Refusal),
 }
 
-// What writing answers: how many bytes the text has, or the refusal.
-pub enum Written {
-    Bytes(usize),
-    Refused(Refusal),
-}
-
 // What a line says, by its letter.
 enum Entry {
     W(Counts),

@@ -1,11 +1,11 @@
 // Writing network text from lent arcs: 18, then 33.
-use crate::Written;
 use definitions::ARC_SIZE;
 use definitions::Counts;
 use definitions::Fault;
 use definitions::Refusal;
 use definitions::wide;
 use lines::Row;
+use lines::Written;
 use lines::clearing::clear_bytes;
 use lines::writing::write as write_line;
 use network::known::network_known;
@@ -19,7 +19,7 @@ ghost use Rattle.definitions.specs.Lists.{concatMap, every};
 ghost use Rattle.definitions.specs.Lines.{lineText};
 ghost use Rattle.definitions.specs.NetworkText.{lineOfCounts, lineOfArc, writeNetwork};
 ghost use Rattle.lines.specs.Rows.{lineIn};
-ghost use Rattle.nettext.specs.Answers.{writtenOf};
+ghost use Rattle.lines.specs.Answers.{writtenOf};
 ghost use Rattle.nettext.specs.Writing.{arcInRange};
 
 // The W line of counts.

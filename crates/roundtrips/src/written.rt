@@ -1,7 +1,7 @@
 // A network written again, into buffers of several lengths; and networks that reading never leaves.
 use definitions::Counts;
+use lines::Written;
 use nettext::Reading;
-use nettext::Written;
 use nettext::reader::read;
 use nettext::writer::write;
 use showing::comparing::same_bytes;

@@ -19,7 +19,8 @@ use Rattle.metastates.specs.Answers.{combinedOf}
 use Rattle.network.specs.declared.Build.{Build}
 use Rattle.network.specs.declared.Build.the-variants as build
 use Rattle.network.specs.Answers.{totalsOf, buildOf, standingOf}
-use Rattle.nettext.specs.Answers.{readingOf, writtenOf}
+use Rattle.lines.specs.Answers.{writtenOf}
+use Rattle.nettext.specs.Answers.{readingOf}
 use Rattle.builder.specs.Answers.{bookAnswer as bookBuild, MeetsDemand3 as BookMeets}
 use Rattle.fulgwerz.specs.Answers.{saidOf, isFinished, turnsIn}
 use Rattle.fulgwerz.specs.Answers.{readAnswer, leafAnswer, countAnswer, partAnswer, networkAnswer}

@@ -13,15 +13,15 @@ use lib.Seq.{drop-cons, drop-drop, take-all, take-suc-set}
 use borrow.Author.Tests.{ltb-true, ltb-false}
 use Rattle.definitions.specs.Lists.{if_then_else_, _!_, every, cleared, padded}
 use Rattle.definitions.specs.Forms.{Range, Form}
-use Rattle.definitions.specs.Lines.{Field, blank, malformed, number, isBlank, fieldOf, skipSpaces, digitsField}
-use Rattle.definitions.specs.Lines.{fieldsOf, numbersOf, formOf, withLetter, lineOf}
+use Rattle.definitions.specs.Lines.{Field, blank, malformed, number, isBlank, fieldOf, skipSpaces}
+use Rattle.definitions.specs.Lines.{digitsField, fieldsOf, numbersOf, formOf, withLetter, lineOf}
 use Rattle.definitions.specs.laws.Tests.{by-test}
 use Rattle.definitions.specs.laws.Lists.{padded-none}
 use Rattle.definitions.specs.laws.Records.{read-at}
 use Rattle.definitions.specs.laws.Lines.{line-known, line-unknown, form-letter, fields-five}
 use Rattle.lines.specs.declared.Letters.{Letters}
 use Rattle.lines.specs.declared.Letters.the-variants.{Book, Network}
-use Rattle.lines.specs.Places.{formIn, formAt, rangesAt}
+use Rattle.lines.specs.Places.{formIn, formAt, rangesAt, formCount}
 use Rattle.lines.specs.Rows.{formsOf, rowOf, parsedOf}
 use Rattle.lines.specs.Entries.{fieldAt, fieldEntry}
 use Rattle.lines.specs.laws.Tables.{formHere, form-here, ranges-here, used-few}
@@ -185,14 +185,14 @@ pub parsed-empty : (letters : Letters) (s : List ℕ) → length s ≡ 0
     → parsedOf (lineOf (formsOf letters) s) ≡ parsedOf none
 parsed-empty letters s h = ap parsedOf (no-line letters s h)
 
-pub parsed-unknown : (forms : List Form) (s : List ℕ) → formAt 7 ≡ formOf forms (s ! 0)
+pub parsed-unknown : (forms : List Form) (s : List ℕ) → formAt formCount ≡ formOf forms (s ! 0)
     → parsedOf (lineOf forms s) ≡ parsedOf none
 unfolding formIn
 parsed-unknown forms s e = ap parsedOf (line-unknown forms s (sym e))
 
 -- a letter that is known, by its place and how many fields it uses
 pub record Letter (forms : List Form) (s : List ℕ) (place used : ℕ) : Type 0 where
-  pub known : place < 7
+  pub known : place < formCount
   pub found : formAt place ≡ formOf forms (s ! 0)
   pub many : used ≡ length (rangesAt place)
 

@@ -13,7 +13,7 @@ use Rattle.definitions.specs.Lists.{_!_}
 use Rattle.definitions.specs.Forms.{Range, Form, _‥_}
 use Rattle.definitions.specs.Lines.{formOf, inRanges, inFixedRanges}
 use Rattle.definitions.specs.laws.Tests.{by-test}
-use Rattle.lines.specs.Places.{formIn, formAt, rangesAt, rangeAt}
+use Rattle.lines.specs.Places.{formIn, formAt, rangesAt, rangeAt, formCount}
 use Rattle.lines.specs.Rows.{lineIn}
 use Rattle.lines.specs.declared.Row.{Row}
 use Rattle.lines.specs.laws.Tables.{formHere, form-here, ranges-here, used-few}
@@ -24,13 +24,13 @@ within range n = leb (range .lowest) n && leb n (range .highest)
 
 -- the numbers before a field lie in the ranges of the letter at a place
 pub record Judging (place used : ℕ) (numbers : List ℕ) (field : ℕ) : Type 0 where
-  pub known : place < 7
+  pub known : place < formCount
   pub many : used ≡ length (rangesAt place)
   pub few : used ≤ 5
   pub sized : length numbers ≡ 5
   pub rest : inRanges (rangesAt place) numbers ≡ inRanges (drop field (rangesAt place)) (drop field numbers)
 
-pub judging-start : (place used : ℕ) (numbers : List ℕ) → place < 7 → used ≡ length (rangesAt place)
+pub judging-start : (place used : ℕ) (numbers : List ℕ) → place < formCount → used ≡ length (rangesAt place)
     → length numbers ≡ 5 → Judging place used numbers 0
 judging-start place used numbers h e sized =
     record { known = h; many = e; few = omega (arith, used-few place h); sized = sized; rest = refl }
@@ -83,13 +83,13 @@ ranges-short (r ∷ ranges) (n ∷ numbers) (suc used) h =
 -- ---- a row by the place of its letter
 
 module _ (forms : List Form) (row : Row) where
-  pub row-unknown : formAt 7 ≡ formOf forms (row .letter) → inFixedRanges forms (lineIn row) ≡ false
+  pub row-unknown : formAt formCount ≡ formOf forms (row .letter) → inFixedRanges forms (lineIn row) ≡ false
   unfolding inFixedRanges lineIn formIn
   row-unknown e = let unknown : formOf forms (row .letter) ≡ none = sym e in rw (unknown, inFixedRanges)
 
 module _
     (forms : List Form) (row : Row) (place : ℕ)
-    (h : place < 7) (e : formAt place ≡ formOf forms (row .letter)) where
+    (h : place < formCount) (e : formAt place ≡ formOf forms (row .letter)) where
   row-known : inFixedRanges forms (lineIn row) ≡ inRanges (rangesAt place) (take (row .used) (row .numbers))
   unfolding inFixedRanges lineIn
   row-known =

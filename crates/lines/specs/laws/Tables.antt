@@ -19,7 +19,7 @@ use Rattle.definitions.specs.laws.Lists.{map-at}
 use Rattle.lines.specs.declared.Letters.{Letters}
 use Rattle.lines.specs.declared.forms.Form.{Form as HeldForm}
 use Rattle.lines.specs.declared.forms.Range.{Range as HeldRange}
-use Rattle.lines.specs.Places.{allForms, formIn, formAt, rangesOf, rangesAt, rangeAt}
+use Rattle.lines.specs.Places.{allForms, formIn, formAt, rangesOf, rangesAt, rangeAt, formCount}
 use Rattle.lines.specs.Rows.{formsOf}
 
 -- ---- the table of a letter
@@ -34,17 +34,17 @@ form-in [] d i h = absurd (omega arith)
 form-in (x ∷ forms) d zero h = refl
 form-in (x ∷ forms) d (suc i) h = form-in forms d i (omega arith)
 
-pub form-here : (place : ℕ) → place < 7 → formAt place ≡ some (formHere place)
+pub form-here : (place : ℕ) → place < formCount → formAt place ≡ some (formHere place)
 form-here place h = form-in allForms formH place h
 
-pub ranges-here : (place : ℕ) → place < 7 → rangesAt place ≡ formHere place .fields
+pub ranges-here : (place : ℕ) → place < formCount → rangesAt place ≡ formHere place .fields
 unfolding rangesOf
 ranges-here place h = ap rangesOf (form-here place h)
 
 few : Form → Bool
 few form = leb (length (form .fields)) 5
 
-pub used-few : (place : ℕ) → place < 7 → length (rangesAt place) ≤ 5
+pub used-few : (place : ℕ) → place < formCount → length (rangesAt place) ≤ 5
 unfolding few every
 used-few place h =
     rw (ranges-here place h) (leb→le _ 5 (every-at few allForms formH tt place h))
@@ -68,7 +68,7 @@ heldAt place = getD (map heldForm allForms) place (record { letter = 0; used = 0
 abbrev heldRangeAt : (place field : ℕ) → HeldRange
 heldRangeAt place field = getD (heldAt place .ranges) field (0, 0)
 
-module _ (place : ℕ) (h : place < 7) where
+module _ (place : ℕ) (h : place < formCount) where
   held-here : heldAt place ≡ heldForm (formHere place)
   held-here = map-at heldForm allForms formH _ place h
 
@@ -112,17 +112,17 @@ formsBetween place end = take (end - place) (drop place allForms)
 -- where the letters of a kind of text stand
 pub record Placed (letters : Letters) (from end : ℕ) : Type 0 where
   pub ordered : from ≤ end
-  pub within : end ≤ 7
+  pub within : end ≤ formCount
   pub tables : formsOf letters ≡ formsBetween from end
 
-formsBetween-more : (place end : ℕ) → place < end → end ≤ 7
+formsBetween-more : (place end : ℕ) → place < end → end ≤ formCount
     → formsBetween place end ≡ formHere place ∷ formsBetween (place + 1) end
 formsBetween-more place end h k =
     let left : end - place ≡ suc (end - (place + 1)) = omega arith in
     rw (left, drop-cons allForms place formH (omega arith), add-one)
 
 module _ (letter place end : ℕ) where
-  pub letter-found : place < end → end ≤ 7 → heldAt place .letter ≡ letter
+  pub letter-found : place < end → end ≤ formCount → heldAt place .letter ≡ letter
       → formAt place ≡ formOf (formsBetween place end) letter
   unfolding formOf
   letter-found h k is =
@@ -130,7 +130,7 @@ module _ (letter place end : ℕ) where
       sym (ap (λ form. form .letter) (held-here place (omega arith))) ∙ is in
       form-here place (omega arith) ∙ sym (rw (formsBetween-more place end h k, eq-eqb _ _ same))
 
-  pub letter-passed : place < end → end ≤ 7 → (heldAt place .letter ≡ letter → ⊥)
+  pub letter-passed : place < end → end ≤ formCount → (heldAt place .letter ≡ letter → ⊥)
       → formOf (formsBetween place end) letter ≡ formOf (formsBetween (place + 1) end) letter
   unfolding formOf
   letter-passed h k isnt =
@@ -138,7 +138,7 @@ module _ (letter place end : ℕ) where
       λ is. isnt (ap (λ form. form .letter) (held-here place (omega arith)) ∙ is) in
       rw (formsBetween-more place end h k, ne-eqb _ _ other)
 
-pub letter-nowhere : (letter place end : ℕ) → end ≤ place → formAt 7 ≡ formOf (formsBetween place end) letter
+pub letter-nowhere : (letter place end : ℕ) → end ≤ place → formAt formCount ≡ formOf (formsBetween place end) letter
 unfolding formOf formIn
 letter-nowhere letter place end h =
     let none-left : end - place ≡ 0 = omega arith in

@@ -26,11 +26,12 @@ use Rattle.network.specs.declared.Build.{Build}
 use Rattle.network.specs.declared.Build.the-variants as builds
 use Rattle.network.specs.Answers.{totalsOf, buildOf}
 use Rattle.nettext.specs.laws.BuiltNetworks.{built-known, built-arcs}
-use Rattle.nettext.specs.Answers.{readingOf, writtenOf}
+use Rattle.lines.specs.Answers.{writtenOf}
+use Rattle.nettext.specs.Answers.{readingOf}
 use Rattle.nettext.specs.declared.Reading.{Reading}
 use Rattle.nettext.specs.declared.Reading.the-variants as reading
-use Rattle.nettext.specs.declared.Written.{Written}
-use Rattle.nettext.specs.declared.Written.the-variants as written
+use Rattle.lines.specs.declared.Written.{Written}
+use Rattle.lines.specs.declared.Written.the-variants as written
 
 -- ---- what the answers say
 

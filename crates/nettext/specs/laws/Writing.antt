@@ -35,10 +35,10 @@ use Rattle.lines.specs.Rows.{lineIn, writable, written}
 use Rattle.lines.specs.laws.Rows.{isSmall}
 use Rattle.lines.specs.declared.Row.{Row}
 use Rattle.network.specs.laws.KnownArcs.{allArcs, arcAt, arc-at, source-at, known-arcs, known-taken}
-use Rattle.nettext.specs.Answers.{writtenOf}
+use Rattle.lines.specs.Answers.{writtenOf}
 use Rattle.nettext.specs.Writing.{arcInRange}
-use Rattle.nettext.specs.declared.Written.{Written}
-use Rattle.nettext.specs.declared.Written.the-variants.{Bytes, Refused}
+use Rattle.lines.specs.declared.Written.{Written}
+use Rattle.lines.specs.declared.Written.the-variants.{Bytes, Refused}
 
 -- ---- lines that fit
 

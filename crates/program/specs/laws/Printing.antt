@@ -22,9 +22,9 @@ use Rattle.definitions.specs.laws.RoundTrips.{known-written}
 use Rattle.definitions.specs.laws.Program.{fault-small, refusal-length}
 use Rattle.lines.specs.declared.Row.{Row}
 use Rattle.lines.specs.Rows.{lineIn, writable, written}
-use Rattle.nettext.specs.declared.Written.{Written}
-use Rattle.nettext.specs.declared.Written.the-variants as written
-use Rattle.nettext.specs.Answers.{writtenOf}
+use Rattle.lines.specs.declared.Written.{Written}
+use Rattle.lines.specs.declared.Written.the-variants as written
+use Rattle.lines.specs.Answers.{writtenOf}
 use Rattle.program.specs.Printing.{outputSize, Empty, Prints, textIn}
 
 -- ---- an empty output

@@ -5,12 +5,13 @@ use native.Mathlib.Omega.{arith}
 use borrow.Author.Needs.{needs}
 use Rattle.definitions.specs.Lines.{formOf}
 use Rattle.lines.specs.laws.Tables.{formsBetween, letter-found, letter-passed, letter-nowhere}
+use Rattle.lines.specs.Places.{formCount}
 use Rattle.lines.proofs.forms.place_of.Statement.{statement}
 use Rattle.lines.proofs.forms.place_of.Tie as tie
 
 abbrev Inv-loop : tie.InvT-loop
 Inv-loop letter end place₀ place =
-    (end ≤ 7) × (formOf (formsBetween place₀ end) letter ≡ formOf (formsBetween place end) letter)
+    (end ≤ formCount) × (formOf (formsBetween place₀ end) letter ≡ formOf (formsBetween place end) letter)
 
 abbrev μ-loop : tie.MeasureT-loop
 μ-loop letter end place₀ place = end - place
