@@ -12,12 +12,11 @@ use tables::roots::root_of;
 ghost use mathlib.Core.List.{_++_};
 ghost use mathlib.Core.Path.{_≡_};
 ghost use Prim.Native.Nat.{_+_, _*_, _≤_};
-ghost use lib.Dec.{T};
 ghost use lib.ListN.{length, set, take, drop};
-ghost use Rattle.definitions.specs.ForeignTables.{tablesKnown};
 ghost use Rattle.definitions.specs.Lists.{concatMap};
 ghost use Rattle.definitions.specs.Tables.{tablesBook};
 ghost use Rattle.tables.specs.Lending.{lentTables};
+ghost use Rattle.tables.specs.Usable.{Fit};
 ghost use Rattle.metastates.specs.Leaves.{leafSize, listed, listedAt, NoneUsed, UsedWithin};
 ghost use Rattle.metastates.specs.Leaves.{leafWords, leavesFor, Listing};
 
@@ -76,7 +75,7 @@ pub fn list_leaves(
     list: &mut [u64],
 ) -> usize
     requires { ⌜
-        T (tablesKnown header (lentTables (now nodes) (now classes) (now roots)))
+        Fit header (lentTables (now nodes) (now classes) (now roots))
         × (1 ≤ phone) × (phone ≤ header .phones) × (1 ≤ state)
         × (length (now table) ≡ leafSize * header .nodes) × (length (now table) ≤ length (now list))
         × NoneUsed (now table)

@@ -17,14 +17,13 @@ use matrix::shaping::around;
 use tables::foreign::tables_known;
 ghost use mathlib.Core.Path.{_≡_};
 ghost use Prim.Native.Nat.{_*_, _≤_};
-ghost use lib.Dec.{T};
 ghost use lib.ListN.{length};
 ghost use Rattle.definitions.specs.Combinations.{combinationsOf, combinations, combine};
 ghost use Rattle.definitions.specs.Combinations.{combinationSpace, combinationRoom};
-ghost use Rattle.definitions.specs.ForeignTables.{tablesKnown};
 ghost use Rattle.definitions.specs.Lists.{cleared, padded};
 ghost use Rattle.definitions.specs.Tables.{tablesBook};
 ghost use Rattle.tables.specs.Lending.{lentTables};
+ghost use Rattle.tables.specs.Usable.{Fit};
 ghost use Rattle.metastates.specs.Answers.{combinedOf, endsOf, endsLeft};
 ghost use Rattle.metastates.specs.Choices.{Holding, Grown};
 ghost use Rattle.metastates.specs.Leaves.{leafSize, NoneUsed};
@@ -44,7 +43,7 @@ fn choose_phone(
     count: usize,
 ) -> usize
     requires { ⌜
-        T (tablesKnown header (lentTables (now nodes) (now classes) (now roots)))
+        Fit header (lentTables (now nodes) (now classes) (now roots))
         × (1 ≤ phone) × (phone ≤ header .phones) × Holding (now space) count
         × (length (now table) ≡ leafSize * header .nodes) × (length (now table) ≤ length (now first))
         × (length (now table) ≤ length (now second)) × (length (now table) ≤ length (now third))
@@ -102,7 +101,7 @@ fn choose_phones(
     ends: &mut [u32],
 ) -> usize
     requires { ⌜
-        T (tablesKnown header (lentTables (now nodes) (now classes) (now roots)))
+        Fit header (lentTables (now nodes) (now classes) (now roots))
         × (now space ≡ cleared (length (now space))) × (now ends ≡ cleared 65)
         × (length (now table) ≡ leafSize * header .nodes) × (length (now table) ≤ length (now first))
         × (length (now table) ≤ length (now second)) × (length (now table) ≤ length (now third))
@@ -155,7 +154,7 @@ fn choose_few(
     ends: &mut [u32],
 ) -> usize
     requires { ⌜
-        T (tablesKnown header (lentTables (now nodes) (now classes) (now roots)))
+        Fit header (lentTables (now nodes) (now classes) (now roots))
         × (now space ≡ cleared (length (now space))) × (now ends ≡ cleared 65)
         × (header .nodes ≤ 1024)
         ⌝ }
@@ -200,7 +199,7 @@ fn choose_many(
     ends: &mut [u32],
 ) -> usize
     requires { ⌜
-        T (tablesKnown header (lentTables (now nodes) (now classes) (now roots)))
+        Fit header (lentTables (now nodes) (now classes) (now roots))
         × (now space ≡ cleared (length (now space))) × (now ends ≡ cleared 65)
         ⌝ }
     ensures space { λ r. ⌜
@@ -244,7 +243,7 @@ fn choose_all(
     ends: &mut [u32],
 ) -> usize
     requires { ⌜
-        T (tablesKnown header (lentTables (now nodes) (now classes) (now roots)))
+        Fit header (lentTables (now nodes) (now classes) (now roots))
         × (now space ≡ cleared (length (now space))) × (now ends ≡ cleared 65)
         ⌝ }
     ensures space { λ r. ⌜

@@ -1,4 +1,5 @@
--- Lent tables, the counts of names, and the laws about them.
+-- Lent tables, what is asked of them, the counts of names, and the laws about them.
 pub mod Lending
+pub mod Usable
 pub mod Naming
 pub mod laws

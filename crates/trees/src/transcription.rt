@@ -18,13 +18,13 @@ ghost use lib.Dec.{T};
 ghost use lib.ListN.{length, drop, getD};
 ghost use Rattle.definitions.specs.BookLines.{isPhone};
 ghost use Rattle.definitions.specs.Faults.{answerLeft};
-ghost use Rattle.definitions.specs.ForeignTables.{tablesKnown};
 ghost use Rattle.definitions.specs.Lists.{every};
 ghost use Rattle.definitions.specs.Lookup.{isContext};
 ghost use Rattle.definitions.specs.Tables.{tablesBook};
 ghost use Rattle.definitions.specs.Transcription.{modelOf, transcription, transcribe};
 ghost use Rattle.definitions.specs.TreesGive.{contexts};
 ghost use Rattle.tables.specs.Lending.{lentTables};
+ghost use Rattle.tables.specs.Usable.{Fit};
 ghost use Rattle.trees.specs.Answers.{stateModels, transcriptOf};
 
 // The model of the leaf that a context reaches in the tree of its own phone, for a state.
@@ -37,7 +37,7 @@ fn model_of(
     state: u32,
 ) -> u32
     requires { ⌜
-        T (tablesKnown header (lentTables (now nodes) (now classes) (now roots)))
+        Fit header (lentTables (now nodes) (now classes) (now roots))
         × T (isContext header (now context)) × (1 ≤ state) × (state ≤ header .states)
         ⌝ }
     ensures { λ r. ⌜
@@ -65,7 +65,7 @@ fn models_of(
     models: &mut [u32],
 )
     requires { ⌜
-        T (tablesKnown header (lentTables (now nodes) (now classes) (now roots)))
+        Fit header (lentTables (now nodes) (now classes) (now roots))
         × T (isContext header (now context)) × (length (now models) ≡ header .states)
         ⌝ }
     ensures { λ r. ⌜
@@ -92,7 +92,7 @@ fn models_at(
     models: &mut [u32],
 )
     requires { ⌜
-        T (tablesKnown header (lentTables (now nodes) (now classes) (now roots)))
+        Fit header (lentTables (now nodes) (now classes) (now roots))
         × T (every (isPhone (header .phones)) (now sequence)) × (place < length (now sequence))
         × (length (now models) ≡ header .states)
         ⌝ }
@@ -119,7 +119,7 @@ fn all_models(
     models: &mut [u32],
 )
     requires { ⌜
-        T (tablesKnown header (lentTables (now nodes) (now classes) (now roots)))
+        Fit header (lentTables (now nodes) (now classes) (now roots))
         × T (every (isPhone (header .phones)) (now sequence))
         × (length (now sequence) * header .states ≤ length (now models))
         ⌝ }

@@ -27,7 +27,8 @@ use Rattle.matrix.specs.Shapes.{widthOf, matrixIn, HasWidth, columnsAround}
 use Rattle.matrix.specs.laws.Shapes.{root-shaped}
 use Rattle.tables.specs.Lending.{lentTables}
 use Rattle.tables.specs.laws.Records.{treeNodes}
-use Rattle.tables.specs.laws.KnownTables.{Fit, known-forward}
+use Rattle.tables.specs.Usable.{Fit}
+use Rattle.tables.specs.laws.KnownTables.{known-forward}
 use Rattle.metastates.specs.Leaves.{putLeaves, listed, NoneUsed, UsedWithin, lastNode}
 use Rattle.metastates.specs.Leaves.{leafWords, leavesFor}
 use Rattle.metastates.specs.laws.LastNodes.{last-most, last-below}

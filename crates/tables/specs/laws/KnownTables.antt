@@ -15,8 +15,7 @@ use Rattle.definitions.specs.Lists.{records}
 use Rattle.definitions.specs.BookReading.{nodeSize}
 use Rattle.definitions.specs.Tables.{Tables, nodeOf, treeNode, nodeRecords, tablesBook, askedOf, Contents}
 use Rattle.definitions.specs.Tables.{tablesContents}
-use Rattle.definitions.specs.ForeignTables.{headerKnown, nodesKnown, classTableKnown, rootTableKnown}
-use Rattle.definitions.specs.ForeignTables.{namedOnce, tablesKnown}
+use Rattle.definitions.specs.ForeignTables.{headerKnown, nodesKnown, classTableKnown, namedOnce, tablesKnown}
 use Rattle.definitions.specs.Lookup.{nodeAt}
 use Rattle.definitions.specs.laws.Records.{record-at}
 use Rattle.definitions.specs.laws.Tables.{node-of-first, tree-nodes-length}
@@ -26,11 +25,11 @@ use Rattle.definitions.specs.laws.Walks.{Forward}
 use Rattle.definitions.specs.laws.Known.{header-ranges, tables-parts, holds-padded}
 use Rattle.definitions.specs.laws.KnownBooks.{known-nodes, node-table-parts, class-table-parts, none-orphaned}
 use Rattle.definitions.specs.laws.KnownBooks.{known-stated}
-use Rattle.definitions.specs.laws.Books.{InRange}
 use Rattle.definitions.specs.laws.Sound.{Sound}
 use Rattle.definitions.specs.laws.NamedOnce.{ChildOnce, child-once}
 use Rattle.tables.specs.Lending.{lentTables}
 use Rattle.tables.specs.laws.Records.{treeNodes}
+use Rattle.tables.specs.Usable.{Fit}
 
 -- ---- the record of a node
 
@@ -94,14 +93,6 @@ module _ (header : Header) where
       (none-orphaned contents h)
 
 -- all of it, from the test for foreign tables
-pub record Fit (header : Header) (tables : Tables) : Type 0 where
-  pub header-known : T (headerKnown header)
-  pub ranges : InRange header
-  pub nodes : T (nodesKnown header 0 (nodeRecords header (tables .nodes)))
-  pub classes : header .classes ≤ length (tables .classes)
-  pub roots : T (rootTableKnown header (tables .roots))
-  pub once : ChildOnce (treeNodes header (tables .nodes))
-
 pub tables-fit : (header : Header) (tables : Tables) → T (tablesKnown header tables) → Fit header tables
 tables-fit header tables h =
     let parts = tables-parts header tables .0 h in

@@ -7,7 +7,7 @@ use borrow.Author.Needs.{needs}
 use Rattle.definitions.specs.Combinations.{Leaf}
 use Rattle.definitions.specs.Tables.{tablesBook}
 use Rattle.tables.specs.Lending.{lentTables}
-use Rattle.tables.specs.laws.KnownTables.{Fit, tables-fit}
+use Rattle.tables.specs.Usable.{Fit}
 use Rattle.tables.specs.laws.Roots.{TreeRoot, root-fits}
 use Rattle.metastates.specs.Leaves.{leavesFor}
 use Rattle.metastates.specs.laws.TreeLeaves.{Top, top-words, none-listed, TreePut, leaves-put}
@@ -20,7 +20,7 @@ entry c = c .before .before .before .before .before .before .before
 
 fit : (c : tie.Start)
     → Fit (c .args .header) (lentTables (c .args .nodes .now) (c .args .classes .now) (c .args .roots .now))
-fit c = tables-fit _ _ (c .pre .0)
+fit c = c .pre .0
 
 -- the matrix that the walk starts from
 abbrev some-state : tie.After-around → tie.Else1

@@ -6,7 +6,6 @@ use lib.ListN.{length, take}
 use lib.Seq.{length-take-le}
 use borrow.Author.Needs.{needs}
 use Rattle.definitions.specs.Lists.{cleared}
-use Rattle.tables.specs.laws.KnownTables.{tables-fit}
 use Rattle.metastates.specs.Leaves.{leafSize}
 use Rattle.metastates.specs.laws.ListingLeaves.{none-cleared}
 use Rattle.metastates.proofs.combining.choose_many.Statement.{statement}
@@ -17,7 +16,7 @@ entry c = c .before .before .before .before .before .before
 
 -- the records of the nodes fit into the lists
 fits : (c : tie.After-wide) → 8 * c .wide .result ≤ 32768
-fits c = omega (arith, c .wide .ensures, tables-fit _ _ (entry c .pre .0) .ranges .nodes-range .high)
+fits c = omega (arith, c .wide .ensures, entry c .pre .0 .ranges .nodes-range .high)
 
 -- the part of the table that is lent has a record for each node
 lent : (c : tie.After-wide) → length (take (8 * c .wide .result) (cleared 32768)) ≡ 8 * c .wide .result

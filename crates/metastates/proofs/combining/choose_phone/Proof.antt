@@ -9,7 +9,6 @@ use Rattle.definitions.specs.Matrices.{matrixWords, rootMatrix}
 use Rattle.definitions.specs.Tables.{Book, tablesBook, bookIn, tablesContents}
 use Rattle.definitions.specs.laws.Books.{InRange}
 use Rattle.tables.specs.Lending.{lentTables}
-use Rattle.tables.specs.laws.KnownTables.{tables-fit}
 use Rattle.matrix.specs.Shapes.{widthOf}
 use Rattle.matrix.specs.laws.Shapes.{root-shaped}
 use Rattle.metastates.specs.laws.Starting.{list-is, start-chosen, start-grown}
@@ -38,7 +37,7 @@ book c =
     tablesBook (a .header) (lentTables (a .nodes .now) (a .classes .now) (a .roots .now))
 
 ranges : (c : tie.Start) → InRange (c .args .header)
-ranges c = tables-fit _ _ (c .pre .0) .ranges
+ranges c = c .pre .0 .ranges
 
 half-small : (c : tie.After-wide) → c .wide .result ≤ 3
 half-small c = omega (arith, ranges (start c) .half-range .high, c .wide .ensures)

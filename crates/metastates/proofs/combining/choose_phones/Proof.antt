@@ -10,7 +10,6 @@ use Rattle.definitions.specs.Combinations.{combinationRoom}
 use Rattle.definitions.specs.Tables.{tablesBook, bookIn, tablesContents}
 use Rattle.definitions.specs.laws.Books.{InRange}
 use Rattle.tables.specs.Lending.{lentTables}
-use Rattle.tables.specs.laws.KnownTables.{tables-fit}
 use Rattle.metastates.specs.Leaves.{NoneUsed}
 use Rattle.metastates.specs.laws.Phones.{Added, added-start, added-holding, added-over, added-more}
 use Rattle.metastates.specs.laws.Phones.{added-end, noted-length, room-most}
@@ -43,7 +42,7 @@ abbrev call : tie.After-room-in Inv-loop μ-loop → tie.After-choose-phone Inv-
 call c = c .before .before .before .before .before .before .before .before .before .before .before
 
 ranges : (c : tie.Start Inv-loop μ-loop) → InRange (c .args .header)
-ranges c = tables-fit _ _ (c .pre .0) .ranges
+ranges c = c .pre .0 .ranges
 
 ends-sized : (c : tie.At-loop Inv-loop μ-loop) → length (c .loop .ends) ≡ 65
 unfolding tablesBook bookIn tablesContents

@@ -10,6 +10,7 @@ use Rattle.definitions.specs.Tables.{Tables}
 use Rattle.definitions.specs.ForeignTables.{tablesKnown}
 use Rattle.definitions.specs.laws.Tests.{held, failed}
 use Rattle.tables.specs.Lending.{lentTables}
+use Rattle.tables.specs.laws.KnownTables.{tables-fit}
 use Rattle.metastates.specs.laws.Combining.{ends-foreign, ends-over, ends-combined}
 use Rattle.metastates.proofs.combining.combine.Statement.{statement}
 use Rattle.metastates.proofs.combining.combine.Tie as tie
@@ -65,7 +66,7 @@ slice-aggregate-choose-all c = search needs
 choose-all-requires : tie.Need-choose-all-requires
 choose-all-requires c κs =
     let passed = c .before .before in
-    (rw (known passed) tt, clear (passed .before), refl)
+    (tables-fit _ _ (rw (known passed) tt), clear (passed .before), refl)
 
 room-in-requires : tie.Need-room-in-requires
 room-in-requires c κs = search needs

@@ -6,7 +6,7 @@ use lib.Seq.{length-take-le}
 use borrow.Author.Needs.{needs}
 use Rattle.definitions.specs.Lists.{_!_}
 use Rattle.tables.specs.Lending.{lentTables}
-use Rattle.tables.specs.laws.KnownTables.{Fit, tables-fit}
+use Rattle.tables.specs.Usable.{Fit}
 use Rattle.tables.specs.laws.Roots.{TreeRoot, root-fits}
 use Rattle.trees.specs.laws.Phones.{Column, column-fits}
 use Rattle.trees.specs.laws.Models.{model-reached}
@@ -16,7 +16,7 @@ use Rattle.trees.proofs.transcription.model_of.Tie as tie
 -- the tables, and the column of the context's own phone
 tables-known : (c : tie.Start)
     → Fit (c .args .header) (lentTables (c .args .nodes .now) (c .args .classes .now) (c .args .roots .now))
-tables-known c = tables-fit _ _ (c .pre .0)
+tables-known c = c .pre .0
 
 column : (c : tie.Start) → Column (c .args .header) (c .args .context .now) (c .args .header .half)
 column c = column-fits _ _ (c .pre .1) _ (omega arith)

@@ -12,14 +12,14 @@ use Rattle.definitions.specs.Tables.{tablesBook}
 use Rattle.definitions.specs.laws.Contexts.{contextAt}
 use Rattle.tables.specs.Lending.{lentTables}
 use Rattle.trees.specs.Answers.{stateModels}
-use Rattle.tables.specs.laws.KnownTables.{Fit, tables-fit}
+use Rattle.tables.specs.Usable.{Fit}
 use Rattle.trees.specs.laws.Models.{context-fits, window-inside, window-taken}
 use Rattle.trees.proofs.transcription.models_at.Statement.{statement}
 use Rattle.trees.proofs.transcription.models_at.Tie as tie
 
 tables-known : (c : tie.Start)
     → Fit (c .args .header) (lentTables (c .args .nodes .now) (c .args .classes .now) (c .args .roots .now))
-tables-known c = tables-fit _ _ (c .pre .0)
+tables-known c = c .pre .0
 
 -- the entry
 abbrev entry : tie.After-wide → tie.Start

@@ -11,6 +11,7 @@ use Rattle.definitions.specs.ForeignTables.{tablesKnown}
 use Rattle.definitions.specs.Transcription.{isUtterance}
 use Rattle.definitions.specs.laws.Tests.{held, failed}
 use Rattle.tables.specs.Lending.{lentTables}
+use Rattle.tables.specs.laws.KnownTables.{tables-fit}
 use Rattle.trees.specs.laws.Answering.{ends-foreign, ends-utterance, ends-short, ends-given, some-state}
 use Rattle.trees.specs.laws.Answering.{no-room, has-room, utterance-phones}
 use Rattle.trees.proofs.transcription.transcribe.Statement.{statement}
@@ -116,7 +117,7 @@ all-models-requires c κs =
     let a = entry (judged u) .args in
     let fits = subst (λ (n : ℕ). length (a .sequence .now) * n ≤ length (buffer (judged u)))
     (c .before .before .wide .ensures) (room (c .before)) in
-    (rw (known (u .before .before)) tt, utterance-phones _ _ (rw (spoken u) tt), fits)
+    (tables-fit _ _ (rw (known (u .before .before)) tt), utterance-phones _ _ (rw (spoken u) tt), fits)
 
 mul-t20 : tie.Need-mul-t20
 mul-t20 c =
