@@ -131,7 +131,7 @@ rootNames roots = map (λ r. r .node) roots
 
 -- the words of their table, "in R order"
 abbrev pub rootWords : List Root → List ℕ
-rootWords roots = map (λ r. r .node) roots
+rootWords roots = rootNames roots
 
 -- the nodes that a node names. "Every node is named exactly once, as a child or as a root"
 unfoldable pub childrenOf : TreeNode → List ℕ

@@ -322,7 +322,8 @@ module _ (lent : Lent) (header : Header) (contents : Contents) (s : Stated heade
       let all : 0 + length (contents .nodes) ≡ header .nodes = omega (arith, s .heads .nodes) in
       let said = says-parts (members-say (members header contents)) (nodes-say 0 (contents .nodes)) in
       roots-next lent header (s .in-range) (first ++ (qs ++ ns)) (members header contents ++ []) 0
-      (contents .roots) (rw all at (before-more (before-others header) said)) (omega (arith, s .heads .roots)) (s .roots)
+      (contents .roots) (rw all at (before-more (before-others header) said))
+      (omega (arith, s .heads .roots)) (s .roots)
 
   lines-next : allNext w [] (linesOfBook header contents)
   unfolding linesOfBook

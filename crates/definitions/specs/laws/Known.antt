@@ -21,7 +21,7 @@ use Rattle.definitions.specs.BookLines.{BookLine, bookLine, headerOf, ro
 use Rattle.definitions.specs.BookLines.{TreeNode, question, leaf, nodesOf, rootsOf, rootWords}
 use Rattle.definitions.specs.BookReading.{Lent, nodeSize, wideEnough, readBook}
 use Rattle.definitions.specs.Tables.{bookOf, phonesOfClass, classSets, nodeWords, nodeOf, nodeRecords}
-use Rattle.definitions.specs.Tables.{Tables, tablesOf, tablesLeft, bookIn, contentsOf, tablesContents}
+use Rattle.definitions.specs.Tables.{Tables, tablesOf, tablesLeft, contentsOf, tablesContents}
 use Rattle.definitions.specs.ForeignTables.{headerKnown, questionKnown, leafKnown, nodesKnown}
 use Rattle.definitions.specs.ForeignTables.{holdsOnly, nodeTableKnown, classTableKnown, rootTableKnown}
 use Rattle.definitions.specs.ForeignTables.{namedOnce, tablesKnown}
@@ -226,12 +226,12 @@ module _ (lent : Lent) (text : List ℕ) (lines : List BookLine) (e : readBook l
   known-nodes = node-table-known header (lent .nodes) (nodesOf lines) (heads .nodes) (room .nodes) (fit .nodes)
 
   known-classes : T (classTableKnown header (tables .classes))
-  unfolding classTableKnown tablesOf bookOf bookIn contentsOf
+  unfolding classTableKnown tablesOf contentsOf
   known-classes = words-known (lent .classes) (header .classes) (contentsOf lines .classes) _
       (heads .classes) (room .classes) (classes-below header (membersOf lines) (fit .members))
 
   known-roots : T (rootTableKnown header (tables .roots))
-  unfolding rootTableKnown tablesOf bookOf bookIn contentsOf
+  unfolding rootTableKnown tablesOf contentsOf
   known-roots = words-known (lent .roots) (rootCount header) (rootWords (rootsOf lines)) _
       (heads .roots) (room .roots)
       (λ root i. lt→ltb _ _ (all-in (RootFits header) 0 (rootWords (rootsOf lines)) (fit .roots) root i .1))

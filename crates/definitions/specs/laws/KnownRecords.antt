@@ -10,13 +10,11 @@ use borrow.Author.Tests.{lt-ltb, le-leb, eq-eqb}
 use Rattle.definitions.specs.declared.Header.{Header}
 use Rattle.definitions.specs.declared.Node.{Node}
 use Rattle.definitions.specs.Forms.{_‥_}
+use Rattle.definitions.specs.Tables.{askedOf}
 use Rattle.definitions.specs.ForeignTables.{questionKnown, leafKnown, nodesKnown}
 use Rattle.definitions.specs.laws.Tests.{T-and, T-three, T-or}
 use Rattle.definitions.specs.laws.Ranges.{Within}
 use Rattle.definitions.specs.laws.Accepted.{QuestionFits}
-use Rattle.definitions.specs.Lookup.{answers}
-use Rattle.definitions.specs.Tables.{askedOf}
-use Rattle.definitions.specs.BookLines.{asks}
 
 abbrev pub Question : Header → (at : ℕ) → Node → Type 0
 Question header at node =
