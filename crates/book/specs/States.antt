@@ -9,7 +9,7 @@ use Rattle.definitions.specs.declared.Fault.the-variants.{Range, Order}
 use Rattle.definitions.specs.Faults.{Test, _unless_}
 use Rattle.definitions.specs.Forms.{bookForms}
 use Rattle.definitions.specs.Lines.{Line, inFixedRanges}
-use Rattle.definitions.specs.BookLines.{BookLine, H, Q, N, L, R, bookLine, headerIn, headerOf, rootCount}
+use Rattle.definitions.specs.BookLines.{BookLine, H, Q, N, L, R, headerIn, headerOf, rootCount}
 use Rattle.definitions.specs.BookLines.{Member, membersOf, nodesOf, rootsOf, nextPlace}
 use Rattle.definitions.specs.BookReading.{Lent, withinHeader, comesBefore, bookTests}
 use Rattle.book.specs.declared.State.{State}
@@ -64,14 +64,14 @@ inOrderIn s (L node _) = eqb node (s .nodes)
 inOrderIn s (R phone state _) =
     eqb phone (s .roots / s .header .states + 1) && eqb state (s .roots % s .header .states + 1)
 
--- the tests of a line, in their order
-unfoldable pub testsIn : Lent → State → Line → List Test
-testsIn lent s line =
-    Order unless followsIn s (bookLine line)
+-- the tests of a line and of what it says, in their order
+unfoldable pub testsIn : Lent → State → Line → BookLine → List Test
+testsIn lent s line said =
+    Order unless followsIn s said
     ∷ Range unless inFixedRanges bookForms line
-    ∷ Range unless withinHeader (s .header) (bookLine line)
-    ∷ Order unless inOrderIn s (bookLine line)
-    ∷ bookTests lent (bookLine line)
+    ∷ Range unless withinHeader (s .header) said
+    ∷ Order unless inOrderIn s said
+    ∷ bookTests lent said
 
 -- not 17: whether these lines are all that the header promised
 unfoldable pub completeIn : State → Bool

@@ -26,7 +26,8 @@ bookTaken bytes = takenBy bookForms bookLine bytes
 
 -- 17 (going on), 12, then the line's tests, by the state
 abbrev pub verdictIn : Lent → State → (bytes : List ℕ) → Verdict
-verdictIn lent s bytes = verdictBy (completeIn s) bookForms (testsIn lent s) bytes
+verdictIn lent s bytes =
+    verdictBy (completeIn s) bookForms (λ line. testsIn lent s line (bookLine line)) bytes
 
 unfoldable pub stepAfter : Verdict → State → BookLine → Step
 stepAfter Passed s line = Next (nextState s line)

@@ -15,7 +15,7 @@ ghost use mathlib.Core.Path.{_≡_};
 ghost use mathlib.Core.Bool.{_&&_};
 ghost use Prim.Native.Nat.{_+_, _/_, _%_, _≤_, _<_};
 ghost use lib.Dec.{T, eqb};
-ghost use Rattle.definitions.specs.BookLines.{N, R, bookLine, headerIn};
+ghost use Rattle.definitions.specs.BookLines.{N, R, headerIn};
 ghost use Rattle.definitions.specs.BookReading.{withinHeader, childrenGreater, wideEnough};
 ghost use Rattle.lines.specs.Judging.{verdictOf};
 ghost use Rattle.lines.specs.Rows.{lineIn};
@@ -192,10 +192,10 @@ fn tables_fit(lengths: Lengths, entry: Entry) -> bool
     }
 }
 
-// The first test that fails.
+// The first test of a row and of what it says that fails.
 pub fn judge_line(s: State, lengths: Lengths, row: Row, entry: Entry) -> Verdict
-    requires { ⌜ HasStates s × Countable s × (entryLine entry ≡ bookLine (lineIn row)) ⌝ }
-    ensures { λ r. ⌜ r ≡ verdictOf (testsIn (lentOf lengths) s (lineIn row)) ⌝ }
+    requires { ⌜ HasStates s × Countable s ⌝ }
+    ensures { λ r. ⌜ r ≡ verdictOf (testsIn (lentOf lengths) s (lineIn row) (entryLine entry)) ⌝ }
 {
     if !follows(s, entry) {
         return Verdict::Failed(Fault::Order);

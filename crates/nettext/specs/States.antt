@@ -10,7 +10,7 @@ use Rattle.definitions.specs.Arcs.{Arc}
 use Rattle.definitions.specs.Faults.{Test, _unless_}
 use Rattle.definitions.specs.Forms.{networkForms}
 use Rattle.definitions.specs.Lines.{Line, inFixedRanges}
-use Rattle.definitions.specs.NetworkText.{NetworkLine, W, A, networkLine, countsInLine, countsOf, arcsOf}
+use Rattle.definitions.specs.NetworkText.{NetworkLine, W, A, countsInLine, countsOf, arcsOf}
 use Rattle.definitions.specs.NetworkText.{withinCounts, networkTests}
 use Rattle.nettext.specs.declared.State.{State}
 
@@ -45,14 +45,14 @@ unfoldable pub inOrderIn : State → NetworkLine → Bool
 inOrderIn s (W _ _ _) = true
 inOrderIn s (A a) = leb (s .last) (a .from)
 
--- the tests of a line, in their order
-unfoldable pub testsIn : (lent : ℕ) → State → Line → List Test
-testsIn lent s line =
-    Order unless followsIn s (networkLine line)
+-- the tests of a line and of what it says, in their order
+unfoldable pub testsIn : (lent : ℕ) → State → Line → NetworkLine → List Test
+testsIn lent s line said =
+    Order unless followsIn s said
     ∷ Range unless inFixedRanges networkForms line
-    ∷ Range unless withinCounts (s .counts) (networkLine line)
-    ∷ Order unless inOrderIn s (networkLine line)
-    ∷ networkTests lent (networkLine line)
+    ∷ Range unless withinCounts (s .counts) said
+    ∷ Order unless inOrderIn s said
+    ∷ networkTests lent said
 
 -- not 17: whether these lines are all that the W line promised
 unfoldable pub completeIn : State → Bool

@@ -8,7 +8,7 @@ use Rattle.definitions.specs.declared.Fault.the-variants.{Count}
 use Rattle.definitions.specs.Faults.{answered}
 use Rattle.definitions.specs.Forms.{networkForms}
 use Rattle.definitions.specs.Lists.{if_then_else_, cleared}
-use Rattle.definitions.specs.NetworkText.{NetworkLine, networkKind, readNetwork, arcsLeft}
+use Rattle.definitions.specs.NetworkText.{NetworkLine, networkLine, networkKind, readNetwork, arcsLeft}
 use Rattle.lines.specs.Judging.{verdictBy, lineTaken}
 use Rattle.lines.specs.declared.Verdict.{Verdict}
 use Rattle.lines.specs.declared.Verdict.the-variants.{Passed, Failed}
@@ -22,7 +22,8 @@ use Rattle.nettext.specs.declared.Step.the-variants.{Next, Stop}
 
 -- 17 (going on), 12, then the line's tests, by the state
 abbrev pub verdictIn : (lent : ℕ) → State → (bytes : List ℕ) → Verdict
-verdictIn lent s bytes = verdictBy (completeIn s) networkForms (testsIn lent s) bytes
+verdictIn lent s bytes =
+    verdictBy (completeIn s) networkForms (λ line. testsIn lent s line (networkLine line)) bytes
 
 unfoldable pub stepAfter : Verdict → State → NetworkLine → Step
 stepAfter Passed s line = Next (nextState s line)

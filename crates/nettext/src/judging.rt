@@ -83,10 +83,9 @@ fn table_fits(lent: usize, entry: Entry) -> bool
     }
 }
 
-// The first test that fails.
+// The first test of a row and of what it says that fails.
 pub fn judge_line(s: State, lent: usize, row: Row, entry: Entry) -> Verdict
-    requires { ⌜ entryLine entry ≡ networkLine (lineIn row) ⌝ }
-    ensures { λ r. ⌜ r ≡ verdictOf (testsIn lent s (lineIn row)) ⌝ }
+    ensures { λ r. ⌜ r ≡ verdictOf (testsIn lent s (lineIn row) (entryLine entry)) ⌝ }
 {
     if !follows(s, entry) {
         return Verdict::Failed(Fault::Order);

@@ -4,7 +4,7 @@ use mathlib.Core.Path.{_≡_, refl, sym, ap, _∙_}
 use mathlib.Core.List.{List, [], _∷_, _++_, append-nil}
 use Prim.Native.Nat.{suc, _+_, _<_}
 use native.Mathlib.Omega.{arith}
-use lib.Dec.{T, eqb, eqb→eq}
+use lib.Dec.{T, eqb→eq}
 use lib.ListN.{length, length-append}
 use Rattle.definitions.specs.Lists.{lastPasses}
 use Rattle.definitions.specs.Lines.{Line}
@@ -48,7 +48,7 @@ order-state before (L node model) = refl
 order-state before (R phone state root) = refl
 
 pub tests-state : (lent : Lent) (before : List BookLine) (line : Line)
-    → testsIn lent (stateOf before) line ≡ lineTests (bookKind lent) before line
+    → testsIn lent (stateOf before) line (bookLine line) ≡ lineTests (bookKind lent) before line
 unfolding testsIn lineTests bookKind stateOf
 tests-state lent before line = rw (follows-state before (bookLine line), order-state before (bookLine line))
 

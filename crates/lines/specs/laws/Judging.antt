@@ -2,7 +2,7 @@
 -- after it, a line with a fault is refused at its number; and so from line to line of a text.
 use mathlib.Core.Path.{_≡_, refl, sym, ap, _∙_}
 use mathlib.Core.List.{List, [], _∷_, _++_, map, map-append}
-use mathlib.Core.Bool.{Bool, true, false, _&&_}
+use mathlib.Core.Bool.{Bool, true, false, not, _&&_}
 use mathlib.Core.Option.{Option, none, some}
 use Prim.Native.Nat.{ℕ, suc, _+_, _-_, _*_, _/_, _≤_, _<_}
 use native.Mathlib.Omega.{arith}
@@ -16,11 +16,12 @@ use Rattle.definitions.specs.Forms.{Form}
 use Rattle.definitions.specs.Lines.{Line, lineOf, linesOf, wholeLines}
 use Rattle.definitions.specs.Reading as reading
 use Rattle.definitions.specs.Reading.{Kind, lineTests, lineRead, readFrom, readText}
-use Rattle.definitions.specs.laws.Tests.{by-test}
+use Rattle.definitions.specs.laws.Tests.{by-test, held, failed}
 use Rattle.definitions.specs.laws.Judging.{allPass}
 use Rattle.definitions.specs.laws.Reading as lines
 use Rattle.lines.specs.Judging.{verdictOf, verdictBy, lineTaken, lineVerdict, linesBefore, lineBytes}
 use Rattle.lines.specs.Rows.{lineIn, parsedOf}
+use Rattle.lines.specs.declared.Verdict.{Verdict}
 use Rattle.lines.specs.declared.Verdict.the-variants.{Passed, Failed}
 use Rattle.lines.specs.laws.Rows.{line-back}
 use Rattle.lines.specs.laws.Texts.{lines-at, lines-count, lines-end, lines-take}
@@ -51,6 +52,28 @@ verdict-failed at (t ∷ ts) answer fault e = go (t .passes) (λ k. verdict-fail
         → (if b then judge at ts answer else refuse (t .fault) at) ≡ refuse fault at
     go true rest k = rest k
     go false rest k = let same : t .fault ≡ fault = cc in rw same
+
+-- the verdict on a line is left to these tests: those before them held
+pub record LeftTo (verdict : Verdict) (tests : List Test) : Type 0 where
+  pub same : verdict ≡ verdictOf tests
+
+-- code puts the next of them: where it holds, the verdict is left to the others; where it fails, it gives its
+-- fault
+module _ {v : Verdict} {answer : Bool} {t : Test} {ts : List Test}
+    (left : LeftTo v (t ∷ ts)) (put : answer ≡ t .passes)
+  where
+    pub test-held : not answer ≡ false → LeftTo v ts
+    unfolding verdictOf
+    test-held h = record { same = left .same ∙ rw (held put h) }
+
+    pub test-failed : not answer ≡ true → Failed (t .fault) ≡ v
+    unfolding verdictOf
+    test-failed h = sym (left .same ∙ rw (failed put h))
+
+-- all held
+pub none-failed : {v : Verdict} → LeftTo v [] → Passed ≡ v
+unfolding verdictOf
+none-failed left = sym (left .same)
 
 -- what becomes of a line, by what its bytes are
 module _ (forms : List Form) (tests : Line → List Test) (bytes : List ℕ) {full : Bool} where

@@ -43,7 +43,7 @@ order-state before (W states metastates arcs) = refl
 order-state before (A a) = last-state (arcsOf before) (a .from)
 
 tests-state : (lent : ℕ) (before : List NetworkLine) (line : Line)
-    → testsIn lent (stateOf before) line ≡ lineTests (networkKind lent) before line
+    → testsIn lent (stateOf before) line (networkLine line) ≡ lineTests (networkKind lent) before line
 unfolding testsIn lineTests networkKind stateOf
 tests-state lent before line =
     rw (follows-state before (networkLine line), order-state before (networkLine line))

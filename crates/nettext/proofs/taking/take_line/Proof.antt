@@ -32,7 +32,7 @@ verdict : (c : tie.After-judge-line) → let a = entry (read c) .args in
 verdict c =
     let formed = not-false _ (c .before .before .before .if2 .left) in
     verdict-line _ _ _ (unfinished (read c)) (some-parsed _ (read c .parse .ensures) formed)
-    ∙ sym (c .judge-line .ensures)
+    ∙ rw (← c .before .entry-of .ensures) (sym (c .judge-line .ensures))
 
 complete-requires : tie.Need-complete-requires
 complete-requires c κs = search needs
