@@ -14,9 +14,7 @@ ghost use mathlib.Core.Path.{_≡_};
 ghost use Prim.Native.Nat.{_+_, _*_, _≤_};
 ghost use lib.ListN.{length, set, take, drop};
 ghost use Rattle.definitions.specs.Lists.{concatMap};
-ghost use Rattle.definitions.specs.Tables.{tablesBook};
-ghost use Rattle.tables.specs.Lending.{lentTables};
-ghost use Rattle.tables.specs.Usable.{Fit};
+ghost use Rattle.tables.specs.Usable.{bookWith, Fit};
 ghost use Rattle.metastates.specs.Leaves.{leafSize, listed, listedAt, NoneUsed, UsedWithin};
 ghost use Rattle.metastates.specs.Leaves.{leafWords, leavesFor, Listing};
 
@@ -75,14 +73,14 @@ pub fn list_leaves(
     list: &mut [u64],
 ) -> usize
     requires { ⌜
-        Fit header (lentTables (now nodes) (now classes) (now roots))
+        Fit header (now nodes) (now classes) (now roots)
         × (1 ≤ phone) × (phone ≤ header .phones) × (1 ≤ state)
         × (length (now table) ≡ leafSize * header .nodes) × (length (now table) ≤ length (now list))
         × NoneUsed (now table)
         ⌝ }
     ensures { λ r. ⌜
         Listing (concatMap leafWords (leavesFor
-        (tablesBook header (lentTables (now (nodes .entry)) (now (classes .entry)) (now (roots .entry))))
+        (bookWith header (now (nodes .entry)) (now (classes .entry)) (now (roots .entry)))
         phone state)) (now (table .entry)) (now (list .entry)) r (now (table .exit)) (now (list .exit))
         ⌝ }
 {

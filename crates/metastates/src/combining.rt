@@ -23,7 +23,7 @@ ghost use Rattle.definitions.specs.Combinations.{combinationSpace, combinationR
 ghost use Rattle.definitions.specs.Lists.{cleared, padded};
 ghost use Rattle.definitions.specs.Tables.{tablesBook};
 ghost use Rattle.tables.specs.Lending.{lentTables};
-ghost use Rattle.tables.specs.Usable.{Fit};
+ghost use Rattle.tables.specs.Usable.{bookWith, Fit};
 ghost use Rattle.metastates.specs.Answers.{combinedOf, endsOf, endsLeft};
 ghost use Rattle.metastates.specs.Choices.{Holding, Grown};
 ghost use Rattle.metastates.specs.Leaves.{leafSize, NoneUsed};
@@ -43,7 +43,7 @@ fn choose_phone(
     count: usize,
 ) -> usize
     requires { ⌜
-        Fit header (lentTables (now nodes) (now classes) (now roots))
+        Fit header (now nodes) (now classes) (now roots)
         × (1 ≤ phone) × (phone ≤ header .phones) × Holding (now space) count
         × (length (now table) ≡ leafSize * header .nodes) × (length (now table) ≤ length (now first))
         × (length (now table) ≤ length (now second)) × (length (now table) ≤ length (now third))
@@ -52,7 +52,7 @@ fn choose_phone(
     ensures space { λ r. ⌜
         Grown (now (space .entry)) count
         (combinationsOf
-        (tablesBook header (lentTables (now (nodes .entry)) (now (classes .entry)) (now (roots .entry)))) phone)
+        (bookWith header (now (nodes .entry)) (now (classes .entry)) (now (roots .entry))) phone)
         (now (space .exit)) r
         ⌝ }
     ensures lists { λ r. ⌜
@@ -101,7 +101,7 @@ fn choose_phones(
     ends: &mut [u32],
 ) -> usize
     requires { ⌜
-        Fit header (lentTables (now nodes) (now classes) (now roots))
+        Fit header (now nodes) (now classes) (now roots)
         × (now space ≡ cleared (length (now space))) × (now ends ≡ cleared 65)
         × (length (now table) ≡ leafSize * header .nodes) × (length (now table) ≤ length (now first))
         × (length (now table) ≤ length (now second)) × (length (now table) ≤ length (now third))
@@ -110,13 +110,13 @@ fn choose_phones(
     ensures space { λ r. ⌜
         Grown (now (space .entry)) 0
         (combinations
-        (tablesBook header (lentTables (now (nodes .entry)) (now (classes .entry)) (now (roots .entry)))))
+        (bookWith header (now (nodes .entry)) (now (classes .entry)) (now (roots .entry))))
         (now (space .exit)) r
         ⌝ }
     ensures ends { λ r. ⌜
         (r ≤ combinationRoom (length (now (space .entry)))
         → now (ends .exit) ≡ padded 65 (endsOf
-        (tablesBook header (lentTables (now (nodes .entry)) (now (classes .entry)) (now (roots .entry))))))
+        (bookWith header (now (nodes .entry)) (now (classes .entry)) (now (roots .entry)))))
         ⌝ }
 {
     let mut count = 0;
@@ -154,20 +154,20 @@ fn choose_few(
     ends: &mut [u32],
 ) -> usize
     requires { ⌜
-        Fit header (lentTables (now nodes) (now classes) (now roots))
+        Fit header (now nodes) (now classes) (now roots)
         × (now space ≡ cleared (length (now space))) × (now ends ≡ cleared 65)
         × (header .nodes ≤ 1024)
         ⌝ }
     ensures space { λ r. ⌜
         Grown (now (space .entry)) 0
         (combinations
-        (tablesBook header (lentTables (now (nodes .entry)) (now (classes .entry)) (now (roots .entry)))))
+        (bookWith header (now (nodes .entry)) (now (classes .entry)) (now (roots .entry))))
         (now (space .exit)) r
         ⌝ }
     ensures ends { λ r. ⌜
         (r ≤ combinationRoom (length (now (space .entry)))
         → now (ends .exit) ≡ padded 65 (endsOf
-        (tablesBook header (lentTables (now (nodes .entry)) (now (classes .entry)) (now (roots .entry))))))
+        (bookWith header (now (nodes .entry)) (now (classes .entry)) (now (roots .entry)))))
         ⌝ }
 {
     let mut table = [0u64; 8192];
@@ -199,19 +199,19 @@ fn choose_many(
     ends: &mut [u32],
 ) -> usize
     requires { ⌜
-        Fit header (lentTables (now nodes) (now classes) (now roots))
+        Fit header (now nodes) (now classes) (now roots)
         × (now space ≡ cleared (length (now space))) × (now ends ≡ cleared 65)
         ⌝ }
     ensures space { λ r. ⌜
         Grown (now (space .entry)) 0
         (combinations
-        (tablesBook header (lentTables (now (nodes .entry)) (now (classes .entry)) (now (roots .entry)))))
+        (bookWith header (now (nodes .entry)) (now (classes .entry)) (now (roots .entry))))
         (now (space .exit)) r
         ⌝ }
     ensures ends { λ r. ⌜
         (r ≤ combinationRoom (length (now (space .entry)))
         → now (ends .exit) ≡ padded 65 (endsOf
-        (tablesBook header (lentTables (now (nodes .entry)) (now (classes .entry)) (now (roots .entry))))))
+        (bookWith header (now (nodes .entry)) (now (classes .entry)) (now (roots .entry)))))
         ⌝ }
 {
     let mut table = [0u64; 32768];
@@ -243,19 +243,19 @@ fn choose_all(
     ends: &mut [u32],
 ) -> usize
     requires { ⌜
-        Fit header (lentTables (now nodes) (now classes) (now roots))
+        Fit header (now nodes) (now classes) (now roots)
         × (now space ≡ cleared (length (now space))) × (now ends ≡ cleared 65)
         ⌝ }
     ensures space { λ r. ⌜
         Grown (now (space .entry)) 0
         (combinations
-        (tablesBook header (lentTables (now (nodes .entry)) (now (classes .entry)) (now (roots .entry)))))
+        (bookWith header (now (nodes .entry)) (now (classes .entry)) (now (roots .entry))))
         (now (space .exit)) r
         ⌝ }
     ensures ends { λ r. ⌜
         (r ≤ combinationRoom (length (now (space .entry)))
         → now (ends .exit) ≡ padded 65 (endsOf
-        (tablesBook header (lentTables (now (nodes .entry)) (now (classes .entry)) (now (roots .entry))))))
+        (bookWith header (now (nodes .entry)) (now (classes .entry)) (now (roots .entry)))))
         ⌝ }
 {
     if header.nodes <= 1024 {

@@ -14,8 +14,8 @@ ghost use lib.Dec.{T};
 ghost use lib.ListN.{length, take, drop};
 ghost use Rattle.definitions.specs.Combinations.{leavesBelow};
 ghost use Rattle.definitions.specs.ForeignTables.{headerKnown, nodesKnown};
-ghost use Rattle.definitions.specs.Tables.{nodeRecords, tablesBook};
-ghost use Rattle.tables.specs.Lending.{lentTables};
+ghost use Rattle.definitions.specs.Tables.{nodeRecords};
+ghost use Rattle.tables.specs.Usable.{bookWith};
 ghost use Rattle.matrix.specs.Shapes.{widthOf, matrixIn, HasWidth};
 ghost use Rattle.metastates.specs.Leaves.{leafSize, putLeaves, lastNode};
 
@@ -60,12 +60,12 @@ pub fn walk(
     ensures table { λ r. ⌜
         now (table .exit)
         ≡ putLeaves (now (table .entry)) (leavesBelow (header .nodes)
-        (tablesBook header (lentTables (now (nodes .entry)) (now (classes .entry)) []))
+        (bookWith header (now (nodes .entry)) (now (classes .entry)) [])
         (matrixIn (header .half) (m .columns)) node)
         ⌝ }
     ensures last { λ r. ⌜
         r ≡ lastNode (leavesBelow (header .nodes)
-        (tablesBook header (lentTables (now (nodes .entry)) (now (classes .entry)) []))
+        (bookWith header (now (nodes .entry)) (now (classes .entry)) [])
         (matrixIn (header .half) (m .columns)) node)
         ⌝ }
 {

@@ -8,12 +8,12 @@ use Rattle.definitions.specs.declared.Header.{Header}
 use Rattle.definitions.specs.Lists.{_!_, concatMap, records}
 use Rattle.definitions.specs.PhoneSets.{has}
 use Rattle.definitions.specs.BookLines.{leaf}
-use Rattle.definitions.specs.Tables.{Book, tablesBook}
+use Rattle.definitions.specs.Tables.{Book}
 use Rattle.definitions.specs.ForeignTables.{headerKnown}
 use Rattle.definitions.specs.Lookup.{nodeAt}
 use Rattle.definitions.specs.Combinations.{Combination, combinationSize, combinationWords}
 use Rattle.definitions.specs.laws.Metastates.{numbered}
-use Rattle.tables.specs.Lending.{lentTables}
+use Rattle.tables.specs.Usable.{bookWith}
 use Rattle.matrix.specs.Shapes.{widthOf, matrixIn}
 
 -- a combination read back from its record
@@ -32,7 +32,7 @@ combinationsIn header words =
 
 -- what connecting needs of the book: its nodes, and not its classes and roots
 abbrev pub nodesBook : Header → (nodes : List ℕ) → Book
-nodesBook header nodes = tablesBook header (lentTables nodes [] [])
+nodesBook header nodes = bookWith header nodes [] []
 
 -- a combination of the book: its phone, a leaf for each state, columns that hold the book's phones, the centre
 -- none but its own

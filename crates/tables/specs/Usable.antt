@@ -1,20 +1,41 @@
--- What a function that walks the trees of lent tables asks of them: the header in its ranges, tables that are
--- wide enough, nodes and roots in range, and no node a child twice. It does not ask how often a root is named.
--- Known tables are such (`tables-fit` in laws/KnownTables.antt).
-use Prim.Native.Nat.{_≤_}
-use lib.Dec.{T}
-use lib.ListN.{length}
+-- The book that a function walks the trees of, and what it asks of the words that it is lent: the header in its
+-- ranges, tables that are wide enough, nodes and roots in range, and no node a child twice. The roots are those
+-- in force, one for each phone and state: it is not asked that they were read from R lines, nor how often they
+-- name a node. Known tables with their own roots are such (`tables-fit`, `own-book` in laws/KnownTables.antt).
+use mathlib.Core.List.{List}
+use Prim.Native.Nat.{ℕ, _≤_}
+use lib.Dec.{T, ltb}
+use lib.ListN.{length, take}
 use Rattle.definitions.specs.declared.Header.{Header}
-use Rattle.definitions.specs.Tables.{Tables, nodeRecords}
-use Rattle.definitions.specs.ForeignTables.{headerKnown, nodesKnown, rootTableKnown}
+use Rattle.definitions.specs.Lists.{every}
+use Rattle.definitions.specs.BookLines.{rootCount}
+use Rattle.definitions.specs.Tables.{Book, nodeRecords}
+use Rattle.definitions.specs.ForeignTables.{headerKnown, nodesKnown}
 use Rattle.definitions.specs.laws.Books.{InRange}
 use Rattle.definitions.specs.laws.NamedOnce.{ChildOnce}
 use Rattle.tables.specs.laws.Records.{treeNodes}
 
-pub record Fit (header : Header) (tables : Tables) : Type 0 where
+-- the book of these nodes and classes with these roots in force
+unfoldable pub bookWith : Header → (nodes classes roots : List ℕ) → Book
+bookWith header nodes classes roots =
+    record {
+      half = header .half;
+      states = header .states;
+      phones = header .phones;
+      nodes = treeNodes header nodes;
+      classes = take (header .classes) classes;
+      roots = take (rootCount header) roots;
+    }
+
+-- roots for all phones and states, each a node
+pub record RootsListed (header : Header) (roots : List ℕ) : Type 0 where
+  pub enough : rootCount header ≤ length roots
+  pub listed : T (every (λ root. ltb root (header .nodes)) (take (rootCount header) roots))
+
+pub record Fit (header : Header) (nodes classes roots : List ℕ) : Type 0 where
   pub header-known : T (headerKnown header)
   pub ranges : InRange header
-  pub nodes : T (nodesKnown header 0 (nodeRecords header (tables .nodes)))
-  pub classes : header .classes ≤ length (tables .classes)
-  pub roots : T (rootTableKnown header (tables .roots))
-  pub once : ChildOnce (treeNodes header (tables .nodes))
+  pub nodes-known : T (nodesKnown header 0 (nodeRecords header nodes))
+  pub classes-wide : header .classes ≤ length classes
+  pub roots-listed : RootsListed header roots
+  pub once : ChildOnce (treeNodes header nodes)

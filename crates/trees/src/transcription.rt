@@ -20,11 +20,10 @@ ghost use Rattle.definitions.specs.BookLines.{isPhone};
 ghost use Rattle.definitions.specs.Faults.{answerLeft};
 ghost use Rattle.definitions.specs.Lists.{every};
 ghost use Rattle.definitions.specs.Lookup.{isContext};
-ghost use Rattle.definitions.specs.Tables.{tablesBook};
 ghost use Rattle.definitions.specs.Transcription.{modelOf, transcription, transcribe};
 ghost use Rattle.definitions.specs.TreesGive.{contexts};
 ghost use Rattle.tables.specs.Lending.{lentTables};
-ghost use Rattle.tables.specs.Usable.{Fit};
+ghost use Rattle.tables.specs.Usable.{bookWith, Fit};
 ghost use Rattle.trees.specs.Answers.{stateModels, transcriptOf};
 
 // The model of the leaf that a context reaches in the tree of its own phone, for a state.
@@ -37,12 +36,12 @@ fn model_of(
     state: u32,
 ) -> u32
     requires { ⌜
-        Fit header (lentTables (now nodes) (now classes) (now roots))
+        Fit header (now nodes) (now classes) (now roots)
         × T (isContext header (now context)) × (1 ≤ state) × (state ≤ header .states)
         ⌝ }
     ensures { λ r. ⌜
         r ≡ modelOf
-        (tablesBook header (lentTables (now (nodes .entry)) (now (classes .entry)) (now (roots .entry))))
+        (bookWith header (now (nodes .entry)) (now (classes .entry)) (now (roots .entry)))
         (now (context .entry)) state
         ⌝ }
 {
@@ -65,12 +64,12 @@ fn models_of(
     models: &mut [u32],
 )
     requires { ⌜
-        Fit header (lentTables (now nodes) (now classes) (now roots))
+        Fit header (now nodes) (now classes) (now roots)
         × T (isContext header (now context)) × (length (now models) ≡ header .states)
         ⌝ }
     ensures { λ r. ⌜
         now (models .exit) ≡ stateModels
-        (tablesBook header (lentTables (now (nodes .entry)) (now (classes .entry)) (now (roots .entry))))
+        (bookWith header (now (nodes .entry)) (now (classes .entry)) (now (roots .entry)))
         (now (context .entry))
         ⌝ }
 {
@@ -92,13 +91,13 @@ fn models_at(
     models: &mut [u32],
 )
     requires { ⌜
-        Fit header (lentTables (now nodes) (now classes) (now roots))
+        Fit header (now nodes) (now classes) (now roots)
         × T (every (isPhone (header .phones)) (now sequence)) × (place < length (now sequence))
         × (length (now models) ≡ header .states)
         ⌝ }
     ensures { λ r. ⌜
         now (models .exit) ≡ stateModels
-        (tablesBook header (lentTables (now (nodes .entry)) (now (classes .entry)) (now (roots .entry))))
+        (bookWith header (now (nodes .entry)) (now (classes .entry)) (now (roots .entry)))
         (getD (contexts (header .half) (now (sequence .entry))) place [])
         ⌝ }
 {
@@ -119,13 +118,13 @@ fn all_models(
     models: &mut [u32],
 )
     requires { ⌜
-        Fit header (lentTables (now nodes) (now classes) (now roots))
+        Fit header (now nodes) (now classes) (now roots)
         × T (every (isPhone (header .phones)) (now sequence))
         × (length (now sequence) * header .states ≤ length (now models))
         ⌝ }
     ensures { λ r. ⌜
         now (models .exit) ≡ transcription
-        (tablesBook header (lentTables (now (nodes .entry)) (now (classes .entry)) (now (roots .entry))))
+        (bookWith header (now (nodes .entry)) (now (classes .entry)) (now (roots .entry)))
         (now (sequence .entry)) ++ drop (length (now (sequence .entry)) * header .states) (now (models .entry))
         ⌝ }
 {

@@ -13,7 +13,7 @@ use Rattle.definitions.specs.declared.Fault.{Fault}
 use Rattle.definitions.specs.declared.Fault.the-variants.{Foreign, Choices}
 use Rattle.definitions.specs.Faults.{refuse, judge}
 use Rattle.definitions.specs.Lists.{cleared, padded}
-use Rattle.definitions.specs.Tables.{Tables, tablesBook}
+use Rattle.definitions.specs.Tables.{Tables, Book, tablesBook}
 use Rattle.definitions.specs.ForeignTables.{tablesKnown}
 use Rattle.definitions.specs.Combinations.{Combination, combinations, combinationRoom, combinationSpace}
 use Rattle.definitions.specs.Combinations.{combine}
@@ -45,12 +45,12 @@ module _ (header : Header) (tables : Tables) (size : ℕ) (answer : Combined) (e
   unfolding combine judge
   ends-foreign h a l = ends-refused Foreign (rw h) a l
 
-  module _ (h : tablesKnown header tables ≡ true) {before after : List ℕ} {total room : ℕ}
-      (s : length before ≡ size) (g : Grown before 0 (combinations (tablesBook header tables)) after total)
-      (r : room ≡ combinationRoom (length after))
+  module _ (h : tablesKnown header tables ≡ true) (book : Book) (own : tablesBook header tables ≡ book)
+      {before after : List ℕ} {total room : ℕ} (s : length before ≡ size)
+      (g : Grown before 0 (combinations book) after total) (r : room ≡ combinationRoom (length after))
     where
       abbrev found : List Combination
-      found = combinations (tablesBook header tables)
+      found = combinations book
 
       room-is : room ≡ combinationRoom (length before)
       room-is = r ∙ ap combinationRoom (g .sized)
@@ -60,10 +60,10 @@ module _ (header : Header) (tables : Tables) (size : ℕ) (answer : Combined) (e
       ends-over over a l =
           let more = counted-beyond g (omega (arith, room-is)) in
           let full : leb (length found) (combinationRoom size) ≡ false = rw (← s) (lt-leb _ _ more) in
-          ends-refused Choices (rw (h, full)) a l
+          ends-refused Choices (rw (h, own, full)) a l
 
       pub ends-combined : total ≤ room → answer ≡ combined.Combinations total
-          → (total ≤ combinationRoom (length before) → ends ≡ padded 65 (endsOf (tablesBook header tables)))
+          → (total ≤ combinationRoom (length before) → ends ≡ padded 65 (endsOf book))
           → left ≡ after → Ends
       unfolding combine judge combinedOf endsLeft combinationSpace
       ends-combined fits a n l =
@@ -71,4 +71,4 @@ module _ (header : Header) (tables : Tables) (size : ℕ) (answer : Combined) (e
           let all : total ≡ length found = counted-all g few in
           let held : leb (length found) (combinationRoom size) ≡ true =
           rw (← s) (le-leb (length found) (combinationRoom (length before)) (omega arith)) in
-          rw (h, held) (a ∙ rw all, (n few, l ∙ g .held few ∙ rw s))
+          rw (h, own, held) (a ∙ rw all, (n few, l ∙ g .held few ∙ rw s))

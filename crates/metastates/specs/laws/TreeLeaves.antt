@@ -11,11 +11,11 @@ use borrow.Author.Tests.{le-leb, lt-leb}
 use Rattle.definitions.specs.declared.Header.{Header}
 use Rattle.definitions.specs.Lists.{if_then_else_, _!_, concatMap}
 use Rattle.definitions.specs.BookLines.{rootCount}
-use Rattle.definitions.specs.Tables.{Book, Tables, tablesBook}
+use Rattle.definitions.specs.Tables.{Book, rootOf}
 use Rattle.definitions.specs.PhoneSets.{alone, allPhones}
 use Rattle.definitions.specs.Matrices.{Matrix, matrixSize, matrixWords, rootMatrix}
-use Rattle.definitions.specs.Tables.{rootOf, bookIn, tablesContents}
 use Rattle.definitions.specs.Combinations.{Leaf, leavesBelow, ascending, leavesOf, onYes, onNo}
+use Rattle.definitions.specs.laws.Books.{InRange}
 use Rattle.definitions.specs.laws.Members.{isIn, distinct, of-append, of-single, of-map}
 use Rattle.definitions.specs.laws.Walks.{Forward, by-node}
 use Rattle.definitions.specs.laws.Leaves.{below-leaf, below-question}
@@ -25,9 +25,8 @@ use Rattle.definitions.specs.laws.NamedOnce.{leaves-once}
 use Rattle.definitions.specs.laws.Ascending.{leafNodes, nodes-below}
 use Rattle.matrix.specs.Shapes.{widthOf, matrixIn, HasWidth, columnsAround}
 use Rattle.matrix.specs.laws.Shapes.{root-shaped}
-use Rattle.tables.specs.Lending.{lentTables}
 use Rattle.tables.specs.laws.Records.{treeNodes}
-use Rattle.tables.specs.Usable.{Fit}
+use Rattle.tables.specs.Usable.{bookWith, Fit}
 use Rattle.tables.specs.laws.KnownTables.{known-forward}
 use Rattle.metastates.specs.Leaves.{putLeaves, listed, NoneUsed, UsedWithin, lastNode}
 use Rattle.metastates.specs.Leaves.{leafWords, leavesFor}
@@ -105,26 +104,26 @@ pub record Top (header : Header) (phone : ℕ) (columns : List ℕ) : Type 0 whe
   pub words : HasWidth (widthOf (header .half)) columns
   pub taken : matrixIn (header .half) columns ≡ rootMatrix (header .half) (header .phones) phone
 
-pub top-words : (header : Header) (tables : Tables) → Fit header tables → (phone : ℕ) → phone ≤ header .phones
+pub top-words : (header : Header) → InRange header → (phone : ℕ) → phone ≤ header .phones
     → (all one : ℕ) (columns : List ℕ) → all ≡ allPhones (min (header .phones) 64)
     → one ≡ (if leb phone 64 then alone phone else 0)
     → columns ≡ take matrixSize (matrixWords (columnsAround (header .half) all one all))
     → Top header phone columns
-top-words header tables fit phone h all one columns e f g =
+top-words header ranges phone h all one columns e f g =
     let half : ℕ = header .half in
     let top : Matrix = rootMatrix half (header .phones) phone in
     let own : columns ≡ matrixWords top =
-    root-shaped half (header .phones) phone (fit .ranges .half-range .high) (fit .ranges .phones-range .high) h
+    root-shaped half (header .phones) phone (ranges .half-range .high) (ranges .phones-range .high) h
     e f g in
     let width : length top ≡ widthOf half = root-length half (header .phones) phone ∙ omega arith in
     record { words = has-width top width own; taken = matrix-back top width own }
 
 -- ---- the leaves of a phone's tree for a state
 
-pub none-listed : (header : Header) (tables : Tables) (phone state : ℕ) → header .states < state
-    → [] ≡ concatMap leafWords (leavesFor (tablesBook header tables) phone state)
-unfolding leavesFor concatMap tablesBook bookIn tablesContents
-none-listed header tables phone state h = rw (lt-leb state (header .states) h)
+pub none-listed : (book : Book) (phone state : ℕ) → book .states < state
+    → [] ≡ concatMap leafWords (leavesFor book phone state)
+unfolding leavesFor concatMap
+none-listed book phone state h = rw (lt-leb state (book .states) h)
 
 -- a table whose used records are some leaves ascending, all from one node to another
 pub record TreePut (header : Header) (leaves : List Leaf) (first last : ℕ) (table : List ℕ) : Type 0 where
@@ -133,16 +132,16 @@ pub record TreePut (header : Header) (leaves : List Leaf) (first last : ℕ) (ta
   pub holds : listed table ≡ concatMap leafWords leaves
 
 module _ (header : Header) (nodes classes roots : List ℕ)
-    (fit : Fit header (lentTables nodes classes roots)) (phone state : ℕ) (few : state ≤ header .states)
+    (fit : Fit header nodes classes roots) (phone state : ℕ) (few : state ≤ header .states)
     (root : ℕ)
     (own : root ≡ take (rootCount header) roots ! ((phone - 1) * header .states + (state - 1)))
     (inside : root < header .nodes) (columns : List ℕ) (top : Top header phone columns)
   where
     abbrev book : Book
-    book = tablesBook header (lentTables nodes classes roots)
+    book = bookWith header nodes classes roots
 
     abbrev bare : Book
-    bare = tablesBook header (lentTables nodes classes [])
+    bare = bookWith header nodes classes []
 
     abbrev matrix : Matrix
     matrix = matrixIn (header .half) columns
@@ -151,10 +150,10 @@ module _ (header : Header) (nodes classes roots : List ℕ)
     found = leavesBelow (header .nodes) bare matrix root
 
     forward : Forward (treeNodes header nodes)
-    forward = known-forward header nodes (fit .nodes)
+    forward = known-forward header nodes (fit .nodes-known)
 
     found-fit : AllInTable (header .nodes) found
-    unfolding tablesBook bookIn tablesContents
+    unfolding bookWith
     found-fit =
         let count = tree-nodes-length header nodes in
         let narrow : length matrix ≤ 7 =
@@ -166,13 +165,13 @@ module _ (header : Header) (nodes classes roots : List ℕ)
         rw count at (below-in-table bare forward (header .nodes) matrix root (omega arith) narrow)
 
     found-apart : distinct (leafNodes found)
-    unfolding tablesBook bookIn tablesContents
+    unfolding bookWith
     found-apart =
         subst distinct (sym (nodes-below (header .nodes) bare matrix root))
         (leaves-once (treeNodes header nodes) forward (fit .once) (header .nodes) root)
 
     found-are : ascending found ≡ leavesFor book phone state
-    unfolding leavesFor leavesOf rootOf tablesBook bookIn tablesContents
+    unfolding leavesFor leavesOf rootOf bookWith
     found-are =
         let count = tree-nodes-length header nodes in
         rw (le-leb state (header .states) few, top .taken, count, ← own)
@@ -181,12 +180,12 @@ module _ (header : Header) (nodes classes roots : List ℕ)
     -- put into a table in which no record was used
     pub leaves-put : (empty table : List ℕ) → Sized (header .nodes) empty → NoneUsed empty
         → table ≡ putLeaves empty (leavesBelow (header .nodes)
-        (tablesBook header (lentTables nodes classes [])) (matrixIn (header .half) columns) root)
+        (bookWith header nodes classes []) (matrixIn (header .half) columns) root)
         → {last : ℕ} → last ≡ lastNode (leavesBelow (header .nodes)
-        (tablesBook header (lentTables nodes classes [])) (matrixIn (header .half) columns) root)
-        → TreePut header (leavesFor (tablesBook header (lentTables nodes classes roots)) phone state) root last
+        (bookWith header nodes classes []) (matrixIn (header .half) columns) root)
+        → TreePut header (leavesFor (bookWith header nodes classes roots) phone state) root last
         table
-    unfolding tablesBook bookIn tablesContents
+    unfolding bookWith
     leaves-put empty table sized none put e = record {
       inside = rw e (last-below (header .nodes) (omega arith) found (λ l i. found-fit l i .listed));
       within = λ n t.

@@ -13,8 +13,7 @@ use Rattle.definitions.specs.declared.Header.{Header}
 use Rattle.definitions.specs.declared.Node.{Node}
 use Rattle.definitions.specs.Lists.{_!_}
 use Rattle.definitions.specs.BookReading.{nodeSize}
-use Rattle.definitions.specs.Tables.{Book, nodeOf, treeNode, nodeRecords, tablesBook, askedOf, bookIn}
-use Rattle.definitions.specs.Tables.{tablesContents}
+use Rattle.definitions.specs.Tables.{Book, nodeOf, treeNode, nodeRecords, askedOf}
 use Rattle.definitions.specs.ForeignTables.{headerKnown, nodesKnown}
 use Rattle.definitions.specs.Matrices.{Matrix, matrixWords, yesSide, noSide}
 use Rattle.definitions.specs.Combinations.{Leaf, leavesBelow, onYes, onNo}
@@ -24,7 +23,7 @@ use Rattle.definitions.specs.laws.Matrices.{yes-length, no-length}
 use Rattle.definitions.specs.laws.SevenWords.{words-yes, words-no}
 use Rattle.definitions.specs.laws.Tables.{tree-nodes-length}
 use Rattle.definitions.specs.laws.Known.{header-ranges}
-use Rattle.tables.specs.Lending.{lentTables}
+use Rattle.tables.specs.Usable.{bookWith}
 use Rattle.tables.specs.laws.KnownTables.{node-is, question-fits, known-forward}
 use Rattle.matrix.specs.Shapes.{widthOf, matrixIn, HasWidth}
 use Rattle.matrix.specs.laws.Widths.{matrix-back, has-width, width-taken}
@@ -84,7 +83,7 @@ half-narrow header h = omega (arith, header-ranges header h .half-range .high)
 
 module _ (header : Header) (nodes classes : List ℕ) where
   abbrev book : Book
-  book = tablesBook header (lentTables nodes classes [])
+  book = bookWith header nodes classes []
 
   abbrev leaves : Matrix → ℕ → List Leaf
   leaves m node = leavesBelow (header .nodes) book m node
@@ -96,7 +95,7 @@ module _ (header : Header) (nodes classes : List ℕ) where
       some-level = omega arith
 
       leaf-below : (m : Matrix) → (x .kind ≡ 1 → ⊥) → leaves m node ≡ record { node = node; matrix = m } ∷ []
-      unfolding treeNode tablesBook bookIn tablesContents
+      unfolding treeNode bookWith
       leaf-below m other =
           ap (λ (n : ℕ). leavesBelow n book m node) some-level
           ∙ below-leaf book (header .nodes - 1) m node (x .value)
@@ -105,7 +104,7 @@ module _ (header : Header) (nodes classes : List ℕ) where
       sides-below : (m : Matrix) → x .kind ≡ 1 → leaves m node
           ≡ leaves (yesSide (x .position) (classes ! (x .value - 1)) m) (x .yes)
           ++ leaves (noSide (x .position) (classes ! (x .value - 1)) m) (x .no)
-      unfolding treeNode tablesBook bookIn tablesContents
+      unfolding treeNode bookWith
       sides-below m kind =
           let fits = question-fits header nodes known node listed x own kind in
           let less : ℕ = header .nodes - 1 in

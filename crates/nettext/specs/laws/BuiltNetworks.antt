@@ -31,7 +31,7 @@ known-leaf : (header : Header) (tables : Tables) → T (tablesKnown header table
 unfolding tablesBook bookIn tablesContents
 known-leaf header tables known =
     leaf-fitting header (tablesBook header tables .nodes)
-    (known-nodes header 0 (nodeRecords header (tables .nodes)) (tables-fit header tables known .nodes))
+    (known-nodes header 0 (nodeRecords header (tables .nodes)) (tables-fit header tables known .nodes-known))
 
 module _ (header : Header) (tables : Tables) (space : Space) (limit : ℕ) (built : Built)
     (answers : build header tables space limit ≡ answered built)

@@ -7,12 +7,13 @@ use lib.ListN.{length, take, drop}
 use Rattle.definitions.specs.declared.Header.{Header}
 use Rattle.definitions.specs.Lists.{_!_}
 use Rattle.definitions.specs.BookReading.{nodeSize}
-use Rattle.definitions.specs.Tables.{nodeOf, tablesBook, bookIn, tablesContents}
+use Rattle.definitions.specs.Tables.{nodeOf}
 use Rattle.definitions.specs.Combinations.{combinationSize}
 use Rattle.definitions.specs.Metastates.{Metastate, phoneOf, combinationOf, modelsOf}
 use Rattle.definitions.specs.Arcs.{arcSize, arcWords, firstState}
 use Rattle.definitions.specs.Connecting.{arcInto}
 use Rattle.definitions.specs.laws.Known.{header-ranges}
+use Rattle.tables.specs.Usable.{bookWith}
 use Rattle.lines.specs.Putting.{putAt}
 use Rattle.network.specs.Combinations.{combinationsIn, nodesBook, Usable, Modelled}
 use Rattle.network.specs.Steps.{intoArc}
@@ -32,7 +33,7 @@ module _ (header : Header) (words : List ℕ) (usable : Usable header words) (nu
       (g : phone ≡ words ! (combinationSize * number)) where
     into-words : from ∷ (2 + place * states) ∷ model ∷ phone ∷ []
         ≡ arcWords (intoArc header nodes words from number place)
-    unfolding arcInto arcWords firstState tablesBook bookIn tablesContents phoneOf combinationOf
+    unfolding arcInto arcWords firstState bookWith phoneOf combinationOf
     into-words =
         let first : model ≡ modelsOf (nodesBook header nodes) (combinationsIn header words) itself ! 0 =
         f

@@ -10,11 +10,11 @@ use Rattle.definitions.specs.Lists.{records}
 use Rattle.definitions.specs.PhoneSets.{allPhones}
 use Rattle.definitions.specs.Arcs.{arcsIn}
 use Rattle.definitions.specs.Matrices.{Matrix, matrixSize, matrixWords}
-use Rattle.definitions.specs.Tables.{tablesBook, bookIn, tablesContents}
 use Rattle.definitions.specs.Combinations.{Combination}
 use Rattle.definitions.specs.Metastates.{Metastate, starts, followersFrom}
 use Rattle.definitions.specs.Connecting.{Network, startEvents, noNetwork, performAll}
 use Rattle.definitions.specs.laws.Known.{header-ranges}
+use Rattle.tables.specs.Usable.{bookWith}
 use Rattle.matrix.specs.laws.Shapes.{around-length, around-words}
 use Rattle.network.specs.declared.Sizes.{Sizes}
 use Rattle.network.specs.declared.Step.{Step}
@@ -72,7 +72,7 @@ module _ {header : Header} {combinations : List ℕ} (usable : Usable header com
         (performAll (nodesBook header nodes) cs (roomOf metastates arcs) noNetwork
         (startEvents (nodesBook header nodes) cs))
         answer metastates′ arcs′ chains′
-    unfolding startEvents starts tablesBook bookIn tablesContents metastatesIn arcsIn records
+    unfolding startEvents starts bookWith metastatesIn arcsIn records
     started nodes {metastates} {arcs} {metastates′} {arcs′} {chains′} {answer} left =
         subst (λ (l : List Metastate).
         AfterStep (header .half) (length cs) metastates arcs

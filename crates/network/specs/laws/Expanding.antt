@@ -15,7 +15,7 @@ use Rattle.definitions.specs.Lists.{_!_}
 use Rattle.definitions.specs.PhoneSets.{allPhones}
 use Rattle.definitions.specs.Arcs.{Arc, arcSize, lastState}
 use Rattle.definitions.specs.Matrices.{matrixWords, shift}
-use Rattle.definitions.specs.Tables.{Book, tablesBook, bookIn, tablesContents}
+use Rattle.definitions.specs.Tables.{Book}
 use Rattle.definitions.specs.Combinations.{Combination}
 use Rattle.definitions.specs.Metastates.{Metastate, metastateSize, followersFrom, followers}
 use Rattle.definitions.specs.Building.{roomIn}
@@ -31,6 +31,7 @@ use Rattle.matrix.specs.laws.Words.{firstSeven, seven-there}
 use Rattle.matrix.specs.laws.Shapes.{shift-words}
 use Rattle.matrix.specs.laws.Widths.{matrix-back, has-width}
 use Rattle.definitions.specs.laws.Known.{header-ranges}
+use Rattle.tables.specs.Usable.{bookWith}
 use Rattle.network.specs.declared.Sizes.{Sizes}
 use Rattle.network.specs.declared.Arcs.{Arcs}
 use Rattle.network.specs.declared.Step.{Step}
@@ -177,7 +178,7 @@ module _ {header : Header} {nodes combinations metastates arcs chains : List ℕ
               → expand book cs room place net
               ≡ andThen (performAll book cs room net (map plain added))
               (λ next. performAll book cs room next onward)
-          unfolding expand turnEvents followers tablesBook bookIn tablesContents
+          unfolding expand turnEvents followers bookWith
           turn-is room =
               ap (λ (l : List Event). performAll book cs room net (l ++ onward))
               (sym (map-append plain (ownOf header nodes combinations place x) (finalArcs book cs place x)))

@@ -15,6 +15,7 @@ use Rattle.definitions.specs.Connecting.{Network, Event, plain, enter, finalArc
 use Rattle.definitions.specs.Connecting.{arcInto, Room, Built, noMetastate, noNetwork, perform, performAll}
 use Rattle.definitions.specs.Connecting.{expand, turnsFrom, connect, finished}
 use Rattle.tables.specs.Lending.{lentTables}
+use Rattle.tables.specs.Usable.{bookWith}
 use Rattle.network.specs.Combinations.{nodesBook}
 
 -- the same step, and the same from each answer on
@@ -30,16 +31,16 @@ module _ (header : Header) (nodes classes roots : List ℕ) (cs : List Combinati
   bare = nodesBook header nodes
 
   start-nodes : startEvents whole cs ≡ startEvents bare cs
-  unfolding startEvents starts tablesBook bookIn tablesContents
+  unfolding startEvents starts tablesBook bookIn tablesContents bookWith
   start-nodes = refl
 
   turn-nodes : (place : ℕ) (q : Metastate) → turnEvents whole cs place q ≡ turnEvents bare cs place q
-  unfolding turnEvents modelsOf finalArcs mayEnd followers tablesBook bookIn tablesContents
+  unfolding turnEvents modelsOf finalArcs mayEnd followers tablesBook bookIn tablesContents bookWith
   turn-nodes place q = refl
 
   perform-nodes : (net : Network) (event : Event)
       → perform whole cs room net event ≡ perform bare cs room net event
-  unfolding perform arcInto modelsOf tablesBook bookIn tablesContents
+  unfolding perform arcInto modelsOf tablesBook bookIn tablesContents bookWith
   perform-nodes net (plain a) = refl
   perform-nodes net (enter from x) = refl
 

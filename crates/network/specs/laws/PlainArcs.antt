@@ -13,11 +13,11 @@ use Rattle.definitions.specs.Lists.{_!_}
 use Rattle.definitions.specs.Arcs.{Arc, arc, firstState, lastState}
 use Rattle.definitions.specs.Combinations.{combinationSize}
 use Rattle.definitions.specs.Matrices.{endsHere}
-use Rattle.definitions.specs.Tables.{tablesBook, bookIn, tablesContents}
 use Rattle.definitions.specs.Metastates.{Metastate, combinationOf, phoneOf, modelsOf, mayEnd}
 use Rattle.definitions.specs.Connecting.{finalArcs}
 use Rattle.definitions.specs.laws.Tests.{by-test, held, failed}
 use Rattle.definitions.specs.laws.Known.{header-ranges}
+use Rattle.tables.specs.Usable.{bookWith}
 use Rattle.network.specs.declared.Arcs.{Arcs}
 use Rattle.network.specs.Combinations.{combinationsIn, nodesBook, Usable, Modelled}
 use Rattle.network.specs.Steps.{AreArcs, ownOf, plainOf}
@@ -53,7 +53,7 @@ module _ (header : Header) (nodes combinations : List ℕ) (usable : Usable head
     -- silence that may not stand to the right
     pub plain-inside : {answer : Bool} {new : Arcs} → answer ≡ endsHere (header .half) (x .matrix)
         → not answer ≡ true → Own new → Plain new
-    unfolding mayEnd tablesBook bookIn tablesContents
+    unfolding mayEnd bookWith
     plain-inside e n own =
         let silent : Bool = eqb (phoneOf (combinationsIn header combinations) x) 1 in
         no-final (rw (failed e n) (and-false silent)) own
@@ -64,7 +64,7 @@ module _ (header : Header) (nodes combinations : List ℕ) (usable : Usable head
         → answer ≡ endsHere (header .half) (x .matrix) → not answer ≡ false
         → last ≡ lastState (header .states) place → Own new
         → ((arcs : List Arc) → AreArcs new arcs → AreArcs more (arcs ++ (arc last 1 0 0 ∷ []))) → Plain more
-    unfolding mayEnd tablesBook bookIn tablesContents finalArcs modelsOf combinationOf
+    unfolding mayEnd bookWith finalArcs modelsOf combinationOf
     plain-final {more = more} e one a n s own grows =
         let ends : mayEnd (nodesBook header nodes) (combinationsIn header combinations) x ≡ true =
         rw (eq-eqb _ 1 (sym (phone-is e) ∙ one), held a n) in

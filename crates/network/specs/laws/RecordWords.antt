@@ -15,7 +15,7 @@ use Rattle.definitions.specs.Lists.{if_then_else_, _!_, concatMap, records, pad
 use Rattle.definitions.specs.BookLines.{question, leaf}
 use Rattle.definitions.specs.BookReading.{nodeSize}
 use Rattle.definitions.specs.Matrices.{matrixSize, matrixWords}
-use Rattle.definitions.specs.Tables.{nodeOf, treeNode, tablesBook, askedOf, bookIn, tablesContents}
+use Rattle.definitions.specs.Tables.{nodeOf, treeNode, askedOf}
 use Rattle.definitions.specs.Lookup.{modelAt}
 use Rattle.definitions.specs.Combinations.{Combination, combinationSize, combinationWords}
 use Rattle.definitions.specs.Metastates.{Metastate, noCombination, combinationOf, modelsOf}
@@ -23,6 +23,7 @@ use Rattle.definitions.specs.laws.Books.{InRange}
 use Rattle.definitions.specs.laws.Lists.{concatMap-map, padded-length, map-at, drop-take}
 use Rattle.definitions.specs.laws.Records.{records-length, record-at, record-again}
 use Rattle.definitions.specs.laws.SevenWords.{padded-column, words-length}
+use Rattle.tables.specs.Usable.{bookWith}
 use Rattle.tables.specs.laws.KnownTables.{node-is}
 use Rattle.matrix.specs.Shapes.{matrixIn}
 use Rattle.definitions.specs.laws.Walks.{model-at}
@@ -170,7 +171,7 @@ module _ (header : Header) (words : List ℕ) where
           pub model-word : (state : ℕ) → state < header .states
               → nodeOf (drop (nodeSize * (here .leaves ! state)) nodes) .value
               ≡ modelsOf (nodesBook header nodes) (combinationsIn header words) x ! state
-          unfolding modelsOf combinationOf tablesBook bookIn tablesContents
+          unfolding modelsOf combinationOf bookWith
           model-word state k =
               let at : ℕ = here .leaves ! state in
               let (inside, (model, is)) = modelled number state h k in

@@ -17,7 +17,7 @@ use Rattle.definitions.specs.Lists.{_!_, concatMap, padded, same}
 use Rattle.definitions.specs.PhoneSets.{allPhones}
 use Rattle.definitions.specs.Arcs.{Arc, arcSize, arcWords, lastState}
 use Rattle.definitions.specs.Matrices.{shift}
-use Rattle.definitions.specs.Tables.{Book, tablesBook, bookIn, tablesContents}
+use Rattle.definitions.specs.Tables.{Book}
 use Rattle.definitions.specs.Combinations.{Combination}
 use Rattle.definitions.specs.Metastates.{Metastate, metastateSize, followersFrom, followers}
 use Rattle.definitions.specs.Building.{roomIn}
@@ -28,6 +28,7 @@ use Rattle.definitions.specs.laws.Members.{isIn}
 use Rattle.definitions.specs.laws.Judging.{refused-not-answered}
 use Rattle.definitions.specs.laws.Lists.{padded-length, same-lists}
 use Rattle.definitions.specs.laws.Records.{flat-length, arc-sized}
+use Rattle.tables.specs.Usable.{bookWith}
 use Rattle.matrix.specs.Shapes.{matrixIn, shiftedWords}
 use Rattle.matrix.specs.laws.Words.{firstSeven}
 use Rattle.network.specs.declared.Sizes.{Sizes}
@@ -139,7 +140,7 @@ module _ {header : Header} {nodes words metastates arcs chains spans : List ℕ}
     same-followers : (other : ℕ)
         → shift (header .phones) (getD (net .metastates) other noMetastate .matrix) ≡ matrixIn (header .half) columns
         → followersAt book cs net other ≡ xs
-    unfolding followers tablesBook bookIn tablesContents
+    unfolding followers bookWith
     same-followers other e = ap (λ (m : List ℕ). followersFrom m 0 cs) e
 
     own-followers : followersAt book cs net place ≡ xs
@@ -159,7 +160,7 @@ module _ {header : Header} {nodes words metastates arcs chains spans : List ℕ}
         → SpannedAfter header nodes words outcome
         (set (set (set spans (spanSize * slot) (place + 1)) (spanSize * slot + 1) (sizes .arcs)) (spanSize * slot + 2)
         (next .arcs))
-    unfolding stepOf tablesBook bookIn tablesContents
+    unfolding stepOf bookWith
     spans-after slot {next} h a now e =
         let sized : step.Next next ≡ step.Next (sizesOf now) = a ∙ ap stepOf e in
         let same : next ≡ sizesOf now = cc in
@@ -246,7 +247,7 @@ module _ {header : Header} {nodes words metastates arcs chains spans : List ℕ}
         copies = copiedArcs (sizes .arcs) first end from arcs
 
         copies-are : copies ≡ arcsTo book cs (net .metastates) from xs
-        unfolding tablesBook bookIn tablesContents
+        unfolding bookWith
         copies-are =
             ap (map (leavingFrom from))
             (ap (λ (n : ℕ). take n (drop first (net .arcs))) (many ∙ sym (ap length followers-are)) ∙ span .arcs)

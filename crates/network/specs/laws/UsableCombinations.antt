@@ -27,6 +27,7 @@ use Rattle.definitions.specs.laws.Tables.{tree-nodes-length}
 use Rattle.definitions.specs.demand.Chosen.{Chosen, chosen-at}
 use Rattle.metastates.specs.Answers.{endsOf}
 use Rattle.tables.specs.Lending.{lentTables}
+use Rattle.tables.specs.Usable.{bookWith}
 use Rattle.definitions.specs.laws.Known.{header-ranges}
 use Rattle.matrix.specs.Shapes.{matrixIn}
 use Rattle.tables.specs.laws.KnownTables.{known-header, known-sound}
@@ -151,7 +152,7 @@ module _ (header : Header) (nodes classes roots : List ℕ)
 
   leaves-in : (number state : ℕ) → number < length found → state < header .states
       → LeafIn (numbered found number .leaves ! state)
-  unfolding tablesBook bookIn tablesContents
+  unfolding tablesBook bookIn tablesContents bookWith
   leaves-in number state h k =
       let c = chosen number h in
       let leaves : List ℕ = numbered found number .leaves in

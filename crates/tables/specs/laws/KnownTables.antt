@@ -3,7 +3,7 @@
 -- a question has its class, its position and its children in range, so children are greater nodes of the book;
 -- and no node is a child twice. So they hold a sound book, and what is shown of sound books holds of every book
 -- that an entry is lent, whatever left its tables.
-use mathlib.Core.Path.{_≡_, sym, ap, _∙_}
+use mathlib.Core.Path.{_≡_, refl, sym, ap, _∙_}
 use mathlib.Core.List.{List, [], map}
 use Prim.Native.Nat.{ℕ, _*_, _≤_, _<_}
 use lib.Dec.{T}
@@ -12,10 +12,12 @@ use borrow.Author.Tests.{eq-eqb}
 use Rattle.definitions.specs.declared.Header.{Header}
 use Rattle.definitions.specs.declared.Node.{Node}
 use Rattle.definitions.specs.Lists.{records}
+use Rattle.definitions.specs.BookLines.{rootCount}
 use Rattle.definitions.specs.BookReading.{nodeSize}
 use Rattle.definitions.specs.Tables.{Tables, nodeOf, treeNode, nodeRecords, tablesBook, askedOf, Contents}
-use Rattle.definitions.specs.Tables.{tablesContents}
-use Rattle.definitions.specs.ForeignTables.{headerKnown, nodesKnown, classTableKnown, namedOnce, tablesKnown}
+use Rattle.definitions.specs.Tables.{tablesContents, bookIn}
+use Rattle.definitions.specs.ForeignTables.{headerKnown, nodesKnown, classTableKnown, rootTableKnown, namedOnce}
+use Rattle.definitions.specs.ForeignTables.{tablesKnown}
 use Rattle.definitions.specs.Lookup.{nodeAt}
 use Rattle.definitions.specs.laws.Records.{record-at}
 use Rattle.definitions.specs.laws.Tables.{node-of-first, tree-nodes-length}
@@ -23,13 +25,13 @@ use Rattle.definitions.specs.laws.Accepted.{allFrom, NodeFits, QuestionFits, qu
 use Rattle.definitions.specs.laws.Accepted.{fitting-forward, fitting-sound}
 use Rattle.definitions.specs.laws.Walks.{Forward}
 use Rattle.definitions.specs.laws.Known.{header-ranges, tables-parts, holds-padded}
-use Rattle.definitions.specs.laws.KnownBooks.{known-nodes, node-table-parts, class-table-parts, none-orphaned}
-use Rattle.definitions.specs.laws.KnownBooks.{known-stated}
+use Rattle.definitions.specs.laws.KnownBooks.{known-nodes, node-table-parts, class-table-parts, root-table-parts}
+use Rattle.definitions.specs.laws.KnownBooks.{none-orphaned, known-stated}
 use Rattle.definitions.specs.laws.Sound.{Sound}
 use Rattle.definitions.specs.laws.NamedOnce.{ChildOnce, child-once}
 use Rattle.tables.specs.Lending.{lentTables}
 use Rattle.tables.specs.laws.Records.{treeNodes}
-use Rattle.tables.specs.Usable.{Fit}
+use Rattle.tables.specs.Usable.{bookWith, RootsListed, Fit}
 
 -- ---- the record of a node
 
@@ -84,6 +86,11 @@ module _ (header : Header) where
   classes-wide : (words : List ℕ) → T (classTableKnown header words) → header .classes ≤ length words
   classes-wide words h = holds-padded (header .classes) words (class-table-parts header words h .0) .0
 
+  roots-listed : (words : List ℕ) → T (rootTableKnown header words) → RootsListed header words
+  roots-listed words h =
+      let (words-held, below-nodes) = root-table-parts header words h in
+      record { enough = holds-padded (rootCount header) words words-held .0; listed = below-nodes }
+
   children-once : (tables : Tables) → T (nodesKnown header 0 (nodeRecords header (tables .nodes)))
       → T (namedOnce (tablesContents header tables)) → ChildOnce (treeNodes header (tables .nodes))
   unfolding tablesContents
@@ -93,20 +100,27 @@ module _ (header : Header) where
       (none-orphaned contents h)
 
 -- all of it, from the test for foreign tables
-pub tables-fit : (header : Header) (tables : Tables) → T (tablesKnown header tables) → Fit header tables
+pub tables-fit : (header : Header) (tables : Tables) → T (tablesKnown header tables)
+    → Fit header (tables .nodes) (tables .classes) (tables .roots)
 tables-fit header tables h =
     let parts = tables-parts header tables .0 h in
     let (_, known) = node-table-parts header (tables .nodes) (parts .nodes) in
     record {
       header-known = parts .own;
       ranges = header-ranges header (parts .own);
-      nodes = known;
-      classes = classes-wide header (tables .classes) (parts .classes);
-      roots = parts .roots;
+      nodes-known = known;
+      classes-wide = classes-wide header (tables .classes) (parts .classes);
+      roots-listed = roots-listed header (tables .roots) (parts .roots);
       once = children-once header tables known (parts .once);
     }
 
 -- ---- the book
+
+-- the roots in force are those of the table
+pub own-book : (header : Header) (tables : Tables)
+    → tablesBook header tables ≡ bookWith header (tables .nodes) (tables .classes) (tables .roots)
+unfolding tablesBook bookIn tablesContents bookWith
+own-book header tables = refl
 
 module _ (header : Header) (nodes classes roots : List ℕ)
     (known : T (tablesKnown header (lentTables nodes classes roots))) where

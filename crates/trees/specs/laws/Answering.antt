@@ -17,7 +17,7 @@ use Rattle.definitions.specs.Faults.{refuse, judge, answerLeft}
 use Rattle.definitions.specs.Lists.{every, cleared, padded}
 use Rattle.definitions.specs.BookLines.{isPhone}
 use Rattle.definitions.specs.BookReading.{nodeSize}
-use Rattle.definitions.specs.Tables.{Tables, treeNode, nodeRecords, tablesBook, bookIn, tablesContents}
+use Rattle.definitions.specs.Tables.{Tables, Book, treeNode, nodeRecords, tablesBook, bookIn, tablesContents}
 use Rattle.definitions.specs.ForeignTables.{headerKnown, nodesKnown, holdsOnly, classTableKnown, tablesKnown}
 use Rattle.definitions.specs.Lookup.{leafReached, lookupKnown, isContext, leafLookup, leafLookupInTable}
 use Rattle.definitions.specs.TreesGive.{silentEnds}
@@ -157,14 +157,15 @@ module _ (header : Header) (tables : Tables) (S : List ℕ) (size : ℕ) (answer
       ends-utterance u a l = ends-refused Utterance (rw (h, u)) a l
 
       module _ (u : isUtterance (header .phones) S ≡ true) (states words : ℕ) (e : states ≡ header .states)
-          (w : words ≡ size)
+          (w : words ≡ size) (book : Book) (own : tablesBook header tables ≡ book)
         where
           abbrev models : List ℕ
-          models = transcription (tablesBook header tables) S
+          models = transcription book S
 
           own-length : length models ≡ length S * header .states
           unfolding tablesBook bookIn tablesContents
-          own-length = transcription-length (tablesBook header tables) S
+          own-length =
+              transcription-length book S ∙ ap (λ (b : Book). length S * b .states) (sym own)
 
           models-length : length models ≡ length S * states
           models-length = own-length ∙ ap (λ (n : ℕ). length S * n) (sym e)
@@ -175,7 +176,7 @@ module _ (header : Header) (tables : Tables) (S : List ℕ) (size : ℕ) (answer
           ends-short r a l =
               let full : leb (length models) size ≡ false =
               lt-leb (length models) size (omega (arith, models-length)) in
-              ends-refused Short (rw (h, u, full)) a l
+              ends-refused Short (rw (h, u, own, full)) a l
 
           pub ends-given : length S * states ≤ words → answer ≡ transcript.Models (length S * states)
               → (d : List ℕ) → d ≡ cleared size → left ≡ models ++ drop (length S * header .states) d → Ends
@@ -185,4 +186,4 @@ module _ (header : Header) (tables : Tables) (S : List ℕ) (size : ℕ) (answer
               le-leb (length models) size (omega (arith, models-length)) in
               let rest : drop (length S * header .states) d ≡ cleared (size - length models) =
               rw (k, own-length) (drop-cleared (length S * header .states) size) in
-              rw (h, u, fits) (a ∙ rw models-length, l ∙ ap (λ (m : List ℕ). models ++ m) rest)
+              rw (h, u, own, fits) (a ∙ rw models-length, l ∙ ap (λ (m : List ℕ). models ++ m) rest)

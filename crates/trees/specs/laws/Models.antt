@@ -14,9 +14,9 @@ use Rattle.definitions.specs.declared.Node.{Node}
 use Rattle.definitions.specs.Lists.{_!_, every, concatMap}
 use Rattle.definitions.specs.BookLines.{TreeNode, rootCount, isPhone}
 use Rattle.definitions.specs.BookReading.{nodeSize}
-use Rattle.definitions.specs.Tables.{Book, nodeOf, tablesBook}
+use Rattle.definitions.specs.Tables.{Book, nodeOf}
 use Rattle.definitions.specs.Lookup.{leafReached, modelAt, isContext}
-use Rattle.definitions.specs.Tables.{rootOf, bookIn, tablesContents}
+use Rattle.definitions.specs.Tables.{rootOf}
 use Rattle.definitions.specs.TreesGive.{withSilence, contexts}
 use Rattle.definitions.specs.Transcription.{modelOf, transcription}
 use Rattle.definitions.specs.laws.Tests.{T-and, eq→eqb}
@@ -24,7 +24,7 @@ use Rattle.definitions.specs.laws.Lists.{map-upFrom-length, map-upFrom-at, ever
 use Rattle.definitions.specs.laws.Records.{flat-length}
 use Rattle.definitions.specs.laws.Contexts.{contextAt, contexts-length, context-length, context-window}
 use Rattle.definitions.specs.laws.Contexts.{around-phones}
-use Rattle.tables.specs.Lending.{lentTables}
+use Rattle.tables.specs.Usable.{bookWith}
 use Rattle.trees.specs.Answers.{stateModels}
 use Rattle.tables.specs.laws.Records.{treeNodes}
 use Rattle.trees.specs.laws.Walking.{model-is}
@@ -37,8 +37,8 @@ pub model-reached : (header : Header) (nodes classes roots context : List ℕ)
     → (leaf ≡ leafReached (treeNodes header nodes) (take count classes) context root) × (leaf < header .nodes)
     × (nodeOf (drop (nodeSize * leaf) nodes) .kind ≡ 1 → ⊥)
     → x ≡ nodeOf (drop (nodeSize * leaf) nodes)
-    → x .value ≡ modelOf (tablesBook header (lentTables nodes classes roots)) context state
-unfolding modelOf tablesBook bookIn tablesContents rootOf
+    → x .value ≡ modelOf (bookWith header nodes classes roots) context state
+unfolding modelOf bookWith rootOf
 model-reached header nodes classes roots context state root count leaf x r n w own =
     let tree : List TreeNode = treeNodes header nodes in
     ap (λ (x : Node). x .value) own ∙ sym (model-is header nodes leaf (w .1) (w .2))

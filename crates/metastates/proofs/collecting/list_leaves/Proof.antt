@@ -5,9 +5,7 @@ use mathlib.Core.List.{List}
 use native.Mathlib.Omega.{arith}
 use borrow.Author.Needs.{needs}
 use Rattle.definitions.specs.Combinations.{Leaf}
-use Rattle.definitions.specs.Tables.{tablesBook}
-use Rattle.tables.specs.Lending.{lentTables}
-use Rattle.tables.specs.Usable.{Fit}
+use Rattle.tables.specs.Usable.{bookWith, Fit}
 use Rattle.tables.specs.laws.Roots.{TreeRoot, root-fits}
 use Rattle.metastates.specs.Leaves.{leavesFor}
 use Rattle.metastates.specs.laws.TreeLeaves.{Top, top-words, none-listed, TreePut, leaves-put}
@@ -19,7 +17,7 @@ abbrev entry : tie.Else1 → tie.Start
 entry c = c .before .before .before .before .before .before .before
 
 fit : (c : tie.Start)
-    → Fit (c .args .header) (lentTables (c .args .nodes .now) (c .args .classes .now) (c .args .roots .now))
+    → Fit (c .args .header) (c .args .nodes .now) (c .args .classes .now) (c .args .roots .now)
 fit c = c .pre .0
 
 -- the matrix that the walk starts from
@@ -30,7 +28,7 @@ top : (c : tie.After-around)
     → Top (entry (some-state c) .args .header) (entry (some-state c) .args .phone) (c .around .result .columns)
 top c =
     let start = entry (some-state c) in
-    top-words (start .args .header) _ (fit start) (start .args .phone) (start .pre .2)
+    top-words (start .args .header) (fit start .ranges) (start .args .phone) (start .pre .2)
     (c .before .before .all-phones .result) (c .before .alone .result) (c .around .result .columns)
     (c .before .before .all-phones .ensures) (c .before .alone .ensures) (c .around .ensures)
 
@@ -43,14 +41,14 @@ root c =
     let asks = some-state (c .before) in
     let start = entry asks in
     let p = start .pre in
-    root-fits (start .args .header) (start .args .roots .now) (fit start .roots) (p .1) (p .2) (p .3)
+    root-fits (start .args .header) (start .args .roots .now) (fit start .roots-listed) (p .1) (p .2) (p .3)
     (asks .if1 .left) (c .root-of .ensures)
 
 -- the table after the walk
 abbrev tree : tie.Start → List Leaf
 tree c =
     let a = c .args in
-    leavesFor (tablesBook (a .header) (lentTables (a .nodes .now) (a .classes .now) (a .roots .now))) (a .phone)
+    leavesFor (bookWith (a .header) (a .nodes .now) (a .classes .now) (a .roots .now)) (a .phone)
     (a .state)
 
 put : (c : tie.After-walk)
@@ -69,12 +67,13 @@ put c =
     (start .pre .4) (start .pre .6) (c .walk .ensures .0) (c .walk .ensures .1)
 
 returns : tie.Need-returns
+unfolding bookWith
 returns c =
     let start = c .before .before .before .before .before .before .before in
     let a = start .args in
     record {
       room = omega arith;
-      holds = none-listed (a .header) _ (a .phone) (a .state) (c .if1 .taken);
+      holds = none-listed _ (a .phone) (a .state) (c .if1 .taken);
       listSized = refl;
       tableSized = refl;
       none = start .pre .6;
@@ -97,8 +96,8 @@ walk-requires c κs =
     let around = c .before .before in
     let start = entry (some-state around) in (
       fit start .header-known,
-      fit start .nodes,
-      fit start .classes,
+      fit start .nodes-known,
+      fit start .classes-wide,
       root (c .before) .listed,
       top around .words,
       start .pre .4,

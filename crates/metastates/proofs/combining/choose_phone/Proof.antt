@@ -6,9 +6,9 @@ use native.Mathlib.Omega.{arith}
 use lib.Seq.{length-take-le}
 use borrow.Author.Needs.{needs}
 use Rattle.definitions.specs.Matrices.{matrixWords, rootMatrix}
-use Rattle.definitions.specs.Tables.{Book, tablesBook, bookIn, tablesContents}
+use Rattle.definitions.specs.Tables.{Book}
 use Rattle.definitions.specs.laws.Books.{InRange}
-use Rattle.tables.specs.Lending.{lentTables}
+use Rattle.tables.specs.Usable.{bookWith}
 use Rattle.matrix.specs.Shapes.{widthOf}
 use Rattle.matrix.specs.laws.Shapes.{root-shaped}
 use Rattle.metastates.specs.laws.Starting.{list-is, start-chosen, start-grown}
@@ -34,7 +34,7 @@ start c = entry (one (two (three c)))
 abbrev book : tie.Start → Book
 book c =
     let a = c .args in
-    tablesBook (a .header) (lentTables (a .nodes .now) (a .classes .now) (a .roots .now))
+    bookWith (a .header) (a .nodes .now) (a .classes .now) (a .roots .now)
 
 ranges : (c : tie.Start) → InRange (c .args .header)
 ranges c = c .pre .0 .ranges
@@ -43,13 +43,13 @@ half-small : (c : tie.After-wide) → c .wide .result ≤ 3
 half-small c = omega (arith, ranges (start c) .half-range .high, c .wide .ensures)
 
 width-is : (c : tie.After-wide) → 2 * c .wide .result + 1 ≡ widthOf (book (start c) .half)
-unfolding tablesBook bookIn tablesContents
+unfolding bookWith
 width-is c = omega (arith, c .wide .ensures)
 
 top-is : (c : tie.After-wide)
     → c .before .around .result .columns
     ≡ matrixWords (rootMatrix (book (start c) .half) (book (start c) .phones) (start c .args .phone))
-unfolding tablesBook bookIn tablesContents
+unfolding bookWith
 top-is c =
     let r = ranges (start c) in
     let p = start c .pre in
@@ -130,7 +130,7 @@ slice-aggregate-choose-3 c =
     sym (length-take-le _ _ (three (c .before .before .before) .list-leaves3 .ensures .room))
 
 choose-requires : tie.Need-choose-requires
-unfolding tablesBook bookIn tablesContents
+unfolding bookWith
 choose-requires c κs =
     let wide = c .before .before .before .before in
     let r = ranges (start wide) in
@@ -169,7 +169,7 @@ same-length-5 : tie.Need-same-length-5
 same-length-5 c = search needs
 
 returns : tie.Need-returns
-unfolding tablesBook bookIn tablesContents
+unfolding bookWith
 returns c =
     let wide = c .before .before .before .before .before .before .before in
     let r = ranges (start wide) in

@@ -7,9 +7,8 @@ use native.Mathlib.Omega.{arith}
 use lib.ListN.{length}
 use borrow.Author.Needs.{needs}
 use Rattle.definitions.specs.Combinations.{combinationRoom}
-use Rattle.definitions.specs.Tables.{tablesBook, bookIn, tablesContents}
 use Rattle.definitions.specs.laws.Books.{InRange}
-use Rattle.tables.specs.Lending.{lentTables}
+use Rattle.tables.specs.Usable.{bookWith}
 use Rattle.metastates.specs.Leaves.{NoneUsed}
 use Rattle.metastates.specs.laws.Phones.{Added, added-start, added-holding, added-over, added-more}
 use Rattle.metastates.specs.laws.Phones.{added-end, noted-length, room-most}
@@ -19,7 +18,7 @@ use Rattle.metastates.proofs.combining.choose_phones.Tie as tie
 abbrev Inv-loop : tie.InvT-loop
 Inv-loop header nodes classes roots table₀ first₀ second₀ third₀ space₀ ends₀ count₀ phone₀ table first second
     third space ends count phone =
-    Added (tablesBook header (lentTables nodes classes roots)) space₀ phone space ends count
+    Added (bookWith header nodes classes roots) space₀ phone space ends count
     × (length table ≡ length table₀) × (length first ≡ length first₀) × (length second ≡ length second₀)
     × (length third ≡ length third₀) × NoneUsed table
 
@@ -45,7 +44,7 @@ ranges : (c : tie.Start Inv-loop μ-loop) → InRange (c .args .header)
 ranges c = c .pre .0 .ranges
 
 ends-sized : (c : tie.At-loop Inv-loop μ-loop) → length (c .loop .ends) ≡ 65
-unfolding tablesBook bookIn tablesContents
+unfolding bookWith
 ends-sized c = noted-length (c .loop .inv .0) (ranges (entry c) .phones-range .high)
 
 loop-holds : tie.Need-loop-holds Inv-loop μ-loop
@@ -54,7 +53,7 @@ loop-holds c =
     (added-start _ _ _ (p .1) (p .2), refl, refl, refl, refl, p .7)
 
 choose-phone-requires : tie.Need-choose-phone-requires Inv-loop μ-loop
-unfolding tablesBook bookIn tablesContents
+unfolding bookWith
 choose-phone-requires c κs =
     let turn = c .before .before .before .before .before in
     let p = entry (loop-of turn) .pre in
@@ -95,7 +94,7 @@ same-length-6 c =
     ends-sized loop ∙ sym (ap length (entry loop .pre .2))
 
 returns : tie.Need-returns Inv-loop μ-loop
-unfolding tablesBook bookIn tablesContents
+unfolding bookWith
 returns c =
     let room = c .before .room-in .ensures in
     let add = call (c .before) in
@@ -130,7 +129,7 @@ loop-less : tie.Need-loop-less Inv-loop μ-loop
 loop-less c = search needs
 
 loop-again : tie.Need-loop-again Inv-loop μ-loop
-unfolding tablesBook bookIn tablesContents
+unfolding bookWith
 loop-again c =
     let add = call (c .before .before) in
     let loop = loop-of (turn add) in
@@ -169,7 +168,7 @@ same-length-12 c =
     ends-sized loop ∙ sym (ap length (entry loop .pre .2))
 
 returns-2 : tie.Need-returns-2 Inv-loop μ-loop
-unfolding tablesBook bookIn tablesContents
+unfolding bookWith
 returns-2 c =
     let l = c .before .before .loop .inv .0 in
     let (grown, noted) = added-end l (c .if1 .left) in

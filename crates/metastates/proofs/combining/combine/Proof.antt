@@ -10,7 +10,7 @@ use Rattle.definitions.specs.Tables.{Tables}
 use Rattle.definitions.specs.ForeignTables.{tablesKnown}
 use Rattle.definitions.specs.laws.Tests.{held, failed}
 use Rattle.tables.specs.Lending.{lentTables}
-use Rattle.tables.specs.laws.KnownTables.{tables-fit}
+use Rattle.tables.specs.laws.KnownTables.{tables-fit, own-book}
 use Rattle.metastates.specs.laws.Combining.{ends-foreign, ends-over, ends-combined}
 use Rattle.metastates.proofs.combining.combine.Statement.{statement}
 use Rattle.metastates.proofs.combining.combine.Tie as tie
@@ -87,7 +87,7 @@ returns-2 c =
     let all = call room .choose-all in
     let q = passed (call room) .before in
     ends-over (entry q .args .header) (tables (entry q)) (length (entry q .args .space .now)) _ _ _
-    (known (passed (call room))) (sized q) (all .ensures .0) (room .room-in .ensures) (full .if2 .taken)
+    (known (passed (call room))) _ (own-book _ _) (sized q) (all .ensures .0) (room .room-in .ensures) (full .if2 .taken)
     (c .refuse2 .ensures)
     (c .before .before .before .clear-wide-words2 .ensures ∙ ap cleared (all .ensures .0 .sized ∙ sized q))
 
@@ -100,7 +100,7 @@ returns-3 c =
     let all = call room .choose-all in
     let q = passed (call room) .before in
     ends-combined (entry q .args .header) (tables (entry q)) (length (entry q .args .space .now)) _ _ _
-    (known (passed (call room))) (sized q) (all .ensures .0) (room .room-in .ensures) (c .if2 .left)
+    (known (passed (call room))) _ (own-book _ _) (sized q) (all .ensures .0) (room .room-in .ensures) (c .if2 .left)
     refl (all .ensures .1) refl
 
 pub combine-spec : {M : Type 1} → statement M

@@ -4,15 +4,15 @@ use Prim.Native.Nat.{ℕ, _+_, _-_, _*_, _≤_}
 use native.Mathlib.Omega.{arith}
 use lib.ListN.{length}
 use borrow.Author.Needs.{needs}
-use Rattle.definitions.specs.Tables.{Book, tablesBook, bookIn, tablesContents}
-use Rattle.tables.specs.Lending.{lentTables}
+use Rattle.definitions.specs.Tables.{Book}
+use Rattle.tables.specs.Usable.{bookWith}
 use Rattle.trees.specs.laws.Models.{Placed, placed-start, room, placed-more, placed-end}
 use Rattle.trees.proofs.transcription.all_models.Statement.{statement}
 use Rattle.trees.proofs.transcription.all_models.Tie as tie
 
 abbrev Inv-loop : tie.InvT-loop
 Inv-loop header nodes classes roots sequence models₀ states place₀ models place =
-    Placed (tablesBook header (lentTables nodes classes roots)) sequence models₀ place models
+    Placed (bookWith header nodes classes roots) sequence models₀ place models
 
 abbrev μ-loop : tie.MeasureT-loop
 μ-loop header nodes classes roots sequence models₀ states place₀ models place = length sequence - place
@@ -24,13 +24,13 @@ entry c = c .before .before .before .before .before .before
 abbrev book : tie.Start Inv-loop μ-loop → Book
 book c =
     let a = c .args in
-    tablesBook (a .header) (lentTables (a .nodes .now) (a .classes .now) (a .roots .now))
+    bookWith (a .header) (a .nodes .now) (a .classes .now) (a .roots .now)
 
 -- the room of the place
 fits : (c : tie.In-loop Inv-loop μ-loop)
     → c .before .loop .place * c .before .before .wide .result + c .before .before .wide .result
     ≤ length (entry (c .before .before) .args .models .now)
-unfolding tablesBook bookIn tablesContents
+unfolding bookWith
 fits c =
     let start = entry (c .before .before) in
     room (book start) (start .args .sequence .now) (start .args .models .now) (start .pre .2) _ _
@@ -73,7 +73,7 @@ loop-less : tie.Need-loop-less Inv-loop μ-loop
 loop-less c = search needs
 
 loop-again : tie.Need-loop-again Inv-loop μ-loop
-unfolding tablesBook bookIn tablesContents
+unfolding bookWith
 loop-again c =
     let turn = c .before .before .before .before in
     let wide = turn .before .before in
@@ -88,7 +88,7 @@ same-length : tie.Need-same-length Inv-loop μ-loop
 same-length c = search needs
 
 returns : tie.Need-returns Inv-loop μ-loop
-unfolding tablesBook bookIn tablesContents
+unfolding bookWith
 returns c = placed-end _ _ _ _ _ (c .before .loop .inv) (c .loop-test .left)
 
 pub all-models-spec : {M : Type 1} → statement M

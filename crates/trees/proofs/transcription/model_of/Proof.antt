@@ -5,7 +5,6 @@ use native.Mathlib.Omega.{arith}
 use lib.Seq.{length-take-le}
 use borrow.Author.Needs.{needs}
 use Rattle.definitions.specs.Lists.{_!_}
-use Rattle.tables.specs.Lending.{lentTables}
 use Rattle.tables.specs.Usable.{Fit}
 use Rattle.tables.specs.laws.Roots.{TreeRoot, root-fits}
 use Rattle.trees.specs.laws.Phones.{Column, column-fits}
@@ -14,9 +13,9 @@ use Rattle.trees.proofs.transcription.model_of.Statement.{statement}
 use Rattle.trees.proofs.transcription.model_of.Tie as tie
 
 -- the tables, and the column of the context's own phone
-tables-known : (c : tie.Start)
-    → Fit (c .args .header) (lentTables (c .args .nodes .now) (c .args .classes .now) (c .args .roots .now))
-tables-known c = c .pre .0
+fit : (c : tie.Start)
+    → Fit (c .args .header) (c .args .nodes .now) (c .args .classes .now) (c .args .roots .now)
+fit c = c .pre .0
 
 column : (c : tie.Start) → Column (c .args .header) (c .args .context .now) (c .args .header .half)
 column c = column-fits _ _ (c .pre .1) _ (omega arith)
@@ -32,7 +31,7 @@ root c =
     let a = entry c .args in
     let p = entry c .pre in
     let phone = column (entry c) in
-    root-fits (a .header) (a .roots .now) (tables-known (entry c) .roots) (phone .low) (phone .high) (p .2) (p .3)
+    root-fits (a .header) (a .roots .now) (fit (entry c) .roots-listed) (phone .low) (phone .high) (p .2) (p .3)
     (c .root-of .ensures
     ∙ ap (λ (i : ℕ). a .roots .now ! ((a .context .now ! i - 1) * a .header .states + (a .state - 1)))
     (c .before .before .wide .ensures))
@@ -58,12 +57,12 @@ slice-aggregate-walk : tie.Need-slice-aggregate-walk
 slice-aggregate-walk c =
     let start = entry (c .before .before) in
     sym (length-take-le (c .before .wide2 .result) (start .args .classes .now)
-    (omega (arith, tables-known start .classes, c .before .wide2 .ensures)))
+    (omega (arith, fit start .classes-wide, c .before .wide2 .ensures)))
 
 walk-requires : tie.Need-walk-requires
 walk-requires c κs =
     let rooted = c .before .before in
-    (tables-known (entry rooted) .nodes, root rooted .listed)
+    (fit (entry rooted) .nodes-known, root rooted .listed)
 
 node-at-requires : tie.Need-node-at-requires
 node-at-requires c κs = search needs

@@ -8,25 +8,23 @@ use lib.Seq.{length-take-le}
 use lib.ListN.{length, take}
 use borrow.Author.Needs.{needs}
 use Rattle.definitions.specs.Lookup.{isContext}
-use Rattle.definitions.specs.Tables.{tablesBook}
 use Rattle.definitions.specs.laws.Contexts.{contextAt}
-use Rattle.tables.specs.Lending.{lentTables}
 use Rattle.trees.specs.Answers.{stateModels}
-use Rattle.tables.specs.Usable.{Fit}
+use Rattle.tables.specs.Usable.{bookWith, Fit}
 use Rattle.trees.specs.laws.Models.{context-fits, window-inside, window-taken}
 use Rattle.trees.proofs.transcription.models_at.Statement.{statement}
 use Rattle.trees.proofs.transcription.models_at.Tie as tie
 
-tables-known : (c : tie.Start)
-    → Fit (c .args .header) (lentTables (c .args .nodes .now) (c .args .classes .now) (c .args .roots .now))
-tables-known c = c .pre .0
+fit : (c : tie.Start)
+    → Fit (c .args .header) (c .args .nodes .now) (c .args .classes .now) (c .args .roots .now)
+fit c = c .pre .0
 
 -- the entry
 abbrev entry : tie.After-wide → tie.Start
 entry c = c .before .before .before .before .before .before
 
 half-small : (c : tie.After-wide) → c .wide .result ≤ 3
-half-small c = omega (arith, tables-known (entry c) .ranges .half-range .high, c .wide .ensures)
+half-small c = omega (arith, fit (entry c) .ranges .half-range .high, c .wide .ensures)
 
 -- the front of the window, filled with the context
 abbrev filled : tie.After-fill-context → List ℕ
@@ -83,7 +81,7 @@ models-of-requires c κs =
     let filling = c .before .before .before in
     let start = entry (filling .before .before) in
     let fits = context-fits (start .args .header) (start .args .sequence .now) (start .args .place)
-    (start .pre .2) (tables-known start .ranges .phones-range .low) (start .pre .1) in (
+    (start .pre .2) (fit start .ranges .phones-range .low) (start .pre .1) in (
       start .pre .0,
       subst (λ (l : List ℕ). T (isContext (start .args .header) l)) (sym (taken filling _)) fits,
       start .pre .3,
@@ -96,7 +94,7 @@ returns : tie.Need-returns
 returns c =
     let filling = c .before .before .before .before .before .before in
     let a = entry (filling .before .before) .args in
-    let book = tablesBook (a .header) (lentTables (a .nodes .now) (a .classes .now) (a .roots .now)) in
+    let book = bookWith (a .header) (a .nodes .now) (a .classes .now) (a .roots .now) in
     c .before .before .models-of .ensures ∙ ap (stateModels book) (taken filling _)
 
 pub models-at-spec : {M : Type 1} → statement M

@@ -6,8 +6,7 @@ use Prim.Native.Nat.{ℕ, _-_, _<_}
 use native.Mathlib.Omega.{arith}
 use lib.ListN.{length}
 use borrow.Author.Needs.{needs}
-use Rattle.definitions.specs.Tables.{tablesBook, bookIn, tablesContents}
-use Rattle.tables.specs.Lending.{lentTables}
+use Rattle.tables.specs.Usable.{bookWith}
 use Rattle.trees.specs.Answers.{stateModels}
 use Rattle.lines.specs.laws.Filling.{Filled, filled-start, filled-more, filled-end}
 use Rattle.trees.specs.laws.Models.{states-length, state-at}
@@ -16,7 +15,7 @@ use Rattle.trees.proofs.transcription.models_of.Tie as tie
 
 abbrev Inv-loop : tie.InvT-loop
 Inv-loop header nodes classes roots context models₀ state₀ models state =
-    Filled (stateModels (tablesBook header (lentTables nodes classes roots)) context) models₀ state models
+    Filled (stateModels (bookWith header nodes classes roots) context) models₀ state models
 
 abbrev μ-loop : tie.MeasureT-loop
 μ-loop header nodes classes roots context models₀ state₀ models state = header .states - state
@@ -28,11 +27,11 @@ entry c = c .before .before .before .before .before .before
 abbrev target : tie.Start Inv-loop μ-loop → List ℕ
 target c =
     let a = c .args in
-    stateModels (tablesBook (a .header) (lentTables (a .nodes .now) (a .classes .now) (a .roots .now)))
+    stateModels (bookWith (a .header) (a .nodes .now) (a .classes .now) (a .roots .now))
     (a .context .now)
 
 as-many : (c : tie.Start Inv-loop μ-loop) → length (target c) ≡ length (c .args .models .now)
-unfolding tablesBook bookIn tablesContents
+unfolding bookWith
 as-many c = states-length _ _ ∙ sym (c .pre .2)
 
 -- a word for each state
@@ -69,7 +68,7 @@ loop-less : tie.Need-loop-less Inv-loop μ-loop
 loop-less c = search needs
 
 loop-again : tie.Need-loop-again Inv-loop μ-loop
-unfolding tablesBook bookIn tablesContents
+unfolding bookWith
 loop-again c =
     let turn = c .before .before in
     let head = turn .before .before in

@@ -11,7 +11,7 @@ use Rattle.definitions.specs.ForeignTables.{tablesKnown}
 use Rattle.definitions.specs.Transcription.{isUtterance}
 use Rattle.definitions.specs.laws.Tests.{held, failed}
 use Rattle.tables.specs.Lending.{lentTables}
-use Rattle.tables.specs.laws.KnownTables.{tables-fit}
+use Rattle.tables.specs.laws.KnownTables.{tables-fit, own-book}
 use Rattle.trees.specs.laws.Answering.{ends-foreign, ends-utterance, ends-short, ends-given, some-state}
 use Rattle.trees.specs.laws.Answering.{no-room, has-room, utterance-phones}
 use Rattle.trees.proofs.transcription.transcribe.Statement.{statement}
@@ -107,7 +107,7 @@ returns-3 c =
     let n : ℕ = length (words .last .0) in
     ends-short (a .header) (tables (entry (judged u))) (a .sequence .now) (length (a .models .now))
     (c .refuse3 .result) (words .last .0) (known (u .before .before)) (spoken u) _ n
-    (c .before .before .wide .ensures) (words .kept .0)
+    (c .before .before .wide .ensures) (words .kept .0) _ (own-book _ _)
     (no-room (length (a .sequence .now)) n _ (some (c .before .before)) (c .before .if3 .taken))
     (c .refuse3 .ensures) (words .ensures)
 
@@ -136,7 +136,7 @@ returns-4 c =
     let all = c .before .before .all-models in
     ends-given (a .header) (tables (entry (judged u))) (a .sequence .now) (length (a .models .now)) _
     (all .last .1 .1 .1 .1 .1 .0) (known (u .before .before)) (spoken u) _ (length (words .last .0))
-    (c .before .before .before .before .before .wide .ensures) (words .kept .0)
+    (c .before .before .before .before .before .wide .ensures) (words .kept .0) _ (own-book _ _)
     (room (c .before .before .before .before)) refl (words .last .0) (words .ensures) (all .ensures)
 
 pub transcribe-spec : {M : Type 1} → statement M
