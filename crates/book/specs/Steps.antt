@@ -43,14 +43,14 @@ whereTaken (Next s) before after = after
 whereTaken (Stop fault) before after = before
 
 -- the number of a node's line in a text
-abbrev pub lineOfNode : (text : List ℕ) → (node : ℕ) → ℕ
-lineOfNode text node = lineWhere (isLineOf node) 1 (map bookTaken (linesOf text))
+abbrev pub lineNumberOf : (text : List ℕ) → (node : ℕ) → ℕ
+lineNumberOf text node = lineWhere (isLineOf node) 1 (map bookTaken (linesOf text))
 
 -- after the last line: 17 (ending early), then 16 at the lowest such node's line
 unfoldable pub finishOf : (text : List ℕ) → State → (counts : List ℕ) → Reading
 finishOf text s counts =
     let node : ℕ = firstMisnamed (take (s .nodes) counts) in
     if completeIn s then
-    (if ltb node (s .nodes) then Refused (record { fault = Orphan; line = lineOfNode text node }) else
+    (if ltb node (s .nodes) then Refused (record { fault = Orphan; line = lineNumberOf text node }) else
     Accepted (s .header))
     else Refused (record { fault = Count; line = s .lines + 1 })

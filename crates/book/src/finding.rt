@@ -8,7 +8,7 @@ use lines::parsing::parse;
 ghost use mathlib.Core.Path.{_≡_};
 ghost use Rattle.definitions.specs.BookReading.{isLineOf};
 ghost use Rattle.book.specs.Entries.{entryLine};
-ghost use Rattle.book.specs.Steps.{lineOfNode};
+ghost use Rattle.book.specs.Steps.{lineNumberOf};
 
 // Whether a line is a node's N or L line.
 fn is_line_of(entry: Entry, node: usize) -> bool
@@ -25,7 +25,7 @@ fn is_line_of(entry: Entry, node: usize) -> bool
 
 // The number of a node's line in a text; one past the last where it has none.
 pub fn line_of_node(text: &[u8], node: usize) -> usize
-    ensures { λ r. ⌜ r ≡ lineOfNode (now (text .entry)) node ⌝ }
+    ensures { λ r. ⌜ r ≡ lineNumberOf (now (text .entry)) node ⌝ }
 {
     let mut i = 0;
     while i < text.len() / 32 {

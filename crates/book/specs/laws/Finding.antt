@@ -10,7 +10,7 @@ use Rattle.definitions.specs.Lines.{linesOf}
 use Rattle.definitions.specs.BookReading.{isLineOf, lineWhere}
 use Rattle.lines.specs.Judging.{lineBytes}
 use Rattle.lines.specs.laws.Texts.{lines-at, lines-end}
-use Rattle.book.specs.Steps.{bookTaken, lineOfNode}
+use Rattle.book.specs.Steps.{bookTaken, lineNumberOf}
 
 module _ (text : List ℕ) (node : ℕ) where
   -- the number of the node's line, among the lines from the i-th on
@@ -19,21 +19,21 @@ module _ (text : List ℕ) (node : ℕ) where
 
   -- none of the first i lines is the node's
   abbrev pub Passed : (i : ℕ) → Type 0
-  Passed i = lineOfNode text node ≡ fromLine i (drop i (linesOf text))
+  Passed i = lineNumberOf text node ≡ fromLine i (drop i (linesOf text))
 
   pub passed-none : Passed 0
   passed-none = refl
 
   module _ (i : ℕ) (p : Passed i) where
-    pub found-end : length text / 32 ≤ i → i + 1 ≡ lineOfNode text node
+    pub found-end : length text / 32 ≤ i → i + 1 ≡ lineNumberOf text node
     unfolding lineWhere
     found-end e = add-one i ∙ sym (p ∙ ap (fromLine i) (lines-end text i e))
 
     module _ (l : i < length text / 32) where
-      here : lineOfNode text node ≡ fromLine i (lineBytes text i ∷ drop (suc i) (linesOf text))
+      here : lineNumberOf text node ≡ fromLine i (lineBytes text i ∷ drop (suc i) (linesOf text))
       here = p ∙ ap (fromLine i) (lines-at text i l)
 
-      pub found-here : isLineOf node (bookTaken (lineBytes text i)) ≡ true → i + 1 ≡ lineOfNode text node
+      pub found-here : isLineOf node (bookTaken (lineBytes text i)) ≡ true → i + 1 ≡ lineNumberOf text node
       unfolding lineWhere
       found-here e = add-one i ∙ sym (here ∙ rw e)
 

@@ -25,7 +25,7 @@ use Rattle.book.specs.declared.Reading.{Reading}
 use Rattle.book.specs.declared.Reading.the-variants.{Accepted, Refused}
 use Rattle.book.specs.States.{stateOf, completeIn}
 use Rattle.book.specs.Answers.{readingOf}
-use Rattle.book.specs.Steps.{finishOf, bookTaken, lineOfNode}
+use Rattle.book.specs.Steps.{finishOf, bookTaken, lineNumberOf}
 use Rattle.book.specs.Storing.{namesOf, countsStored}
 use Rattle.book.specs.laws.Keeping.{Kept, kept-few}
 
@@ -33,7 +33,7 @@ use Rattle.book.specs.laws.Keeping.{Kept, kept-few}
 abbrev judgedBy : (text : List ℕ) → (before : List BookLine) → (node : ℕ) → Reading
 judgedBy text before node =
     if ltb node (length (nodesOf before))
-    then Refused (record { fault = Orphan; line = lineOfNode text node })
+    then Refused (record { fault = Orphan; line = lineNumberOf text node })
     else Accepted (headerOf before)
 
 finish-names : (lent : Lent) (text : List ℕ) (before : List BookLine) → Kept lent before
@@ -58,7 +58,7 @@ finish-names lent text before k all =
     room = kept-few lent before k .0
 
     some-orphan : node < length nodes
-        → Refused (record { fault = Orphan; line = lineOfNode text node }) ≡ readingOf (judgeNames before)
+        → Refused (record { fault = Orphan; line = lineNumberOf text node }) ≡ readingOf (judgeNames before)
     some-orphan h =
         let judged : judgeNames before ≡ refuse Orphan (lineWhere (isLineOf node) 1 before) =
         rw (orphans-some nodes roots 4096 room h, judgeNames) in

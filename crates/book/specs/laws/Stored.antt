@@ -32,7 +32,8 @@ use Rattle.definitions.specs.laws.SevenWords.{padded-column}
 use Rattle.definitions.specs.laws.Records.{flat-length}
 use Rattle.definitions.specs.laws.Tables.{node-sized}
 use Rattle.definitions.specs.laws.SaidLines.{none-says, line-says, members-more, nodes-more, header-parts}
-use Rattle.definitions.specs.laws.SaidLines.{root-words-more, root-words-count}
+use Rattle.definitions.specs.laws.SaidLines.{roots-none, root-names-more, root-names-count, root-words-more}
+use Rattle.definitions.specs.laws.SaidLines.{root-words-count}
 use Rattle.definitions.specs.laws.Books.{Fits, node-started, test-started, roomy}
 use Rattle.tables.specs.Naming.{countsOf}
 use Rattle.tables.specs.laws.Naming.{counts-none, counts-length, counts-named, children-length}
@@ -264,23 +265,23 @@ few-names : (lent : Lent) (before : List BookLine) → Kept lent before → leng
 unfolding namesOf
 few-names lent before k =
     let (nodes, roots) = kept-few lent before k in
-    rw length-append (omega (arith, children-length (nodesOf before), root-words-count before))
+    rw length-append (omega (arith, children-length (nodesOf before), root-names-count before))
 
 names-more : (lent : Lent) (before : List BookLine) (line : BookLine) → Kept lent before
     → T (bookFollows before line) → namesOf before ++ namesIn line ≡ namesOf (before ++ (line ∷ []))
 unfolding namesOf namesIn bookFollows nodeLineIn rootIn childrenOf
-names-more lent before (H half states phones classes nodes) k f = rw (nodes-more, root-words-more) (simp append-nil)
-names-more lent before (Q class phone) k f = rw (nodes-more, root-words-more) (simp append-nil)
+names-more lent before (H half states phones classes nodes) k f = rw (nodes-more, root-names-more) (simp append-nil)
+names-more lent before (Q class phone) k f = rw (nodes-more, root-names-more) (simp append-nil)
 names-more lent before (N node class position yesNode noNode) k f =
     rw (
       nodes-more,
-      root-words-more,
+      root-names-more,
       no-root-yet lent before k (ltb→lt _ _ f),
       concatMap-snoc childrenOf (nodesOf before) (question (asks class position) yesNode noNode),
     ) (simp append-nil)
 names-more lent before (L node model) k f =
-    rw (nodes-more, root-words-more, concatMap-snoc childrenOf (nodesOf before) (leaf model)) (simp append-nil)
-names-more lent before (R phone state root) k f = rw (nodes-more, root-words-more) (simp (append-nil, append-assoc))
+    rw (nodes-more, root-names-more, concatMap-snoc childrenOf (nodesOf before) (leaf model)) (simp append-nil)
+names-more lent before (R phone state root) k f = rw (nodes-more, root-names-more) (simp (append-nil, append-assoc))
 
 few-more : (line : BookLine) → length (namesIn line) ≤ 2
 unfolding namesIn
@@ -312,7 +313,7 @@ stored-none lent = record {
   nodes = rw (none-says .nodes-said) (padded-zeros (lent .nodes) 0 (omega arith));
   classes = rw (none-says .members-said, no-members 0) (padded-zeros (lent .classes) 0 (omega arith));
   roots = rw (none-says .roots-said) (padded-zeros (lent .roots) 0 (omega arith));
-  counts = rw (none-says .nodes-said, none-says .roots-said) (counts-none 4096);
+  counts = rw (none-says .nodes-said, roots-none) (counts-none 4096);
 }
 
 pub record StoredLengths (lent : Lent) (before : List BookLine) : Type 0 where

@@ -14,7 +14,7 @@ use Rattle.book.specs.declared.Reading.the-variants.{Accepted, Refused}
 use Rattle.book.specs.declared.State.{State}
 use Rattle.book.specs.declared.Step.the-variants.{Next, Stop}
 use Rattle.book.specs.States.{completeIn, nextState}
-use Rattle.book.specs.Steps.{bookTaken, verdictIn, stepAfter, stepOf, finishOf, lineOfNode}
+use Rattle.book.specs.Steps.{bookTaken, verdictIn, stepAfter, stepOf, finishOf, lineNumberOf}
 
 module _ (lent : Lent) (s : State) (bytes : List ℕ) where
   pub step-failed : {fault : Fault} → verdictIn lent s bytes ≡ Failed fault → Stop fault ≡ stepOf lent s bytes
@@ -35,7 +35,7 @@ module _ (text : List ℕ) (s : State) (counts : List ℕ) where
 
   module _ (node : ℕ) (all : completeIn s ≡ true) (found : node ≡ firstMisnamed (take (s .nodes) counts)) where
     pub finish-orphan : node < s .nodes
-        → Refused (record { fault = Orphan; line = lineOfNode text node }) ≡ finishOf text s counts
+        → Refused (record { fault = Orphan; line = lineNumberOf text node }) ≡ finishOf text s counts
     unfolding finishOf
     finish-orphan l = rw (all, ← found, lt-ltb node (s .nodes) l)
 

@@ -9,7 +9,7 @@ use lib.ListN.{length, length-append, length-map}
 use Rattle.definitions.specs.Lists.{concatMap}
 use Rattle.definitions.specs.BookLines.{BookLine, H, Q, N, L, R, headerOf}
 use Rattle.definitions.specs.BookLines.{Member, memberIn, membersOf, TreeNode, nodeIn, nodesOf}
-use Rattle.definitions.specs.BookLines.{nodeLineIn, nodeLinesOf, rootIn, rootsOf, rootWords}
+use Rattle.definitions.specs.BookLines.{nodeLineIn, nodeLinesOf, rootIn, rootsOf, rootNames, rootWords}
 use Rattle.definitions.specs.laws.Lists.{concatMap-append, concatMap-snoc}
 
 -- what lines say
@@ -53,9 +53,12 @@ pub node-lines-count : (lines : List BookLine) → length (nodeLinesOf lines) �
 unfolding nodesOf
 node-lines-count lines = sym (length-map (nodeLinesOf lines) (λ l. l .node))
 
--- as many words as roots
+-- as many names and as many words as roots
+pub root-names-count : (lines : List BookLine) → length (rootNames (rootsOf lines)) ≡ length (rootsOf lines)
+root-names-count lines = length-map (rootsOf lines) (λ r. r .node)
+
 pub root-words-count : (lines : List BookLine) → length (rootWords (rootsOf lines)) ≡ length (rootsOf lines)
-root-words-count lines = length-map (rootsOf lines) (λ r. r .node)
+root-words-count lines = root-names-count lines
 
 -- the header stays after the first line
 pub header-parts : (before lines : List BookLine) → 0 < length before
@@ -114,9 +117,13 @@ module _ (before : List BookLine) (line : BookLine) where
   unfolding rootsOf
   roots-more = concatMap-snoc rootIn before line
 
+  pub root-names-more : rootNames (rootsOf (before ++ (line ∷ [])))
+      ≡ rootNames (rootsOf before) ++ rootNames (rootIn line)
+  root-names-more = ap rootNames roots-more ∙ map-append _ (rootsOf before) (rootIn line)
+
   pub root-words-more : rootWords (rootsOf (before ++ (line ∷ [])))
       ≡ rootWords (rootsOf before) ++ rootWords (rootIn line)
-  root-words-more = ap (map (λ r. r .node)) roots-more ∙ map-append _ (rootsOf before) (rootIn line)
+  root-words-more = root-names-more
 
   -- and so many more
   pub nodes-count : length (nodesOf (before ++ (line ∷ []))) ≡ length (nodesOf before) + length (nodeIn line)

@@ -9,8 +9,6 @@ use borrow.Fn.PlainCycle.{Measures, is, falls, and}
 use Rattle.definitions.specs.declared.Node.{Node}
 use Rattle.definitions.specs.laws.Accepted.{QuestionFits}
 use Rattle.definitions.specs.Tables.{askedOf}
-use Rattle.definitions.specs.BookLines.{Asked, asks}
-use Rattle.definitions.specs.Combinations.{onYes, onNo}
 use Rattle.tables.specs.laws.KnownTables.{question-fits}
 use Rattle.metastates.specs.laws.WalkingLeaves.{half-narrow, yes-words, no-words, walk-leaf, last-leaf}
 use Rattle.metastates.specs.laws.WalkingLeaves.{walk-sides, last-sides}
