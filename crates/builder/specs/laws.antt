@@ -1,4 +1,4 @@
--- The laws of this crate: the tables kept or cleared; reading and building put together, and demand 3 of what
--- they leave.
+-- The laws of this crate: the tables kept or cleared; reading and building put together, and of what they leave
+-- demand 3, and that nothing leaves FINAL.
 pub mod Keeping
 pub mod Building

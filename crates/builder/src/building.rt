@@ -12,7 +12,7 @@ ghost use Rattle.definitions.specs.BookBuilding.{buildBook, tablesAfter, buffer
 ghost use Rattle.definitions.specs.Building.{build};
 ghost use Rattle.tables.specs.Lending.{lengthsOf, lentTables};
 ghost use Rattle.network.specs.Answers.{lentSpace, lentBuffers, buildAnswer, buildLeft};
-ghost use Rattle.builder.specs.Answers.{bookAnswer, MeetsDemand3};
+ghost use Rattle.builder.specs.Answers.{bookAnswer, MeetsDemand3, KeepsFinalLast};
 ghost use Rattle.builder.specs.Tables.{tablesKept};
 
 // Builds from the tables that reading left; they are cleared where the build is refused.
@@ -105,6 +105,7 @@ pub fn build_book(
         MeetsDemand3 (lengthsOf (now (nodes .entry)) (now (classes .entry)) (now (roots .entry)))
         (now (text .entry)) r (now (arcs .exit))
         ⌝ }
+    ensures ending { λ r. ⌜ KeepsFinalLast r (now (arcs .exit)) ⌝ }
 {
     let reading = read(text, nodes, classes, roots);
     match reading {

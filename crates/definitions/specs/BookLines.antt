@@ -82,6 +82,11 @@ pub data TreeNode : Type 0 where
   question : (asked : Asked) (yesNode noNode : ℕ) → TreeNode
   leaf : (model : ℕ) → TreeNode
 
+-- what a walk through a tree comes to: the node number of a leaf, and the model there
+pub record Reached : Type 0 where
+  pub leaf : ℕ
+  pub model : ℕ
+
 -- the lines of nodes, each with the number that it states: "one N or L per node"
 pub record NodeLine : Type 0 where
   pub number : ℕ

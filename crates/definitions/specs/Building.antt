@@ -11,7 +11,8 @@ use Rattle.definitions.specs.Tables.{Book, Tables, tablesBook}
 use Rattle.definitions.specs.Combinations.{combinations, combine, combinationWords}
 use Rattle.definitions.specs.Arcs.{arcSize, arcWords}
 use Rattle.definitions.specs.Metastates.{metastateSize, metastateWords}
-use Rattle.definitions.specs.Connecting.{Network, Room, Built, finished, stopped, connect}
+use Rattle.definitions.specs.Growing.{Room, grownIn}
+use Rattle.definitions.specs.Connecting.{rulesOf, Network, Built, connect}
 
 -- the lengths of the lent space for combinations, metastates and arcs, in words
 pub record Space : Type 0 where
@@ -23,7 +24,7 @@ pub record Space : Type 0 where
 unfoldable pub roomIn : Space → Room
 roomIn space =
     record {
-      metastates = min (space .metastates / metastateSize) 65535;
+      table = min (space .metastates / metastateSize) 65535;
       arcs = min (space .arcs / arcSize) 999999;
     }
 
@@ -31,17 +32,16 @@ roomIn space =
 unfoldable pub build : Header → Tables → Space → (limit : ℕ) → Outcome Built
 build header tables space limit =
     andThen (combine header tables (space .combinations))
-    (λ found. connect (tablesBook header tables) found (roomIn space) limit)
+    (λ found. connect (rulesOf (tablesBook header tables) found) (roomIn space) limit)
 
 -- The answer's numbers.
-unfoldable pub networkIn : Built → Network
-networkIn (finished turns net) = net
-networkIn (stopped turns net) = net
+abbrev pub networkIn : Built → Network
+networkIn built = grownIn built
 
 -- "the counts of metastates and arcs", with k
 unfoldable pub countsIn : (states : ℕ) → Network → Counts
 countsIn states net =
-    record { states = states; metastates = length (net .metastates); arcs = length (net .arcs) }
+    record { states = states; metastates = length (net .table); arcs = length (net .arcs) }
 
 -- What the build leaves in the lent space. "the words after the last record are 0, in metastate and arc
 -- space too"
@@ -54,7 +54,7 @@ unfoldable pub buffersOf : Book → Space → Network → Buffers
 buffersOf book space net =
     record {
       combinations = padded (space .combinations) (concatMap combinationWords (combinations book));
-      metastates = padded (space .metastates) (concatMap metastateWords (net .metastates));
+      metastates = padded (space .metastates) (concatMap metastateWords (net .table));
       arcs = padded (space .arcs) (concatMap arcWords (net .arcs));
     }
 

@@ -18,7 +18,7 @@ use Rattle.definitions.specs.Lookup.{nodeAt}
 -- a leaf of a tree: its node number, and the matrix of the contexts that reach it
 pub record Leaf : Type 0 where
   pub node : ℕ
-  pub matrix : Matrix
+  pub carried : Matrix
 
 -- the two sides of a question. "Yes keeps in the question's column the class's members, no keeps the others";
 -- classes count from 1
@@ -37,7 +37,7 @@ leavesBelow (suc levels) book matrix node =
       | question asked yesNode noNode ↦
           leavesBelow levels book (onYes (book .classes) asked matrix) yesNode
           ++ leavesBelow levels book (onNo (book .classes) asked matrix) noNode
-      | leaf model ↦ record { node = node; matrix = matrix } ∷ []
+      | leaf model ↦ record { node = node; carried = matrix } ∷ []
     ]
 
 -- ascending by node number
@@ -63,15 +63,15 @@ leavesOf book phone state =
 pub record Combination : Type 0 where
   pub phone : ℕ
   pub leaves : List ℕ
-  pub matrix : Matrix
+  pub carried : Matrix
 
 -- the combinations that begin with these leaves, whose matrices meet in `matrix`, and take one leaf of each
 -- further tree
 unfoldable pub choose : (phone : ℕ) → (leaves : List ℕ) → Matrix → (trees : List (List Leaf)) → List Combination
 choose phone leaves matrix [] =
-    if valid matrix then record { phone = phone; leaves = leaves; matrix = matrix } ∷ [] else []
+    if valid matrix then record { phone = phone; leaves = leaves; carried = matrix } ∷ [] else []
 choose phone leaves matrix (tree ∷ trees) =
-    concatMap (λ l. choose phone (leaves ++ (l .node ∷ [])) (meet matrix (l .matrix)) trees) tree
+    concatMap (λ l. choose phone (leaves ++ (l .node ∷ [])) (meet matrix (l .carried)) trees) tree
 
 -- each leaf's matrix lies within the root's, so the root's is where their meeting starts
 unfoldable pub combinationsOf : Book → (phone : ℕ) → List Combination
@@ -88,7 +88,7 @@ abbrev pub combinationSize : ℕ
 combinationSize = 11
 
 unfoldable pub combinationWords : Combination → List ℕ
-combinationWords c = c .phone ∷ padded 3 (c .leaves) ++ matrixWords (c .matrix)
+combinationWords c = c .phone ∷ padded 3 (c .leaves) ++ matrixWords (c .carried)
 
 -- "Only whole records of lent space count"; "more combinations than the lent space or 65535"
 unfoldable pub combinationRoom : (space : ℕ) → ℕ

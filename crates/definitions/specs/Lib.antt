@@ -15,6 +15,7 @@ pub mod Matrices
 pub mod Combinations
 pub mod Arcs
 pub mod Metastates
+pub mod Growing
 pub mod Connecting
 pub mod Building
 pub mod Paths

@@ -10,7 +10,7 @@ use Rattle.definitions.specs.declared.Fault.the-variants.{Foreign, Range
 use Rattle.definitions.specs.Faults.{Outcome, answered, judge, _unless_}
 use Rattle.definitions.specs.Lists.{if_then_else_, _!_, every}
 use Rattle.definitions.specs.PhoneSets.{has}
-use Rattle.definitions.specs.BookLines.{isPhone, TreeNode, question, leaf, Asked}
+use Rattle.definitions.specs.BookLines.{isPhone, TreeNode, question, leaf, Asked, Reached}
 use Rattle.definitions.specs.BookReading.{nodeSize}
 use Rattle.definitions.specs.Tables.{treeNode, nodeRecords}
 use Rattle.definitions.specs.ForeignTables.{headerKnown, nodesKnown, holdsOnly, classTableKnown}
@@ -27,19 +27,23 @@ modelAt nodes node =
 unfoldable pub answers : (classes context : List ℕ) → Asked → Bool
 answers classes context asked = has (context ! asked .position) (classes ! (asked .class - 1))
 
--- the leaf that a walk from a node reaches. It moves to greater nodes only, so as many steps as there are
--- nodes are enough.
-unfoldable pub walk : (steps : ℕ) → List TreeNode → (classes context : List ℕ) → (node : ℕ) → ℕ
-walk zero nodes classes context node = node
+-- what a walk from a node reaches. It moves to greater nodes only, so as many steps as there are nodes are
+-- enough; without a step left it ends where it is.
+unfoldable pub walk : (steps : ℕ) → List TreeNode → (classes context : List ℕ) → (node : ℕ) → Reached
+walk zero nodes classes context node = record { leaf = node; model = modelAt nodes node }
 walk (suc steps) nodes classes context node =
     elim (nodeAt nodes node) [
       | question asked yesNode noNode ↦
           walk steps nodes classes context (if answers classes context asked then yesNode else noNode)
-      | leaf model ↦ node
+      | leaf model ↦ record { leaf = node; model = model }
     ]
 
-unfoldable pub leafReached : List TreeNode → (classes context : List ℕ) → (root : ℕ) → ℕ
-leafReached nodes classes context root = walk (length nodes) nodes classes context root
+-- from a root: all of it, and its leaf alone
+unfoldable pub reached : List TreeNode → (classes context : List ℕ) → (root : ℕ) → Reached
+reached nodes classes context root = walk (length nodes) nodes classes context root
+
+abbrev pub leafReached : List TreeNode → (classes context : List ℕ) → (root : ℕ) → ℕ
+leafReached nodes classes context root = reached nodes classes context root .leaf
 
 -- not 18: "A record that no N or L line leaves, a child not greater than its node or not in the list, or a
 -- root not in the list is 18 (how often nodes are named is not judged here)". The list holds the header's

@@ -14,29 +14,29 @@ use Rattle.definitions.specs.Combinations.{Combination}
 -- "A metastate is a combination's number with a matrix"
 pub record Metastate : Type 0 where
   pub number : ℕ
-  pub matrix : Matrix
+  pub carried : Matrix
 
 unfoldable pub sameMetastate : Metastate → Metastate → Bool
-sameMetastate x y = eqb (x .number) (y .number) && same (x .matrix) (y .matrix)
+sameMetastate x y = eqb (x .number) (y .number) && same (x .carried) (y .carried)
 
 -- a metastate is "held as eight 64-bit words"
 abbrev pub metastateSize : ℕ
 metastateSize = 8
 
 unfoldable pub metastateWords : Metastate → List ℕ
-metastateWords x = x .number ∷ matrixWords (x .matrix)
+metastateWords x = x .number ∷ matrixWords (x .carried)
 
 abbrev pub noCombination : Combination
-noCombination = record { phone = 0; leaves = []; matrix = [] }
+noCombination = record { phone = 0; leaves = []; carried = [] }
 
 -- "Start metastates: each silence combination whose matrix, with columns 0..n−1 cut to {1}, is valid, with
 -- that cut matrix, in combination order." The list begins with combination `number`.
 unfoldable pub startsFrom : (half number : ℕ) → List Combination → List Metastate
 startsFrom half number [] = []
 startsFrom half number (c ∷ cs) =
-    let cut : Matrix = startCut half (c .matrix) in
+    let cut : Matrix = startCut half (c .carried) in
     if eqb (c .phone) 1 && valid cut
-    then record { number = number; matrix = cut } ∷ startsFrom half (suc number) cs
+    then record { number = number; carried = cut } ∷ startsFrom half (suc number) cs
     else startsFrom half (suc number) cs
 
 -- "for each combination in order whose matrix meets q's shifted matrix validly"; "The new metastate carries
@@ -44,9 +44,9 @@ startsFrom half number (c ∷ cs) =
 unfoldable pub followersFrom : (shifted : Matrix) → (number : ℕ) → List Combination → List Metastate
 followersFrom shifted number [] = []
 followersFrom shifted number (c ∷ cs) =
-    let met : Matrix = meet shifted (c .matrix) in
+    let met : Matrix = meet shifted (c .carried) in
     if valid met
-    then record { number = number; matrix = met } ∷ followersFrom shifted (suc number) cs
+    then record { number = number; carried = met } ∷ followersFrom shifted (suc number) cs
     else followersFrom shifted (suc number) cs
 
 -- a metastate's combination, and its phone
@@ -61,7 +61,7 @@ module _ (book : Book) (combinations : List Combination) where
   starts = startsFrom (book .half) 0 combinations
 
   unfoldable pub followers : Metastate → List Metastate
-  followers q = followersFrom (shift (book .phones) (q .matrix)) 0 combinations
+  followers q = followersFrom (shift (book .phones) (q .carried)) 0 combinations
 
   -- the models of a metastate's states
   unfoldable pub modelsOf : Metastate → List ℕ
@@ -69,4 +69,4 @@ module _ (book : Book) (combinations : List Combination) where
 
   -- "if its phone is 1 and columns n+1..2n all hold 1, the arc from its last state to 1 with 0, 0"
   unfoldable pub mayEnd : Metastate → Bool
-  mayEnd q = eqb (phoneOf combinations q) 1 && endsHere (book .half) (q .matrix)
+  mayEnd q = eqb (phoneOf combinations q) 1 && endsHere (book .half) (q .carried)

@@ -5,7 +5,7 @@ use mathlib.Core.Bool.{Bool, _&&_, not}
 use Prim.Native.Nat.{ℕ}
 use lib.Dec.{T, ltb, eqb}
 use lib.ListN.{length, getD}
-use Rattle.definitions.specs.Lists.{select}
+use Rattle.definitions.specs.Lists.{every, select}
 use Rattle.definitions.specs.Arcs.{Arc, arc, INITIAL, FINAL}
 
 abbrev pub arcAt : List Arc → (place : ℕ) → Arc
@@ -37,3 +37,7 @@ pub record Carries (arcs : List Arc) (places M S : List ℕ) : Type 0 where
   pub accepts : T (accepting arcs places)
   pub models : modelsCarried arcs places ≡ M
   pub phones : phonesCarried arcs places ≡ S
+
+-- no arc leaves FINAL, so a path that enters it ends there
+unfoldable pub finalLast : List Arc → Bool
+finalLast arcs = every (λ a. not (eqb (a .from) FINAL)) arcs

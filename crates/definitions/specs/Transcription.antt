@@ -11,15 +11,14 @@ use Rattle.definitions.specs.Lists.{_!_, every, concatMap, upFrom}
 use Rattle.definitions.specs.BookLines.{isPhone}
 use Rattle.definitions.specs.Tables.{Book, Tables, tablesBook}
 use Rattle.definitions.specs.ForeignTables.{tablesKnown}
-use Rattle.definitions.specs.Lookup.{leafReached, modelAt}
+use Rattle.definitions.specs.Lookup.{reached}
 use Rattle.definitions.specs.Tables.{rootOf}
 use Rattle.definitions.specs.TreesGive.{contexts, silentEnds}
 
 -- the model of the leaf that a context reaches in the tree of its own phone, for a state
 unfoldable pub modelOf : Book → (context : List ℕ) → (state : ℕ) → ℕ
 modelOf book context state =
-    modelAt (book .nodes)
-    (leafReached (book .nodes) (book .classes) context (rootOf book (context ! book .half) state))
+    reached (book .nodes) (book .classes) context (rootOf book (context ! book .half) state) .model
 
 -- "For a phone sequence the models of all states of all phones in order"
 unfoldable pub transcription : Book → (S : List ℕ) → List ℕ

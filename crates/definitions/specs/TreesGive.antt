@@ -1,28 +1,39 @@
 -- Document 01, "Transcription": what the trees give to a sequence of phones, read from the book's lines alone.
 -- Nothing here knows of tables or matrices: it is the meaning that demand 3 holds the network to.
+use mathlib.Core.Path.{_≡_}
 use mathlib.Core.List.{List, [], _∷_, _++_, map}
 use mathlib.Core.Bool.{Bool, _&&_}
 use mathlib.Core.Option.{Option, none, some}
 use Prim.Native.Nat.{ℕ, zero, suc, _+_, _-_, _*_}
-use lib.Dec.{eqb}
+use lib.Dec.{T, eqb}
 use lib.ListN.{length, take, drop, replicate}
 use Rattle.definitions.specs.Lists.{if_then_else_, _!_, every, atLeastOne, firstWhere, mapOption}
 use Rattle.definitions.specs.Lists.{concatMap, upFrom}
 use Rattle.definitions.specs.BookLines.{BookLine, headerOf, isPhone, membersOf, TreeNode, question}
-use Rattle.definitions.specs.BookLines.{leaf, nodeLinesOf, Asked, rootsOf}
+use Rattle.definitions.specs.BookLines.{leaf, nodeLinesOf, Asked, Reached, rootsOf}
 
 -- "The context of place i in a sequence S has 2n+1 phones: in column c the phone at place i+c−n, or 1 where
--- that lies beyond either end." With n silences before and after S, place i+c−n of S is place i+c. So the
+-- that lies beyond either end." With n phones before and after S, place i+c−n of S is place i+c. So the
 -- contexts are windows of 2n+1 phones, each one place further on.
 unfoldable pub windows : (width count : ℕ) → List ℕ → List (List ℕ)
 windows width zero phones = []
 windows width (suc count) phones = take width phones ∷ windows width count (drop 1 phones)
 
-unfoldable pub withSilence : (half : ℕ) → (S : List ℕ) → List ℕ
-withSilence half S = replicate half 1 ++ S ++ replicate half 1
+unfoldable pub around : (left S right : List ℕ) → List ℕ
+around left S right = left ++ S ++ right
 
-unfoldable pub contexts : (half : ℕ) → (S : List ℕ) → List (List ℕ)
-contexts half S = windows (2 * half + 1) (length S) (withSilence half S)
+unfoldable pub contextsWithin : (half : ℕ) → (left S right : List ℕ) → List (List ℕ)
+contextsWithin half left S right = windows (2 * half + 1) (length S) (around left S right)
+
+-- "a place beyond either end counts as silence"
+abbrev pub silences : (half : ℕ) → List ℕ
+silences half = replicate half 1
+
+abbrev pub withSilence : (half : ℕ) → (S : List ℕ) → List ℕ
+withSilence half S = around (silences half) S (silences half)
+
+abbrev pub contexts : (half : ℕ) → (S : List ℕ) → List (List ℕ)
+contexts half S = contextsWithin half (silences half) S (silences half)
 
 -- "the node in the R line of the phone .. and that state"
 unfoldable pub rootLine : List BookLine → (phone state : ℕ) → Option ℕ
@@ -45,23 +56,27 @@ answersByLines lines context asked = putInClass lines (asked .class) (context ! 
 -- "At an N line go to its yes node if a Q line puts the context's phone at its position into its class,
 -- else to its no node. At an L line its model is given." The walk meets greater nodes only, so as many
 -- steps as lines are enough.
-unfoldable pub modelBelow : (steps : ℕ) → List BookLine → (context : List ℕ) → (node : ℕ) → Option ℕ
-modelBelow zero lines context node = none
-modelBelow (suc steps) lines context node =
+unfoldable pub walkByLines : (steps : ℕ) → List BookLine → (context : List ℕ) → (node : ℕ) → Option Reached
+walkByLines zero lines context node = none
+walkByLines (suc steps) lines context node =
     elim (nodeLine lines node) [
       | none ↦ none
       | some (question asked yesNode noNode) ↦
-          modelBelow steps lines context (if answersByLines lines context asked then yesNode else noNode)
-      | some (leaf model) ↦ some model
+          walkByLines steps lines context (if answersByLines lines context asked then yesNode else noNode)
+      | some (leaf model) ↦ some (record { leaf = node; model = model })
     ]
 
 -- "For each state, start at the node in the R line of the phone at i and that state."
-unfoldable pub modelGiven : List BookLine → (context : List ℕ) → (state : ℕ) → Option ℕ
-modelGiven lines context state =
+unfoldable pub reachedByLines : List BookLine → (context : List ℕ) → (state : ℕ) → Option Reached
+reachedByLines lines context state =
     elim (rootLine lines (context ! headerOf lines .half) state) [
       | none ↦ none
-      | some root ↦ modelBelow (length lines) lines context root
+      | some root ↦ walkByLines (length lines) lines context root
     ]
+
+-- the model that is given
+unfoldable pub modelGiven : List BookLine → (context : List ℕ) → (state : ℕ) → Option ℕ
+modelGiven lines context state = mapOption (λ r. r .model) (reachedByLines lines context state)
 
 -- all answers in order, or none if one of them is none
 unfoldable pub together : List (Option ℕ) → Option (List ℕ)
@@ -86,3 +101,8 @@ treesGive lines S =
 -- "S begins and ends with silence" (the empty sequence has no phone there)
 unfoldable pub silentEnds : (S : List ℕ) → Bool
 silentEnds S = eqb (S ! 0) 1 && eqb (S ! (length S - 1)) 1
+
+-- what an accepting path may carry: "S begins and ends with silence and the trees give M, in order, to the
+-- sounds of S in their full context, with silence beyond both ends"
+abbrev pub Given : List BookLine → (M S : List ℕ) → Type 0
+Given lines M S = T (silentEnds S) × (treesGive lines S ≡ some M)

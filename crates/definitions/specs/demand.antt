@@ -1,7 +1,9 @@
--- Demand 3: the whole path theorem, step by step; then, that network text can hold every network.
+-- Demand 3: the whole path theorem, step by step; then, that nothing leaves FINAL, and that network text can
+-- hold every network.
 pub mod Windows
-pub mod Chains
 pub mod TreeWindows
+pub mod Carrier
+pub mod Chains
 pub mod Trees
 pub mod Chosen
 pub mod Choices
@@ -16,4 +18,5 @@ pub mod ProperNetwork
 pub mod Main
 pub mod Assembly
 pub mod Demand
+pub mod Endings
 pub mod KnownNetwork

@@ -35,6 +35,7 @@ pub mod PhoneSets
 pub mod Matrices
 pub mod SevenWords
 pub mod Leaves
+pub mod LeafMatrices
 pub mod NamedOnce
 pub mod Ascending
 pub mod Metastates

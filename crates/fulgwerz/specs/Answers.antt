@@ -4,6 +4,7 @@ use mathlib.Core.Path.{_≡_}
 use mathlib.Core.List.{List}
 use mathlib.Core.Bool.{Bool, true, false}
 use Prim.Native.Nat.{ℕ, _*_}
+use lib.Dec.{T}
 use lib.ListN.{length}
 use Rattle.definitions.specs.declared.Header.{Header}
 use Rattle.definitions.specs.declared.Counts.{Counts}
@@ -11,9 +12,11 @@ use Rattle.definitions.specs.Faults.{Outcome, answered, refused, faultOf, fault
 use Rattle.definitions.specs.BookLines.{BookLine, headerOf}
 use Rattle.definitions.specs.BookReading.{Lent, readBook}
 use Rattle.definitions.specs.BookBuilding.{BookBuilt}
-use Rattle.definitions.specs.Connecting.{Built, finished, stopped}
+use Rattle.definitions.specs.Growing.{finished, stopped}
+use Rattle.definitions.specs.Connecting.{Built}
 use Rattle.definitions.specs.Building.{networkIn, countsIn}
-use Rattle.definitions.specs.Arcs.{arcSize}
+use Rattle.definitions.specs.Arcs.{arcSize, arcsIn}
+use Rattle.definitions.specs.Paths.{finalLast}
 use Rattle.definitions.specs.Leaving.{Part}
 use Rattle.definitions.specs.NetworkText.{NetworkLine, countsOf}
 use Rattle.definitions.specs.demand.Demand.{Demand3}
@@ -93,3 +96,8 @@ abbrev pub MeetsDemand3 : Lent → (text : List ℕ) → BuildAnswer → (arcs :
 MeetsDemand3 lent text answer arcs =
     answer .finished ≡ true
     → (lines : List BookLine) × (readBook lent text ≡ answered lines) × Demand3 lines (answer .counts) arcs
+
+-- Beside it: where the answer is finished, no counted arc leaves FINAL.
+abbrev pub KeepsFinalLast : BuildAnswer → (arcs : List ℕ) → Type 0
+KeepsFinalLast answer arcs =
+    answer .finished ≡ true → T (finalLast (arcsIn (answer .counts .arcs) arcs))

@@ -14,7 +14,8 @@ ghost use Rattle.definitions.specs.Building.{build};
 ghost use Rattle.definitions.specs.Combinations.{combine, combinationSpace};
 ghost use Rattle.tables.specs.Lending.{lengthsOf, lentTables};
 ghost use Rattle.network.specs.Answers.{buildLeft, lentBuffers, lentSpace};
-ghost use Rattle.fulgwerz.specs.Answers.{countAnswer, buildAnswer, bookAnswer, MeetsDemand3};
+ghost use Rattle.fulgwerz.specs.Answers.{countAnswer, buildAnswer, bookAnswer};
+ghost use Rattle.fulgwerz.specs.Answers.{MeetsDemand3, KeepsFinalLast};
 
 // Fills in the combinations, and counts them.
 #[no_mangle]
@@ -113,6 +114,7 @@ pub extern "C" fn fulgwerz_build_book(
         MeetsDemand3 (lengthsOf (now (nodes .entry)) (now (classes .entry)) (now (roots .entry)))
         (now (text .entry)) r (now (arcs .exit))
         ⌝ }
+    ensures ending { λ r. ⌜ KeepsFinalLast r (now (arcs .exit)) ⌝ }
 {
     build_answer(build_book(
         text,

@@ -1,13 +1,16 @@
--- What combining answers.
+-- What combining answers, and what it leaves.
+use mathlib.Core.Path.{_≡_}
 use mathlib.Core.List.{List, map}
 use Prim.Native.Nat.{ℕ, suc}
 use lib.ListN.{length}
 use Rattle.definitions.specs.Faults.{Outcome, answered, refused}
 use Rattle.definitions.specs.Lists.{concatMap, upFrom, cleared, padded}
 use Rattle.definitions.specs.Tables.{Book}
-use Rattle.definitions.specs.Combinations.{Combination, combinationsOf}
+use Rattle.definitions.specs.Combinations.{Combination, combinationsOf, combinations}
+use Rattle.metastates.specs.declared.Adding.{Adding}
 use Rattle.metastates.specs.declared.Combined.{Combined}
 use Rattle.metastates.specs.declared.Combined.the-variants as combined
+use Rattle.metastates.specs.Space.{addedIn, Grown}
 
 -- how many combinations belong to phones up to one
 unfoldable pub endOf : Book → (phone : ℕ) → ℕ
@@ -25,3 +28,18 @@ endsLeft book (refused r) = cleared 65
 unfoldable pub combinedOf : Outcome (List Combination) → Combined
 combinedOf (answered found) = combined.Combinations (length found)
 combinedOf (refused r) = combined.Refused r
+
+-- ---- the combinations of all phones
+
+-- space without a record, and no ends noted
+pub record Clear (space ends : List ℕ) : Type 0 where
+  pub space-clear : space ≡ cleared (length space)
+  pub ends-clear : ends ≡ cleared 65
+
+abbrev pub allIn : Book → (space : List ℕ) → Outcome (List Combination)
+allIn book space = addedIn (length space) 0 (combinations book)
+
+-- what adding them to such space answers and leaves, with how many there are after each phone
+pub record AllAdded (book : Book) (space : List ℕ) (answer : Adding) (space′ ends′ : List ℕ) : Type 0 where
+  pub grown : Grown space 0 (allIn book space) answer space′
+  pub noted : (found : List Combination) → allIn book space ≡ answered found → ends′ ≡ padded 65 (endsOf book)

@@ -18,7 +18,7 @@ leafSize = 8
 
 unfoldable pub putLeaf : (table : List ℕ) → Leaf → List ℕ
 putLeaf table l =
-    take (leafSize * l .node) table ++ (1 ∷ matrixWords (l .matrix)) ++ drop (leafSize * l .node + leafSize) table
+    take (leafSize * l .node) table ++ (1 ∷ matrixWords (l .carried)) ++ drop (leafSize * l .node + leafSize) table
 
 unfoldable pub putLeaves : (table : List ℕ) → List Leaf → List ℕ
 putLeaves table [] = table
@@ -52,7 +52,7 @@ lastNode (l ∷ leaves) = max (l .node) (lastNode leaves)
 -- ---- the list: the node and the matrix of each leaf
 
 unfoldable pub leafWords : Leaf → List ℕ
-leafWords l = l .node ∷ matrixWords (l .matrix)
+leafWords l = l .node ∷ matrixWords (l .carried)
 
 -- the leaves of a phone's tree for a state; a state that the book lacks has none
 unfoldable pub leavesFor : Book → (phone state : ℕ) → List Leaf
@@ -60,7 +60,7 @@ leavesFor book phone state = if leb state (book .states) then leavesOf book phon
 
 -- a list read back, with matrices of so many columns
 unfoldable pub leafIn : (width : ℕ) → List ℕ → Leaf
-leafIn width words = record { node = words ! 0; matrix = take width (drop 1 words) }
+leafIn width words = record { node = words ! 0; carried = take width (drop 1 words) }
 
 unfoldable pub leavesIn : (width : ℕ) → (words : List ℕ) → List Leaf
 leavesIn width words = map (leafIn width) (records leafSize (length words / leafSize) words)

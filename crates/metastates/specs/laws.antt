@@ -5,6 +5,7 @@ pub mod WalkingLeaves
 pub mod ListingLeaves
 pub mod CollectingLeaves
 pub mod TreeLeaves
+pub mod Working
 pub mod Grown
 pub mod LeafLists
 pub mod Adding

@@ -1,7 +1,9 @@
 // The combinations of leaves, one from each tree, whose matrices meet in a valid matrix.
+use crate::Adding;
 use crate::Choice;
 use crate::LEAF_SIZE;
 use definitions::COMBINATION_SIZE;
+use definitions::Fault;
 use matrix::Matrix;
 use matrix::meeting::meet;
 use matrix::meeting::meets_at;
@@ -13,9 +15,10 @@ ghost use lib.ListN.{length, take, drop};
 ghost use Rattle.definitions.specs.Combinations.{combinationSize, combinationRoom};
 ghost use Rattle.definitions.specs.Lists.{_!_};
 ghost use Rattle.matrix.specs.Shapes.{HasWidth};
-ghost use Rattle.metastates.specs.Choices.{Holding, Grown, Chosen, WithLeaf, FirstFit};
-ghost use Rattle.metastates.specs.Choices.{leavesTaken, matrixMet, chosenFrom};
+ghost use Rattle.metastates.specs.Choices.{Chosen, combinationOf, WithLeaf, FirstFit};
+ghost use Rattle.metastates.specs.Choices.{Choosable, chosenFrom};
 ghost use Rattle.metastates.specs.Leaves.{leafSize, leavesIn, IsList};
+ghost use Rattle.metastates.specs.Space.{Holding, Added};
 
 // How many combinations the lent words have room for.
 pub fn room_in(words: usize) -> usize
@@ -55,22 +58,20 @@ fn put_choice(words: &mut [u64], choice: Choice)
     }
 }
 
-// Adds a combination; answers how many there are then, or one more than have room.
-fn add_choice(width: usize, choice: Choice, space: &mut [u64], count: usize) -> usize
+// Adds a combination.
+fn add_choice(width: usize, choice: Choice, space: &mut [u64], count: usize) -> Adding
     requires { ⌜ Holding (now space) count × Chosen width choice ⌝ }
     ensures { λ r. ⌜
-        Grown (now (space .entry)) count
-        (record { phone = choice .phone; leaves = leavesTaken choice; matrix = matrixMet width choice } ∷ [])
-        (now (space .exit)) r
+        Added (now (space .entry)) count (combinationOf width choice ∷ []) r (now (space .exit))
         ⌝ }
 {
     if room_in(space.len()) <= count {
-        return count + 1;
+        return Adding::Stop(Fault::Choices);
     }
     let at = COMBINATION_SIZE * count;
     let end = at + COMBINATION_SIZE;
     put_choice(&mut space[at..end], choice);
-    count + 1
+    Adding::Count(count + 1)
 }
 
 // The matrix in the record at a place of a list of leaves.
@@ -119,10 +120,10 @@ fn with_leaf(width: usize, choice: Choice, leaves: &[u64], place: usize) -> Choi
     }
 }
 
-// Adds the combinations that begin with a choice and take one leaf of each further tree: `trees` trees are left,
-// whose leaves are `first`, then `second`, then `third`. Answers how many combinations there are then, or one more
-// than have room. A leaf whose matrix does not meet the choice's validly is passed over before any further tree is
-// tried. The call for the further trees moves the lists up by one; what then stands last is not looked at.
+// Adds the combinations that begin with a choice and take one leaf of each further tree: `trees` trees are
+// left, whose leaves are `first`, then `second`, then `third`. A leaf whose matrix does not meet the choice's
+// validly is passed over before any further tree is tried. The call for the further trees moves the lists up
+// by one; what then stands last is not looked at.
 pub fn choose(
     first: &[u64],
     second: &[u64],
@@ -132,15 +133,14 @@ pub fn choose(
     choice: Choice,
     space: &mut [u64],
     count: usize,
-) -> usize
+) -> Adding
     requires { ⌜
-        Holding (now space) count × Chosen width choice × (choice .taken + trees ≤ 3)
-        × IsList width (now first) × IsList width (now second) × IsList width (now third)
+        Choosable width trees (now first) (now second) (now third) choice × Holding (now space) count
         ⌝ }
     ensures { λ r. ⌜
-        Grown (now (space .entry)) count
+        Added (now (space .entry)) count
         (chosenFrom width trees (now (first .entry)) (now (second .entry)) (now (third .entry)) choice)
-        (now (space .exit)) r
+        r (now (space .exit))
         ⌝ }
 {
     if trees == 0 {
@@ -150,20 +150,17 @@ pub fn choose(
     let mut total = count;
     let mut place = next_fit(first, 0, m, width);
     while place < first.len() / LEAF_SIZE {
-        total = choose(
-            second,
-            third,
-            third,
-            trees - 1,
-            width,
-            with_leaf(width, choice, first, place),
-            space,
-            total,
-        );
-        if room_in(space.len()) < total {
-            return total;
+        let next = with_leaf(width, choice, first, place);
+        let adding = choose(second, third, third, trees - 1, width, next, space, total);
+        match adding {
+            Adding::Count(more) => {
+                total = more;
+            }
+            Adding::Stop(fault) => {
+                return Adding::Stop(fault);
+            }
         }
         place = next_fit(first, place + 1, m, width);
     }
-    total
+    Adding::Count(total)
 }

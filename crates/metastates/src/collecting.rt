@@ -15,11 +15,12 @@ ghost use Prim.Native.Nat.{_+_, _*_, _≤_};
 ghost use lib.ListN.{length, set, take, drop};
 ghost use Rattle.definitions.specs.Lists.{concatMap};
 ghost use Rattle.tables.specs.Usable.{bookWith, Fit};
-ghost use Rattle.metastates.specs.Leaves.{leafSize, listed, listedAt, NoneUsed, UsedWithin};
+ghost use Rattle.metastates.specs.Leaves.{leafSize, listed, listedAt, UsedWithin};
 ghost use Rattle.metastates.specs.Leaves.{leafWords, leavesFor, Listing};
+ghost use Rattle.metastates.specs.Working.{IsPhone, Unused};
 
-// Takes a leaf out of the table: copies its matrix into the record at a place of the list, the node before it, and marks
-// its own record as not used.
+// Takes a leaf out of the table: copies its matrix into the record at a place of the list, the node before it,
+// and marks its own record as not used.
 fn take_leaf(table: &mut [u64], node: usize, list: &mut [u64], place: usize)
     requires { ⌜
         (leafSize * node + leafSize ≤ length (now table)) × (leafSize * place + leafSize ≤ length (now list))
@@ -36,8 +37,9 @@ fn take_leaf(table: &mut [u64], node: usize, list: &mut [u64], place: usize)
     table[LEAF_SIZE * node] = 0;
 }
 
-// Lists the nodes whose records are used, ascending, each with its matrix, and leaves no record used; answers how many.
-// Looks only at the nodes from one to another: the table is as long as the book, a tree's nodes mostly stand together.
+// Lists the nodes whose records are used, ascending, each with its matrix, and leaves no record used; answers
+// how many. Looks only at the nodes from one to another: the table is as long as the book, a tree's nodes
+// mostly stand together.
 fn collect(table: &mut [u64], first: usize, last: usize, list: &mut [u64]) -> usize
     requires { ⌜
         (leafSize * first ≤ length (now table)) × (leafSize * last + leafSize ≤ length (now table))
@@ -60,8 +62,8 @@ fn collect(table: &mut [u64], first: usize, last: usize, list: &mut [u64]) -> us
     count
 }
 
-// Lists the leaves of a phone's tree for a state; answers how many. A state that the book lacks has none. The table has no
-// used record before and after, so it need not be cleared for each tree.
+// Lists the leaves of a phone's tree for a state; answers how many. A state that the book lacks has none. The
+// table has no used record before and after, so it need not be cleared for each tree.
 pub fn list_leaves(
     header: Header,
     nodes: &[u32],
@@ -73,10 +75,8 @@ pub fn list_leaves(
     list: &mut [u64],
 ) -> usize
     requires { ⌜
-        Fit header (now nodes) (now classes) (now roots)
-        × (1 ≤ phone) × (phone ≤ header .phones) × (1 ≤ state)
-        × (length (now table) ≡ leafSize * header .nodes) × (length (now table) ≤ length (now list))
-        × NoneUsed (now table)
+        Fit header (now nodes) (now classes) (now roots) × IsPhone header phone × (1 ≤ state)
+        × Unused (header .nodes) (now table) × (length (now table) ≤ length (now list))
         ⌝ }
     ensures { λ r. ⌜
         Listing (concatMap leafWords (leavesFor

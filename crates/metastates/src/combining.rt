@@ -1,10 +1,10 @@
 // The combinations of a book, in lent space: 18, then 30.
+use crate::Adding;
 use crate::ByPhone;
 use crate::Choice;
 use crate::Combined;
 use crate::LEAF_SIZE;
 use crate::choosing::choose;
-use crate::choosing::room_in;
 use crate::collecting::list_leaves;
 use definitions::Fault;
 use definitions::Header;
@@ -16,19 +16,17 @@ use matrix::sets::alone;
 use matrix::shaping::around;
 use tables::foreign::tables_known;
 ghost use mathlib.Core.Path.{_≡_};
-ghost use Prim.Native.Nat.{_*_, _≤_};
 ghost use lib.ListN.{length};
-ghost use Rattle.definitions.specs.Combinations.{combinationsOf, combinations, combine};
-ghost use Rattle.definitions.specs.Combinations.{combinationSpace, combinationRoom};
-ghost use Rattle.definitions.specs.Lists.{cleared, padded};
+ghost use Rattle.definitions.specs.Combinations.{combinationsOf, combine, combinationSpace};
+ghost use Rattle.definitions.specs.Lists.{cleared};
 ghost use Rattle.definitions.specs.Tables.{tablesBook};
 ghost use Rattle.tables.specs.Lending.{lentTables};
 ghost use Rattle.tables.specs.Usable.{bookWith, Fit};
-ghost use Rattle.metastates.specs.Answers.{combinedOf, endsOf, endsLeft};
-ghost use Rattle.metastates.specs.Choices.{Holding, Grown};
-ghost use Rattle.metastates.specs.Leaves.{leafSize, NoneUsed};
+ghost use Rattle.metastates.specs.Answers.{combinedOf, endsLeft, Clear, AllAdded};
+ghost use Rattle.metastates.specs.Space.{Holding, Added};
+ghost use Rattle.metastates.specs.Working.{IsPhone, Working, Worked};
 
-// Adds the combinations of a phone; answers how many there are then, or one more than have room.
+// Adds the combinations of a phone.
 fn choose_phone(
     header: Header,
     nodes: &[u32],
@@ -41,25 +39,21 @@ fn choose_phone(
     third: &mut [u64],
     space: &mut [u64],
     count: usize,
-) -> usize
+) -> Adding
     requires { ⌜
-        Fit header (now nodes) (now classes) (now roots)
-        × (1 ≤ phone) × (phone ≤ header .phones) × Holding (now space) count
-        × (length (now table) ≡ leafSize * header .nodes) × (length (now table) ≤ length (now first))
-        × (length (now table) ≤ length (now second)) × (length (now table) ≤ length (now third))
-        × NoneUsed (now table)
+        Fit header (now nodes) (now classes) (now roots) × IsPhone header phone
+        × Working (header .nodes) (now table) (now first) (now second) (now third)
+        × Holding (now space) count
         ⌝ }
     ensures space { λ r. ⌜
-        Grown (now (space .entry)) count
-        (combinationsOf
-        (bookWith header (now (nodes .entry)) (now (classes .entry)) (now (roots .entry))) phone)
-        (now (space .exit)) r
+        Added (now (space .entry)) count
+        (combinationsOf (bookWith header (now (nodes .entry)) (now (classes .entry)) (now (roots .entry)))
+        phone) r (now (space .exit))
         ⌝ }
     ensures lists { λ r. ⌜
-        (length (now (table .exit)) ≡ length (now (table .entry))) × NoneUsed (now (table .exit))
-        × (length (now (first .exit)) ≡ length (now (first .entry)))
-        × (length (now (second .exit)) ≡ length (now (second .entry)))
-        × (length (now (third .exit)) ≡ length (now (third .entry)))
+        Worked (header .nodes)
+        (now (table .entry)) (now (first .entry)) (now (second .entry)) (now (third .entry))
+        (now (table .exit)) (now (first .exit)) (now (second .exit)) (now (third .exit))
         ⌝ }
 {
     let a = list_leaves(header, nodes, classes, roots, phone, 1, table, first);
@@ -86,8 +80,7 @@ fn choose_phone(
     )
 }
 
-// Adds the combinations of all phones, and notes how many there are after each; answers how many there are, or one more than
-// have room. The working lists are lent.
+// Adds the combinations of all phones, and notes how many there are after each. The working lists are lent.
 fn choose_phones(
     header: Header,
     nodes: &[u32],
@@ -99,30 +92,20 @@ fn choose_phones(
     third: &mut [u64],
     space: &mut [u64],
     ends: &mut [u32],
-) -> usize
+) -> Adding
     requires { ⌜
-        Fit header (now nodes) (now classes) (now roots)
-        × (now space ≡ cleared (length (now space))) × (now ends ≡ cleared 65)
-        × (length (now table) ≡ leafSize * header .nodes) × (length (now table) ≤ length (now first))
-        × (length (now table) ≤ length (now second)) × (length (now table) ≤ length (now third))
-        × NoneUsed (now table)
+        Fit header (now nodes) (now classes) (now roots) × Clear (now space) (now ends)
+        × Working (header .nodes) (now table) (now first) (now second) (now third)
         ⌝ }
-    ensures space { λ r. ⌜
-        Grown (now (space .entry)) 0
-        (combinations
-        (bookWith header (now (nodes .entry)) (now (classes .entry)) (now (roots .entry))))
-        (now (space .exit)) r
-        ⌝ }
-    ensures ends { λ r. ⌜
-        (r ≤ combinationRoom (length (now (space .entry)))
-        → now (ends .exit) ≡ padded 65 (endsOf
-        (bookWith header (now (nodes .entry)) (now (classes .entry)) (now (roots .entry)))))
+    ensures { λ r. ⌜
+        AllAdded (bookWith header (now (nodes .entry)) (now (classes .entry)) (now (roots .entry)))
+        (now (space .entry)) r (now (space .exit)) (now (ends .exit))
         ⌝ }
 {
     let mut count = 0;
     let mut phone = 1;
     while phone <= header.phones {
-        count = choose_phone(
+        let adding = choose_phone(
             header,
             nodes,
             classes,
@@ -135,105 +118,22 @@ fn choose_phones(
             space,
             count,
         );
-        if room_in(space.len()) < count {
-            return count;
+        match adding {
+            Adding::Count(more) => {
+                count = more;
+            }
+            Adding::Stop(fault) => {
+                return Adding::Stop(fault);
+            }
         }
         ends[wide(phone)] = count as u32;
         phone += 1;
     }
-    count
+    Adding::Count(count)
 }
 
-// The combinations of all phones, with working lists for at most 1024 nodes.
-fn choose_few(
-    header: Header,
-    nodes: &[u32],
-    classes: &[u64],
-    roots: &[u32],
-    space: &mut [u64],
-    ends: &mut [u32],
-) -> usize
-    requires { ⌜
-        Fit header (now nodes) (now classes) (now roots)
-        × (now space ≡ cleared (length (now space))) × (now ends ≡ cleared 65)
-        × (header .nodes ≤ 1024)
-        ⌝ }
-    ensures space { λ r. ⌜
-        Grown (now (space .entry)) 0
-        (combinations
-        (bookWith header (now (nodes .entry)) (now (classes .entry)) (now (roots .entry))))
-        (now (space .exit)) r
-        ⌝ }
-    ensures ends { λ r. ⌜
-        (r ≤ combinationRoom (length (now (space .entry)))
-        → now (ends .exit) ≡ padded 65 (endsOf
-        (bookWith header (now (nodes .entry)) (now (classes .entry)) (now (roots .entry)))))
-        ⌝ }
-{
-    let mut table = [0u64; 8192];
-    let mut first = [0u64; 8192];
-    let mut second = [0u64; 8192];
-    let mut third = [0u64; 8192];
-    let size = LEAF_SIZE * wide(header.nodes);
-    choose_phones(
-        header,
-        nodes,
-        classes,
-        roots,
-        &mut table[..size],
-        &mut first,
-        &mut second,
-        &mut third,
-        space,
-        ends,
-    )
-}
-
-// The combinations of all phones, with working lists for any number of nodes.
-fn choose_many(
-    header: Header,
-    nodes: &[u32],
-    classes: &[u64],
-    roots: &[u32],
-    space: &mut [u64],
-    ends: &mut [u32],
-) -> usize
-    requires { ⌜
-        Fit header (now nodes) (now classes) (now roots)
-        × (now space ≡ cleared (length (now space))) × (now ends ≡ cleared 65)
-        ⌝ }
-    ensures space { λ r. ⌜
-        Grown (now (space .entry)) 0
-        (combinations
-        (bookWith header (now (nodes .entry)) (now (classes .entry)) (now (roots .entry))))
-        (now (space .exit)) r
-        ⌝ }
-    ensures ends { λ r. ⌜
-        (r ≤ combinationRoom (length (now (space .entry)))
-        → now (ends .exit) ≡ padded 65 (endsOf
-        (bookWith header (now (nodes .entry)) (now (classes .entry)) (now (roots .entry)))))
-        ⌝ }
-{
-    let mut table = [0u64; 32768];
-    let mut first = [0u64; 32768];
-    let mut second = [0u64; 32768];
-    let mut third = [0u64; 32768];
-    let size = LEAF_SIZE * wide(header.nodes);
-    choose_phones(
-        header,
-        nodes,
-        classes,
-        roots,
-        &mut table[..size],
-        &mut first,
-        &mut second,
-        &mut third,
-        space,
-        ends,
-    )
-}
-
-// The combinations of all phones. A small book gets small working lists, so that few words are cleared for it.
+// Adds the combinations of all phones. A short table of leaves gets short arrays, for itself and for the lists,
+// so that few words are cleared for a small book.
 fn choose_all(
     header: Header,
     nodes: &[u32],
@@ -241,27 +141,50 @@ fn choose_all(
     roots: &[u32],
     space: &mut [u64],
     ends: &mut [u32],
-) -> usize
+) -> Adding
     requires { ⌜
-        Fit header (now nodes) (now classes) (now roots)
-        × (now space ≡ cleared (length (now space))) × (now ends ≡ cleared 65)
+        Fit header (now nodes) (now classes) (now roots) × Clear (now space) (now ends)
         ⌝ }
-    ensures space { λ r. ⌜
-        Grown (now (space .entry)) 0
-        (combinations
-        (bookWith header (now (nodes .entry)) (now (classes .entry)) (now (roots .entry))))
-        (now (space .exit)) r
-        ⌝ }
-    ensures ends { λ r. ⌜
-        (r ≤ combinationRoom (length (now (space .entry)))
-        → now (ends .exit) ≡ padded 65 (endsOf
-        (bookWith header (now (nodes .entry)) (now (classes .entry)) (now (roots .entry)))))
+    ensures { λ r. ⌜
+        AllAdded (bookWith header (now (nodes .entry)) (now (classes .entry)) (now (roots .entry)))
+        (now (space .entry)) r (now (space .exit)) (now (ends .exit))
         ⌝ }
 {
-    if header.nodes <= 1024 {
-        return choose_few(header, nodes, classes, roots, space, ends);
+    let size = LEAF_SIZE * wide(header.nodes);
+    if size <= 8192 {
+        let mut table = [0u64; 8192];
+        let mut first = [0u64; 8192];
+        let mut second = [0u64; 8192];
+        let mut third = [0u64; 8192];
+        return choose_phones(
+            header,
+            nodes,
+            classes,
+            roots,
+            &mut table[..size],
+            &mut first,
+            &mut second,
+            &mut third,
+            space,
+            ends,
+        );
     }
-    choose_many(header, nodes, classes, roots, space, ends)
+    let mut table = [0u64; 32768];
+    let mut first = [0u64; 32768];
+    let mut second = [0u64; 32768];
+    let mut third = [0u64; 32768];
+    choose_phones(
+        header,
+        nodes,
+        classes,
+        roots,
+        &mut table[..size],
+        &mut first,
+        &mut second,
+        &mut third,
+        space,
+        ends,
+    )
 }
 
 // The refusal of a fault.
@@ -307,11 +230,15 @@ pub fn combine(
         return refuse(Fault::Foreign);
     }
     let mut ends = [0u32; 65];
-    let count = choose_all(header, nodes, classes, roots, space, &mut ends);
-    if room_in(space.len()) < count {
-        clear_wide_words(space);
-        return refuse(Fault::Choices);
+    let adding = choose_all(header, nodes, classes, roots, space, &mut ends);
+    match adding {
+        Adding::Count(count) => {
+            let answer = Combined::Combinations(count);
+            return ByPhone { answer, ends };
+        }
+        Adding::Stop(fault) => {
+            clear_wide_words(space);
+            return refuse(fault);
+        }
     }
-    let answer = Combined::Combinations(count);
-    ByPhone { answer, ends }
 }

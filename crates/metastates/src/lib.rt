@@ -4,6 +4,7 @@ mod collecting;
 pub mod combining;
 mod walking;
 
+use definitions::Fault;
 use definitions::Refusal;
 use matrix::Matrix;
 
@@ -20,6 +21,12 @@ pub enum Combined {
 pub struct ByPhone {
     pub answer: Combined,
     pub ends: [u32; 65],
+}
+
+// What adding combinations leads to: how many there are then, or the fault.
+enum Adding {
+    Count(usize),
+    Stop(Fault),
 }
 
 // A phone with the leaves chosen so far, one from each of its first trees, and the meet of their matrices.

@@ -4,7 +4,8 @@ use Prim.Native.Nat.{ℕ, _*_}
 use lib.ListN.{length}
 use Rattle.definitions.specs.declared.Header.{Header}
 use Rattle.definitions.specs.Faults.{Outcome, answered, refused}
-use Rattle.definitions.specs.Connecting.{Network, Built, finished, stopped}
+use Rattle.definitions.specs.Growing.{finished, stopped}
+use Rattle.definitions.specs.Connecting.{Network, Built}
 use Rattle.definitions.specs.Tables.{Tables, tablesBook}
 use Rattle.definitions.specs.Building.{Space, Buffers, build, buffersLeft, countsIn}
 use Rattle.definitions.specs.Arcs.{arcSize}

@@ -7,11 +7,15 @@ use lib.ListN.{length, take, drop}
 use Rattle.definitions.specs.declared.Header.{Header}
 use Rattle.definitions.specs.Lists.{_!_, concatMap, records}
 use Rattle.definitions.specs.PhoneSets.{has}
+use Rattle.definitions.specs.Matrices.{valid}
 use Rattle.definitions.specs.BookLines.{leaf}
 use Rattle.definitions.specs.Tables.{Book}
 use Rattle.definitions.specs.ForeignTables.{headerKnown}
 use Rattle.definitions.specs.Lookup.{nodeAt}
 use Rattle.definitions.specs.Combinations.{Combination, combinationSize, combinationWords}
+use Rattle.definitions.specs.Metastates.{Metastate}
+use Rattle.definitions.specs.Growing.{Machine}
+use Rattle.definitions.specs.Connecting.{Rules, rulesOf, connecting}
 use Rattle.definitions.specs.laws.Metastates.{numbered}
 use Rattle.tables.specs.Usable.{bookWith}
 use Rattle.matrix.specs.Shapes.{widthOf, matrixIn}
@@ -22,7 +26,7 @@ combinationIn header words =
     record {
       phone = words ! 0;
       leaves = take (header .states) (drop 1 words);
-      matrix = matrixIn (header .half) (drop 4 words);
+      carried = matrixIn (header .half) (drop 4 words);
     }
 
 -- the combinations in whole records
@@ -34,15 +38,23 @@ combinationsIn header words =
 abbrev pub nodesBook : Header → (nodes : List ℕ) → Book
 nodesBook header nodes = bookWith header nodes [] []
 
--- a combination of the book: its phone, a leaf for each state, columns that hold the book's phones, the centre
--- none but its own
+-- the rules of a network, and how it grows by them, from nodes and combinations in words
+abbrev pub rulesIn : Header → (nodes words : List ℕ) → Rules
+rulesIn header nodes words = rulesOf (nodesBook header nodes) (combinationsIn header words)
+
+abbrev pub machineIn : Header → (nodes words : List ℕ) → Machine Metastate Metastate
+machineIn header nodes words = connecting (rulesIn header nodes words)
+
+-- a combination of the book: its phone, a leaf for each state, whose matrices meet in a valid matrix, columns
+-- that hold the book's phones, the centre none but its own
 pub record IsCombination (header : Header) (c : Combination) : Type 0 where
   pub phone : 1 ≤ c .phone
   pub phones : c .phone ≤ header .phones
   pub states : length (c .leaves) ≡ header .states
-  pub width : length (c .matrix) ≡ widthOf (header .half)
-  pub below : (column : ℕ) → (c .matrix ! column) < 2 ^ header .phones
-  pub centre : (p : ℕ) → T (has p (c .matrix ! header .half)) → p ≡ c .phone
+  pub width : length (c .carried) ≡ widthOf (header .half)
+  pub valid : T (valid (c .carried))
+  pub below : (column : ℕ) → (c .carried ! column) < 2 ^ header .phones
+  pub centre : (p : ℕ) → T (has p (c .carried ! header .half)) → p ≡ c .phone
 
 -- words that hold combinations of the book, and nothing else
 pub record Usable (header : Header) (words : List ℕ) : Type 0 where
@@ -61,8 +73,13 @@ Modelled header nodes words =
     × (nodeAt (nodesBook header nodes .nodes) (numbered (combinationsIn header words) number .leaves ! state)
     ≡ leaf model))
 
--- where the combinations of the phones up to one end: those before there have such phones, those from there on greater
--- ones
+-- both: nodes and combinations that can be connected
+pub record Connectable (header : Header) (nodes words : List ℕ) : Type 0 where
+  pub usable : Usable header words
+  pub modelled : Modelled header nodes words
+
+-- where the combinations of the phones up to one end: those before there have such phones, those from there
+-- on greater ones
 pub record EndsAt (combinations : List Combination) (ends : List ℕ) (phone : ℕ) : Type 0 where
   pub within : (ends ! phone) ≤ length combinations
   pub before : (number : ℕ) → number < (ends ! phone) → numbered combinations number .phone ≤ phone

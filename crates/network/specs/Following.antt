@@ -10,7 +10,7 @@ use Rattle.definitions.specs.laws.Searching.{NoneFrom, FirstFrom}
 
 -- whether a combination follows: its matrix meets the shifted matrix validly
 abbrev pub followsAt : (shifted : Matrix) → List Combination → (number : ℕ) → Bool
-followsAt shifted combinations number = valid (meet shifted (numbered combinations number .matrix))
+followsAt shifted combinations number = valid (meet shifted (numbered combinations number .carried))
 
 -- where to look after a combination: none from it up to the next follows
 abbrev pub Beyond : (shifted : Matrix) → List Combination → (number next : ℕ) → Type 0

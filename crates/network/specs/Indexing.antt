@@ -1,5 +1,6 @@
--- An index of combinations: where those of each phone end, then rows of bits. The row of a column and a phone has the
--- bit of each combination that has the phone in that column. A word of a row is a set of places, 1 to 64.
+-- An index of combinations: where those of each phone end, then rows of bits. The row of a column and a phone
+-- has the bit of each combination that has the phone in that column. A word of a row is a set of places, 1 to
+-- 64.
 use mathlib.Core.Path.{_≡_}
 use mathlib.Core.List.{List}
 use mathlib.Core.Bool.{false}
@@ -11,6 +12,7 @@ use Rattle.definitions.specs.Lists.{_!_}
 use Rattle.definitions.specs.PhoneSets.{has}
 use Rattle.definitions.specs.Combinations.{combinationSize}
 use Rattle.network.specs.Combinations.{combinationsIn, EndsAt}
+use Rattle.network.specs.RecordWords.{columnWord}
 
 -- how many words the ends take, and how many combinations have their bits in one word
 abbrev pub endsSize : ℕ
@@ -31,6 +33,13 @@ rowAt phones blocks column p = endsSize + (column * phones + p) * blocks
 abbrev pub farthest : ℕ
 farthest = 262144
 
+-- a row that does not begin too far: there are few phones, rows take few words, and the column is left of the
+-- centre
+pub record NearRow (phones blocks column : ℕ) : Type 0 where
+  pub phones-few : phones ≤ 64
+  pub blocks-few : blocks ≤ 1024
+  pub left : column < 3
+
 -- a place of a word is set; in words beyond the index all are
 abbrev pub IsSet : (index : List ℕ) → (at place : ℕ) → Type 0
 IsSet index at place = at < length index → T (has place (index ! at))
@@ -47,20 +56,13 @@ pub record MarkedBelow (phones blocks number column set below : ℕ) (index : Li
 abbrev pub Marks : Header → (words : List ℕ) → (count : ℕ) → (index : List ℕ) → Type 0
 Marks header words count index =
     (number column : ℕ) → number < count → column < header .half
-    → MarkedBelow (header .phones) (blocksIn words) number column (words ! (combinationSize * number + 4 + column)) 65
-    index
+    → MarkedBelow (header .phones) (blocksIn words) number column (columnWord words number column) 65 index
 
 pub record Indexed (header : Header) (words index : List ℕ) : Type 0 where
   pub sized : endsSize ≤ length index
   pub small : length index ≤ farthest
   pub ends-at : (phone : ℕ) → phone ≤ header .phones → EndsAt (combinationsIn header words) index phone
   pub marks : Marks header words (length (combinationsIn header words)) index
-
--- what setting bits leaves: the ends are as they were, and no bit is lost
-pub record Marking (index₀ index : List ℕ) : Type 0 where
-  pub sized : length index ≡ length index₀
-  pub before : (i : ℕ) → i < endsSize → (index ! i) ≡ (index₀ ! i)
-  pub kept : (i p : ℕ) → T (has p (index₀ ! i)) → T (has p (index ! i))
 
 -- the next member of a set, from one on: none stands before it; 65 where there is none
 pub record NextMember (set from next : ℕ) : Type 0 where

@@ -1,34 +1,45 @@
 -- A network in lent words: its metastates and arcs, read back and held.
 use mathlib.Core.Path.{_≡_}
-use mathlib.Core.List.{List, map}
-use Prim.Native.Nat.{ℕ, _/_, _≤_, _<_, min}
+use mathlib.Core.List.{List}
+use Prim.Native.Nat.{ℕ, _/_, _<_, min}
 use lib.ListN.{length, take, drop}
-use Rattle.definitions.specs.Lists.{_!_, concatMap, records, padded}
-use Rattle.definitions.specs.Arcs.{arcSize, arcsIn, arcWords}
+use Rattle.definitions.specs.Lists.{_!_}
+use Rattle.definitions.specs.Arcs.{arcSize}
 use Rattle.definitions.specs.Metastates.{Metastate, metastateSize, metastateWords}
-use Rattle.definitions.specs.Connecting.{Network, Room}
+use Rattle.definitions.specs.Growing.{Room}
+use Rattle.definitions.specs.Connecting.{Network, noMetastate}
 use Rattle.definitions.specs.Building.{roomIn}
-use Rattle.definitions.specs.laws.Members.{isIn, distinct}
+use Rattle.definitions.specs.laws.Members.{isIn}
 use Rattle.network.specs.declared.Sizes.{Sizes}
-use Rattle.network.specs.Chains.{headsIn, Linked}
-use Rattle.matrix.specs.Shapes.{widthOf}
+use Rattle.network.specs.Chains.{Code, keyOf}
+use Rattle.network.specs.Kept.{grownHeld, Kept}
+use Rattle.matrix.specs.Shapes.{widthOf, matrixIn}
 
+-- the metastate that a record holds, and the one of a combination's number and a matrix in seven words
 unfoldable pub metastateIn : (width : ℕ) → List ℕ → Metastate
-metastateIn width words = record { number = words ! 0; matrix = take width (drop 1 words) }
+metastateIn width words = record { number = words ! 0; carried = take width (drop 1 words) }
 
-unfoldable pub metastatesIn : (width count : ℕ) → (words : List ℕ) → List Metastate
-metastatesIn width count words = map (metastateIn width) (records metastateSize count words)
+abbrev pub metastateWith : (half number : ℕ) → (columns : List ℕ) → Metastate
+metastateWith half number columns = record { number = number; carried = matrixIn half columns }
+
+-- how metastates of a book stand in words
+abbrev pub metastateCode : (half : ℕ) → Code Metastate
+metastateCode half =
+    record {
+      nothing = noMetastate;
+      size = metastateSize;
+      words = metastateWords;
+      read = metastateIn (widthOf half);
+      key = λ x. keyOf (metastateWords x);
+    }
 
 -- the network that so many records hold
 abbrev pub networkHeld : (half : ℕ) → Sizes → (metastates arcs : List ℕ) → Network
 networkHeld half sizes metastates arcs =
-    record {
-      metastates = metastatesIn (widthOf half) (sizes .metastates) metastates;
-      arcs = arcsIn (sizes .arcs) arcs;
-    }
+    grownHeld (metastateCode half) (sizes .metastates) (sizes .arcs) metastates arcs
 
 abbrev pub sizesOf : Network → Sizes
-sizesOf net = record { metastates = length (net .metastates); arcs = length (net .arcs) }
+sizesOf net = record { metastates = length (net .table); arcs = length (net .arcs) }
 
 -- how many arcs, and how many metastates, lent words have room for
 abbrev pub arcRoom : (arcs : List ℕ) → ℕ
@@ -42,15 +53,8 @@ abbrev pub roomOf : (metastates arcs : List ℕ) → Room
 roomOf metastates arcs =
     roomIn (record { combinations = 0; metastates = length metastates; arcs = length arcs })
 
--- lent words that hold a network and nothing else, its metastates found by chains, with links for as many as have
--- room; they are numbered below `count`, have matrices of one width, and none stands twice
+-- lent words that hold a network; its metastates are numbered below `count` and have matrices of one width
 pub record Holds (half count : ℕ) (net : Network) (metastates arcs chains : List ℕ) : Type 0 where
-  pub metastate-words : metastates ≡ padded (length metastates) (concatMap metastateWords (net .metastates))
-  pub arc-words : arcs ≡ padded (length arcs) (concatMap arcWords (net .arcs))
-  pub metastate-room : length (net .metastates) ≤ roomOf metastates arcs .metastates
-  pub arc-room : length (net .arcs) ≤ roomOf metastates arcs .arcs
-  pub link-room : metastateRoom metastates < headsIn chains
-  pub linked : Linked (headsIn chains) chains (map metastateWords (net .metastates))
-  pub once : distinct (net .metastates)
-  pub numbers : (x : Metastate) → isIn x (net .metastates) → x .number < count
-  pub widths : (x : Metastate) → isIn x (net .metastates) → length (x .matrix) ≡ widthOf half
+  pub kept : Kept (metastateCode half) (roomOf metastates arcs) net metastates arcs chains
+  pub numbers : (x : Metastate) → isIn x (net .table) → x .number < count
+  pub widths : (x : Metastate) → isIn x (net .table) → length (x .carried) ≡ widthOf half

@@ -2,34 +2,54 @@
 use mathlib.Core.Path.{_≡_}
 use mathlib.Core.List.{List}
 use mathlib.Core.Bool.{true}
-use Prim.Native.Nat.{ℕ, _≤_, _<_}
+use Prim.Native.Nat.{ℕ, _+_, _/_, _%_, _≤_, _<_}
+use lib.Dec.{T}
 use lib.ListN.{length}
+use Rattle.definitions.specs.PhoneSets.{has}
 use Rattle.definitions.specs.Matrices.{Matrix}
 use Rattle.definitions.specs.Combinations.{Combination}
 use Rattle.network.specs.declared.rows.Rows.{Rows}
-use Rattle.network.specs.Indexing.{farthest, IsMarked}
+use Rattle.network.specs.Indexing.{blockSize, farthest, IsSet, IsMarked}
 use Rattle.network.specs.Following.{followsAt}
 
 -- a row has the bit of each combination that follows
-pub record Admits (shifted : Matrix) (combinations : List Combination) (index : List ℕ) (row : ℕ) : Type 0 where
+pub record Admits (shifted : Matrix) (combinations : List Combination) (index : List ℕ)
+    (row : ℕ) : Type 0 where
   pub near : row ≤ farthest
   pub marked : (number : ℕ) → number < length combinations → followsAt shifted combinations number ≡ true
       → IsMarked index row number
 
-pub record Admitting (shifted : Matrix) (combinations : List Combination) (index : List ℕ) (rows : Rows) : Type 0 where
+pub record Admitting (shifted : Matrix) (combinations : List Combination) (index : List ℕ)
+    (rows : Rows) : Type 0 where
   pub first : Admits shifted combinations index (rows .first)
   pub second : Admits shifted combinations index (rows .second)
   pub third : Admits shifted combinations index (rows .third)
 
 -- rows that begin not too far
-abbrev pub Near : Rows → Type 0
-Near rows = (rows .first ≤ farthest) × (rows .second ≤ farthest) × (rows .third ≤ farthest)
+pub record Near (rows : Rows) : Type 0 where
+  pub first : rows .first ≤ farthest
+  pub second : rows .second ≤ farthest
+  pub third : rows .third ≤ farthest
 
--- the bit of a combination in all three
-pub record AllMarked (index : List ℕ) (rows : Rows) (number : ℕ) : Type 0 where
-  pub first : IsMarked index (rows .first) number
-  pub second : IsMarked index (rows .second) number
-  pub third : IsMarked index (rows .third) number
+-- a place of a block is set in all three, and so the bit of a combination
+pub record AllSet (index : List ℕ) (rows : Rows) (block place : ℕ) : Type 0 where
+  pub first : IsSet index (rows .first + block) place
+  pub second : IsSet index (rows .second + block) place
+  pub third : IsSet index (rows .third + block) place
+
+abbrev pub AllMarked : (index : List ℕ) → Rows → (number : ℕ) → Type 0
+AllMarked index rows number = AllSet index rows (number / blockSize) (number % blockSize + 1)
+
+-- a set that has the places of a block which are set in all three
+abbrev pub HasAllSet : (index : List ℕ) → Rows → (block set : ℕ) → Type 0
+HasAllSet index rows block set =
+    (place : ℕ) → 1 ≤ place → place ≤ 64 → AllSet index rows block place → T (has place set)
+
+-- a search along rows, from a combination on
+pub record AlongRows (rows : Rows) (from count : ℕ) : Type 0 where
+  pub near : Near rows
+  pub within : from ≤ count
+  pub few : count ≤ 65535
 
 -- the next combination, from one on, whose bits are set in all rows: none stands before it
 pub record NextMarked (index : List ℕ) (rows : Rows) (from count next : ℕ) : Type 0 where

@@ -1,8 +1,8 @@
 -- What a step of a build leaves and answers, by what the definition performs.
 use mathlib.Core.Path.{_≡_}
-use mathlib.Core.List.{List, [], _++_, map}
+use mathlib.Core.List.{List, [], _++_}
 use mathlib.Core.Bool.{Bool}
-use Prim.Native.Nat.{ℕ, _+_, _*_}
+use Prim.Native.Nat.{ℕ, _+_, _*_, _<_}
 use lib.Dec.{ltb}
 use lib.ListN.{length, take, drop}
 use Rattle.definitions.specs.declared.Fault.the-variants.{Tangle}
@@ -11,19 +11,18 @@ use Rattle.definitions.specs.Faults.{Outcome, answered, refused}
 use Rattle.definitions.specs.Lists.{if_then_else_, concatMap, padded, cleared}
 use Rattle.definitions.specs.Arcs.{Arc, arcSize, arcWords, firstState}
 use Rattle.definitions.specs.Metastates.{Metastate, metastateWords, modelsOf}
-use Rattle.definitions.specs.Connecting.{Network, Built, arcInto, ownArcs, finalArcs}
-use Rattle.definitions.specs.Connecting.{enter, perform, performAll}
+use Rattle.definitions.specs.Connecting.{ownArcs, finalArcs, arcInto, Network, Built}
 use Rattle.definitions.specs.Building.{networkIn}
 use Rattle.definitions.specs.declared.Refusal.{Refusal}
-use Rattle.matrix.specs.Shapes.{matrixIn}
 use Rattle.network.specs.declared.Sizes.{Sizes}
 use Rattle.network.specs.declared.Step.{Step}
 use Rattle.network.specs.declared.Step.the-variants as step
 use Rattle.network.specs.declared.Arcs.{Arcs}
 use Rattle.network.specs.declared.Build.{Build}
 use Rattle.network.specs.Answers.{buildOf}
-use Rattle.network.specs.Combinations.{combinationsIn, nodesBook}
-use Rattle.network.specs.Networks.{sizesOf, networkHeld, arcRoom, roomOf, Holds}
+use Rattle.network.specs.Combinations.{combinationsIn, nodesBook, rulesIn}
+use Rattle.network.specs.Networks.{sizesOf, arcRoom, Holds}
+use Rattle.network.specs.Spans.{Spanned}
 
 unfoldable pub stepOf : Outcome Network → Step
 stepOf (answered net) = step.Next (sizesOf net)
@@ -37,12 +36,33 @@ pub record AfterStep (half count : ℕ) (metastates arcs : List ℕ) (outcome : 
   pub metastates-sized : length metastates′ ≡ length metastates
   pub arcs-sized : length arcs′ ≡ length arcs
 
+-- what a step leaves of all its buffers
+pub record StepLeft (header : Header) (words metastates arcs chains : List ℕ) (outcome : Outcome Network)
+    (answer : Step) (metastates′ arcs′ chains′ : List ℕ) : Type 0 where
+  pub step : AfterStep (header .half) (length (combinationsIn header words)) metastates arcs outcome answer
+      metastates′ arcs′ chains′
+  pub chains-sized : length chains′ ≡ length chains
+
+-- the same with spans: where the step answers, they are spans of its network
+pub record TurnLeft (header : Header) (nodes words metastates arcs chains spans : List ℕ)
+    (outcome : Outcome Network) (answer : Step) (metastates′ arcs′ chains′ spans′ : List ℕ) : Type 0 where
+  pub left : StepLeft header words metastates arcs chains outcome answer metastates′ arcs′ chains′
+  pub spans-sized : length spans′ ≡ length spans
+  pub spanned : (net : Network) → outcome ≡ answered net
+      → Spanned (nodesBook header nodes) (combinationsIn header words) net spans′
+
 -- ---- arcs
 
 -- up to three arcs as words
 pub record AreArcs (new : Arcs) (arcs : List Arc) : Type 0 where
   pub counted : new .count ≡ length arcs
   pub worded : take (arcSize * new .count) (new .words) ≡ concatMap arcWords arcs
+
+-- at most two of them, and the states of one more
+pub record Addable (new : Arcs) (from to : ℕ) : Type 0 where
+  pub few : new .count < 3
+  pub from-word : from < 4294967296
+  pub to-word : to < 4294967296
 
 -- the words of arcs after new ones were appended to so many, if there was room
 abbrev pub ArcsAppended : (count : ℕ) → (new : Arcs) → (roomy : Bool) → (arcs arcs′ : List ℕ) → Type 0
@@ -65,11 +85,15 @@ ArcAnswered sizes arcs answer =
     then step.Next (record { metastates = sizes .metastates; arcs = sizes .arcs + 1 })
     else step.Stop Tangle)
 
+pub record ArcAdded (sizes : Sizes) (a : Arc) (arcs : List ℕ) (answer : Step) (arcs′ : List ℕ) : Type 0 where
+  pub answers : ArcAnswered sizes arcs answer
+  pub words : ArcAppended sizes a arcs arcs′
+
 -- the arc from a state into a metastate of a combination, at a place; the matrix does not matter
 abbrev pub intoArc : Header → (nodes words : List ℕ) → (from number place : ℕ) → Arc
 intoArc header nodes words from number place =
-    arcInto (nodesBook header nodes) (combinationsIn header words) from place
-    (record { number = number; matrix = [] })
+    arcInto (rulesIn header nodes words) from place
+    (record { number = number; carried = [] })
 
 -- the arcs between a metastate's own states
 abbrev pub ownOf : Header → (nodes words : List ℕ) → (place : ℕ) → Metastate → List Arc
@@ -80,24 +104,8 @@ ownOf header nodes words place x =
 -- these, and the arc to FINAL where the metastate may end: what a turn adds before the arcs to followers
 abbrev pub plainOf : Header → (nodes words : List ℕ) → (place : ℕ) → Metastate → List Arc
 plainOf header nodes words place x =
-    ownOf header nodes words place x ++ finalArcs (nodesBook header nodes) (combinationsIn header words) place x
-
--- ---- metastates entered from a state, in the room of the lent words
-
--- what entering one leads to, by the combination's number and the words of its matrix
-abbrev pub entered : Header → (nodes words metastates arcs : List ℕ) → Sizes → (from number : ℕ)
-    → (columns : List ℕ) → Outcome Network
-entered header nodes words metastates arcs sizes from number columns =
-    perform (nodesBook header nodes) (combinationsIn header words) (roomOf metastates arcs)
-    (networkHeld (header .half) sizes metastates arcs)
-    (enter from (record { number = number; matrix = matrixIn (header .half) columns }))
-
--- what entering several leads to
-abbrev pub enteringAll : Header → (nodes words : List ℕ) (from : ℕ) (metastates arcs : List ℕ)
-    → Network → List Metastate → Outcome Network
-enteringAll header nodes words from metastates arcs net xs =
-    performAll (nodesBook header nodes) (combinationsIn header words) (roomOf metastates arcs) net
-    (map (enter from) xs)
+    ownOf header nodes words place x
+    ++ finalArcs (rulesIn header nodes words) place x
 
 -- ---- connecting
 
@@ -106,21 +114,22 @@ pub record Connected (states : ℕ) (metastates arcs : List ℕ) (outcome : Outc
     (metastates′ arcs′ : List ℕ) : Type 0 where
   pub answers : answer ≡ buildOf states outcome
   pub metastate-words : (built : Built) → outcome ≡ answered built
-      → metastates′ ≡ padded (length metastates) (concatMap metastateWords (networkIn built .metastates))
+      → metastates′ ≡ padded (length metastates) (concatMap metastateWords (networkIn built .table))
   pub arc-words : (built : Built) → outcome ≡ answered built
       → arcs′ ≡ padded (length arcs) (concatMap arcWords (networkIn built .arcs))
   pub metastates-sized : length metastates′ ≡ length metastates
   pub arcs-sized : length arcs′ ≡ length arcs
 
 -- the same with the space of combinations, and all cleared where it is refused
-pub record BuiltIn (states : ℕ) (combinations metastates arcs : List ℕ) (outcome : Outcome Built) (answer : Build)
-    (combinations′ metastates′ arcs′ : List ℕ) : Type 0 where
+pub record BuiltIn (states : ℕ) (combinations metastates arcs : List ℕ) (outcome : Outcome Built)
+    (answer : Build) (combinations′ metastates′ arcs′ : List ℕ) : Type 0 where
   pub answers : answer ≡ buildOf states outcome
   pub kept : (built : Built) → outcome ≡ answered built → combinations′ ≡ combinations
   pub metastate-words : (built : Built) → outcome ≡ answered built
-      → metastates′ ≡ padded (length metastates) (concatMap metastateWords (networkIn built .metastates))
+      → metastates′ ≡ padded (length metastates) (concatMap metastateWords (networkIn built .table))
   pub arc-words : (built : Built) → outcome ≡ answered built
       → arcs′ ≡ padded (length arcs) (concatMap arcWords (networkIn built .arcs))
-  pub combinations-cleared : (r : Refusal) → outcome ≡ refused r → combinations′ ≡ cleared (length combinations)
+  pub combinations-cleared : (r : Refusal) → outcome ≡ refused r
+      → combinations′ ≡ cleared (length combinations)
   pub metastates-cleared : (r : Refusal) → outcome ≡ refused r → metastates′ ≡ cleared (length metastates)
   pub arcs-cleared : (r : Refusal) → outcome ≡ refused r → arcs′ ≡ cleared (length arcs)

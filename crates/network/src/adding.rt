@@ -1,5 +1,7 @@
-// Adding arcs and metastates to a network within its room: 31 for a new metastate is judged before 32 for the arc into it.
+// Adding arcs and metastates to a network within its room: 31 for a new metastate is judged before 32 for the
+// arc into it.
 use crate::Arcs;
+use crate::Follower;
 use crate::Sizes;
 use crate::Step;
 use crate::chains::find;
@@ -22,12 +24,11 @@ ghost use Rattle.definitions.specs.Arcs.{arcSize, lastState};
 ghost use Rattle.definitions.specs.ForeignTables.{headerKnown};
 ghost use Rattle.definitions.specs.Metastates.{metastateSize};
 ghost use Rattle.lines.specs.Putting.{putAt};
-ghost use Rattle.network.specs.Chains.{headsIn, linkedTo};
-ghost use Rattle.matrix.specs.Shapes.{widthOf, HasWidth};
-ghost use Rattle.network.specs.Combinations.{combinationsIn, Usable, Modelled};
-ghost use Rattle.network.specs.Networks.{networkHeld, arcRoom, Holds};
-ghost use Rattle.network.specs.Steps.{AfterStep, ArcsAppended};
-ghost use Rattle.network.specs.Steps.{ArcAnswered, ArcAppended, intoArc, entered};
+ghost use Rattle.network.specs.Chains.{keyOf, headsIn, linkedTo};
+ghost use Rattle.network.specs.Networks.{arcRoom};
+ghost use Rattle.network.specs.Outcomes.{entered};
+ghost use Rattle.network.specs.Steps.{StepLeft, ArcsAppended, ArcAdded, intoArc};
+ghost use Rattle.network.specs.Underway.{PlacedArc, Entering};
 
 // How many arcs the lent words have room for.
 pub fn arc_room(words: usize) -> usize
@@ -101,7 +102,8 @@ pub fn last_state(header: Header, place: usize) -> u32
     last as u32
 }
 
-// Appends the arc from a state to the first state of the metastate at a place, with its first model and its phone.
+// Appends the arc from a state to the first state of the metastate at a place, with its first model and
+// phone.
 fn enter_at(
     header: Header,
     nodes: &[u32],
@@ -112,15 +114,10 @@ fn enter_at(
     number: usize,
     place: usize,
 ) -> Step
-    requires { ⌜
-        Usable header (now combinations) × Modelled header (now nodes) (now combinations)
-        × (number < length (combinationsIn header (now combinations))) × (place < 65535)
-        × (sizes .arcs ≤ arcRoom (now arcs))
-        ⌝ }
-    ensures answer { λ r. ⌜ ArcAnswered sizes (now (arcs .entry)) r ⌝ }
-    ensures words { λ r. ⌜
-        ArcAppended sizes (intoArc header (now (nodes .entry)) (now (combinations .entry)) from number place)
-        (now (arcs .entry)) (now (arcs .exit))
+    requires { ⌜ PlacedArc header (now nodes) (now combinations) (now arcs) sizes number place ⌝ }
+    ensures { λ r. ⌜
+        ArcAdded sizes (intoArc header (now (nodes .entry)) (now (combinations .entry)) from number place)
+        (now (arcs .entry)) r (now (arcs .exit))
         ⌝ }
 {
     if arc_room(arcs.len()) <= sizes.arcs {
@@ -149,7 +146,7 @@ fn add_metastate(metastates: &mut [u64], chains: &mut [u32], place: usize, numbe
         ⌝ }
     ensures chains { λ r. ⌜
         now (chains .exit)
-        ≡ linkedTo (headsIn (now (chains .entry))) (now (chains .entry)) place (number ∷ m .columns)
+        ≡ linkedTo (headsIn (now (chains .entry))) (now (chains .entry)) place (keyOf (number ∷ m .columns))
         ⌝ }
 {
     put_numbered(metastates, METASTATE_SIZE * place, number as u64, m);
@@ -166,28 +163,23 @@ pub fn enter(
     chains: &mut [u32],
     sizes: Sizes,
     from: u32,
-    number: usize,
-    m: Matrix,
+    follower: Follower,
 ) -> Step
     requires { ⌜
-        Usable header (now combinations) × Modelled header (now nodes) (now combinations)
-        × (number < length (combinationsIn header (now combinations)))
-        × HasWidth (widthOf (header .half)) (m .columns)
-        × Holds (header .half) (length (combinationsIn header (now combinations)))
-        (networkHeld (header .half) sizes (now metastates) (now arcs))
-        (now metastates) (now arcs) (now chains)
+        Entering header (now nodes) (now combinations) (now metastates) (now arcs) (now chains) sizes follower
         ⌝ }
-    ensures step { λ r. ⌜
-        AfterStep (header .half) (length (combinationsIn header (now (combinations .entry))))
-        (now (metastates .entry)) (now (arcs .entry))
+    ensures { λ r. ⌜
+        StepLeft header (now (combinations .entry)) (now (metastates .entry)) (now (arcs .entry))
+        (now (chains .entry))
         (entered header (now (nodes .entry)) (now (combinations .entry)) (now (metastates .entry))
-        (now (arcs .entry)) sizes from number (m .columns))
+        (now (arcs .entry)) sizes from follower)
         r (now (metastates .exit)) (now (arcs .exit)) (now (chains .exit))
         ⌝ }
-    ensures chains { λ r. ⌜ length (now (chains .exit)) ≡ length (now (chains .entry)) ⌝ }
 {
+    let number = follower.number;
+    let m = follower.met;
     let used = METASTATE_SIZE * sizes.metastates;
-    let found = find(&metastates[..used], chains, number as u64, m);
+    let found = find(header.half, &metastates[..used], chains, number as u64, m);
     if found != 0 {
         return enter_at(
             header,

@@ -11,14 +11,11 @@ ghost use mathlib.Core.Path.{_≡_};
 ghost use Prim.Native.Nat.{_*_, _≤_};
 ghost use lib.ListN.{length, take};
 ghost use Rattle.definitions.specs.Combinations.{combinationSize};
-ghost use Rattle.definitions.specs.Connecting.{connect};
-ghost use Rattle.definitions.specs.Lists.{cleared};
 ghost use Rattle.tables.specs.Lending.{lentTables};
 ghost use Rattle.network.specs.Answers.{lentSpace, lentBuffers, buildAnswer, buildLeft};
-ghost use Rattle.network.specs.Combinations.{combinationsIn, nodesBook};
-ghost use Rattle.network.specs.Combinations.{Usable, Modelled, Ending};
-ghost use Rattle.network.specs.Networks.{roomOf};
+ghost use Rattle.network.specs.Outcomes.{connectedIn};
 ghost use Rattle.network.specs.Steps.{BuiltIn};
+ghost use Rattle.network.specs.Workspace.{Ready};
 
 // Connects the combinations in the space; all three buffers are cleared where there is no room.
 fn connect_in(
@@ -33,16 +30,13 @@ fn connect_in(
 ) -> Build
     requires { ⌜
         (combinationSize * count ≤ length (now combinations))
-        × Usable header (take (combinationSize * count) (now combinations))
-        × Modelled header (now nodes) (take (combinationSize * count) (now combinations))
-        × Ending header (take (combinationSize * count) (now combinations)) (now ends)
-        × (now metastates ≡ cleared (length (now metastates))) × (now arcs ≡ cleared (length (now arcs)))
+        × Ready header (now nodes) (take (combinationSize * count) (now combinations)) (now ends)
+        (now metastates) (now arcs)
         ⌝ }
     ensures { λ r. ⌜
         BuiltIn (header .states) (now (combinations .entry)) (now (metastates .entry)) (now (arcs .entry))
-        (connect (nodesBook header (now (nodes .entry)))
-        (combinationsIn header (take (combinationSize * count) (now (combinations .entry))))
-        (roomOf (now (metastates .entry)) (now (arcs .entry))) limit)
+        (connectedIn header (now (nodes .entry)) (take (combinationSize * count) (now (combinations .entry)))
+        (now (metastates .entry)) (now (arcs .entry)) limit)
         r (now (combinations .exit)) (now (metastates .exit)) (now (arcs .exit))
         ⌝ }
 {

@@ -10,7 +10,9 @@ use matrix::words::is_numbered;
 ghost use mathlib.Core.List.{_∷_};
 ghost use mathlib.Core.Path.{_≡_};
 ghost use Prim.Native.Nat.{_<_};
-ghost use Rattle.network.specs.Chains.{keyOf, rowsIn, headOf, headsIn, Linked, linkedTo, Found};
+ghost use Rattle.matrix.specs.Shapes.{widthOf, HasWidth};
+ghost use Rattle.network.specs.Chains.{elementsIn, keyOf, headOf, headsIn, linkedTo, Searchable, Found};
+ghost use Rattle.network.specs.Networks.{metastateWith, metastateCode};
 
 // The key of a metastate.
 pub fn key_of(number: u64, m: Matrix) -> usize
@@ -28,15 +30,20 @@ pub fn key_of(number: u64, m: Matrix) -> usize
 // The head of a metastate's chain, of so many.
 fn head_of(heads: usize, number: u64, m: Matrix) -> usize
     requires { ⌜ 0 < heads ⌝ }
-    ensures { λ r. ⌜ (r ≡ headOf heads (number ∷ m .columns)) × (r < heads) ⌝ }
+    ensures { λ r. ⌜ (r ≡ headOf heads (keyOf (number ∷ m .columns))) × (r < heads) ⌝ }
 {
     key_of(number, m) & (heads - 1)
 }
 
 // The place of a metastate in the table, counted from 1, or 0 where it is new.
-pub fn find(metastates: &[u64], chains: &[u32], number: u64, m: Matrix) -> usize
-    requires { ⌜ Linked (headsIn (now chains)) (now chains) (rowsIn (now metastates)) ⌝ }
-    ensures { λ r. ⌜ Found (rowsIn (now (metastates .entry))) (number ∷ m .columns) r ⌝ }
+pub fn find(half: u32, metastates: &[u64], chains: &[u32], number: u64, m: Matrix) -> usize
+    requires { ⌜
+        Searchable (metastateCode half) (now metastates) (now chains) × HasWidth (widthOf half) (m .columns)
+        ⌝ }
+    ensures { λ r. ⌜
+        Found (metastateCode half) (elementsIn (metastateCode half) (now (metastates .entry)))
+        (metastateWith half number (m .columns)) r
+        ⌝ }
 {
     let heads = chains.len() / 2;
     let mut at = wide(chains[head_of(heads, number, m)]);
@@ -55,7 +62,7 @@ pub fn link(chains: &mut [u32], place: usize, number: u64, m: Matrix)
     requires { ⌜ (place < headsIn (now chains)) × (place < 65535) ⌝ }
     ensures { λ r. ⌜
         now (chains .exit)
-        ≡ linkedTo (headsIn (now (chains .entry))) (now (chains .entry)) place (number ∷ m .columns)
+        ≡ linkedTo (headsIn (now (chains .entry))) (now (chains .entry)) place (keyOf (number ∷ m .columns))
         ⌝ }
 {
     let heads = chains.len() / 2;

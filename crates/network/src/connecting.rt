@@ -1,9 +1,12 @@
 // Connecting by turns: the start metastates, then each turn expands the oldest unexpanded metastate.
 use crate::Arcs;
 use crate::Build;
+use crate::Expanded;
 use crate::Sizes;
+use crate::Source;
 use crate::Step;
 use crate::Totals;
+use crate::Turn;
 use crate::adding::add_arcs;
 use crate::adding::last_state;
 use crate::following::follow;
@@ -26,26 +29,20 @@ use matrix::testing::ends_here;
 use matrix::words::matrix_at;
 ghost use mathlib.Core.List.{List, [], _∷_, _++_};
 ghost use mathlib.Core.Path.{_≡_};
-ghost use Prim.Native.Nat.{_+_, _≤_, _<_};
-ghost use lib.ListN.{length};
+ghost use Prim.Native.Nat.{_<_};
 ghost use Rattle.definitions.specs.Arcs.{Arc, arc};
-ghost use Rattle.definitions.specs.Connecting.{startEvents, noNetwork, performAll, expand};
-ghost use Rattle.definitions.specs.Connecting.{turnsFrom, connect};
-ghost use Rattle.definitions.specs.Lists.{cleared};
-ghost use Rattle.matrix.specs.Shapes.{widthOf, matrixIn, HasWidth};
-ghost use Rattle.network.specs.Chains.{headsIn};
-ghost use Rattle.network.specs.Combinations.{combinationsIn, nodesBook};
-ghost use Rattle.network.specs.Combinations.{Usable, Modelled, Ending};
-ghost use Rattle.network.specs.Indexing.{endsSize, farthest, Indexed};
-ghost use Rattle.network.specs.Networks.{networkHeld, metastateRoom, roomOf, Holds};
-ghost use Rattle.network.specs.Spans.{spanSize, Spanned};
-ghost use Rattle.network.specs.Repeating.{SpannedAfter};
-ghost use Rattle.network.specs.Steps.{AfterStep, AreArcs, ownOf, plainOf, Connected};
+ghost use Rattle.matrix.specs.Shapes.{matrixIn};
+ghost use Rattle.network.specs.Outcomes.{startedIn, expandedAt, turnedFrom, connectedIn};
+ghost use Rattle.network.specs.Steps.{StepLeft, TurnLeft, AreArcs, Addable, ownOf, plainOf, Connected};
+ghost use Rattle.network.specs.Underway.{Placed, PlacedMetastate, Startable, BetweenTurns, Expandable};
+ghost use Rattle.network.specs.Workspace.{Ready, Workspace};
 
 // The new arcs and one more.
 fn with_arc(new: Arcs, from: usize, to: usize, model: u32) -> Arcs
-    requires { ⌜ (new .count < 3) × (from < 4294967296) × (to < 4294967296) ⌝ }
-    ensures { λ r. ⌜ ((arcs : List Arc) → AreArcs new arcs → AreArcs r (arcs ++ (arc from to model 0 ∷ []))) ⌝ }
+    requires { ⌜ Addable new from to ⌝ }
+    ensures { λ r. ⌜
+        ((arcs : List Arc) → AreArcs new arcs → AreArcs r (arcs ++ (arc from to model 0 ∷ [])))
+        ⌝ }
 {
     let mut words = new.words;
     let at = ARC_SIZE * new.count;
@@ -67,13 +64,10 @@ fn own_arcs(
     place: usize,
     number: usize,
 ) -> Arcs
-    requires { ⌜
-        Usable header (now combinations) × Modelled header (now nodes) (now combinations)
-        × (number < length (combinationsIn header (now combinations))) × (place < 65535)
-        ⌝ }
+    requires { ⌜ Placed header (now nodes) (now combinations) number place ⌝ }
     ensures { λ r. ⌜
         AreArcs r (ownOf header (now (nodes .entry)) (now (combinations .entry)) place
-        (record { number = number; matrix = [] }))
+        (record { number = number; carried = [] }))
         ⌝ }
 {
     let states = wide(header.states);
@@ -100,14 +94,10 @@ fn plain_arcs(
     number: usize,
     m: Matrix,
 ) -> Arcs
-    requires { ⌜
-        Usable header (now combinations) × Modelled header (now nodes) (now combinations)
-        × (number < length (combinationsIn header (now combinations))) × (place < 65535)
-        × HasWidth (widthOf (header .half)) (m .columns)
-        ⌝ }
+    requires { ⌜ PlacedMetastate header (now nodes) (now combinations) number place (m .columns) ⌝ }
     ensures { λ r. ⌜
         AreArcs r (plainOf header (now (nodes .entry)) (now (combinations .entry)) place
-        (record { number = number; matrix = matrixIn (header .half) (m .columns) }))
+        (record { number = number; carried = matrixIn (header .half) (m .columns) }))
         ⌝ }
 {
     let own = own_arcs(header, nodes, combinations, place, number);
@@ -130,36 +120,22 @@ fn expand(
     arcs: &mut [u32],
     chains: &mut [u32],
     spans: &mut [u32],
-    sizes: Sizes,
-    place: usize,
+    turn: Turn,
 ) -> Step
     requires { ⌜
-        Usable header (now combinations) × Modelled header (now nodes) (now combinations)
-        × Indexed header (now combinations) (now index)
-        × (place < sizes .metastates)
-        × Holds (header .half) (length (combinationsIn header (now combinations)))
-        (networkHeld (header .half) sizes (now metastates) (now arcs))
-        (now metastates) (now arcs) (now chains)
-        × (spanSize ≤ length (now spans))
-        × Spanned (nodesBook header (now nodes)) (combinationsIn header (now combinations))
-        (networkHeld (header .half) sizes (now metastates) (now arcs)) (now spans)
+        Expandable header (now nodes) (now combinations) (now index) (now metastates) (now arcs)
+        (now chains) (now spans) (turn .sizes) (turn .place)
         ⌝ }
-    ensures step { λ r. ⌜
-        AfterStep (header .half) (length (combinationsIn header (now (combinations .entry))))
-        (now (metastates .entry)) (now (arcs .entry))
-        (expand (nodesBook header (now (nodes .entry))) (combinationsIn header (now (combinations .entry)))
-        (roomOf (now (metastates .entry)) (now (arcs .entry))) place
-        (networkHeld (header .half) sizes (now (metastates .entry)) (now (arcs .entry))))
-        r (now (metastates .exit)) (now (arcs .exit)) (now (chains .exit))
-        ⌝ }
-    ensures spans { λ r. ⌜
-        SpannedAfter header (now (nodes .entry)) (now (combinations .entry))
-        (expand (nodesBook header (now (nodes .entry))) (combinationsIn header (now (combinations .entry)))
-        (roomOf (now (metastates .entry)) (now (arcs .entry))) place
-        (networkHeld (header .half) sizes (now (metastates .entry)) (now (arcs .entry))))
-        (now (spans .exit))
+    ensures { λ r. ⌜
+        TurnLeft header (now (nodes .entry)) (now (combinations .entry)) (now (metastates .entry))
+        (now (arcs .entry)) (now (chains .entry)) (now (spans .entry))
+        (expandedAt header (now (nodes .entry)) (now (combinations .entry)) (now (metastates .entry))
+        (now (arcs .entry)) (turn .sizes) (turn .place))
+        r (now (metastates .exit)) (now (arcs .exit)) (now (chains .exit)) (now (spans .exit))
         ⌝ }
 {
+    let place = turn.place;
+    let sizes = turn.sizes;
     let from = METASTATE_SIZE * place;
     let number = metastates[from] as usize;
     let m = matrix_at(metastates, from + 1);
@@ -181,9 +157,11 @@ fn expand(
         arcs,
         chains,
         spans,
-        next,
-        place,
-        shifted,
+        Expanded {
+            place,
+            shifted,
+            sizes: next,
+        },
     )
 }
 
@@ -198,17 +176,13 @@ fn start(
     chains: &mut [u32],
 ) -> Step
     requires { ⌜
-        Usable header (now combinations) × Modelled header (now nodes) (now combinations)
-        × Indexed header (now combinations) (now index)
-        × Holds (header .half) (length (combinationsIn header (now combinations))) noNetwork
-        (now metastates) (now arcs) (now chains)
+        Startable header (now nodes) (now combinations) (now index) (now metastates) (now arcs) (now chains)
         ⌝ }
     ensures { λ r. ⌜
-        AfterStep (header .half) (length (combinationsIn header (now (combinations .entry))))
-        (now (metastates .entry)) (now (arcs .entry))
-        (performAll (nodesBook header (now (nodes .entry))) (combinationsIn header (now (combinations .entry)))
-        (roomOf (now (metastates .entry)) (now (arcs .entry))) noNetwork
-        (startEvents (nodesBook header (now (nodes .entry))) (combinationsIn header (now (combinations .entry)))))
+        StepLeft header (now (combinations .entry)) (now (metastates .entry)) (now (arcs .entry))
+        (now (chains .entry))
+        (startedIn header (now (nodes .entry)) (now (combinations .entry)) (now (metastates .entry))
+        (now (arcs .entry)))
         r (now (metastates .exit)) (now (arcs .exit)) (now (chains .exit))
         ⌝ }
 {
@@ -226,8 +200,10 @@ fn start(
         arcs,
         chains,
         none,
-        0,
-        before,
+        Source {
+            state: 0,
+            shifted: before,
+        },
     )
 }
 
@@ -265,20 +241,13 @@ fn take_turns(
     limit: u32,
 ) -> Build
     requires { ⌜
-        Usable header (now combinations) × Modelled header (now nodes) (now combinations)
-        × Indexed header (now combinations) (now index)
-        × Holds (header .half) (length (combinationsIn header (now combinations)))
-        (networkHeld (header .half) sizes (now metastates) (now arcs))
-        (now metastates) (now arcs) (now chains)
-        × (spanSize ≤ length (now spans))
-        × Spanned (nodesBook header (now nodes)) (combinationsIn header (now combinations))
-        (networkHeld (header .half) sizes (now metastates) (now arcs)) (now spans)
+        BetweenTurns header (now nodes) (now combinations) (now index) (now metastates) (now arcs)
+        (now chains) (now spans) sizes
         ⌝ }
     ensures { λ r. ⌜
         Connected (header .states) (now (metastates .entry)) (now (arcs .entry))
-        (turnsFrom (nodesBook header (now (nodes .entry))) (combinationsIn header (now (combinations .entry)))
-        (roomOf (now (metastates .entry)) (now (arcs .entry))) limit 0
-        (networkHeld (header .half) sizes (now (metastates .entry)) (now (arcs .entry))))
+        (turnedFrom header (now (nodes .entry)) (now (combinations .entry)) (now (metastates .entry))
+        (now (arcs .entry)) sizes limit)
         r (now (metastates .exit)) (now (arcs .exit))
         ⌝ }
 {
@@ -297,8 +266,10 @@ fn take_turns(
             arcs,
             chains,
             spans,
-            now,
-            wide(turns),
+            Turn {
+                place: wide(turns),
+                sizes: now,
+            },
         );
         match step {
             Step::Next(next) => {
@@ -316,8 +287,8 @@ fn take_turns(
     Build::Stopped(totals(header, turns, now))
 }
 
-// Connects the combinations into cleared space, with cleared words for chains, as many heads as the metastates have room
-// for and more, cleared words for spans, and words for an index of the combinations.
+// Connects the combinations into cleared space, with cleared words for chains, as many heads as the
+// metastates have room for and more, cleared words for spans, and words for an index of the combinations.
 fn connect_with(
     header: Header,
     nodes: &[u32],
@@ -331,17 +302,13 @@ fn connect_with(
     limit: u32,
 ) -> Build
     requires { ⌜
-        Usable header (now combinations) × Modelled header (now nodes) (now combinations)
-        × Ending header (now combinations) (now ends)
-        × (now metastates ≡ cleared (length (now metastates))) × (now arcs ≡ cleared (length (now arcs)))
-        × (now chains ≡ cleared (length (now chains))) × (metastateRoom (now metastates) < headsIn (now chains))
-        × (spanSize ≤ length (now spans)) × (now spans ≡ cleared (length (now spans)))
-        × (endsSize ≤ length (now index)) × (length (now index) ≤ farthest)
+        Ready header (now nodes) (now combinations) (now ends) (now metastates) (now arcs)
+        × Workspace (now metastates) (now chains) (now spans) (now index)
         ⌝ }
     ensures { λ r. ⌜
         Connected (header .states) (now (metastates .entry)) (now (arcs .entry))
-        (connect (nodesBook header (now (nodes .entry))) (combinationsIn header (now (combinations .entry)))
-        (roomOf (now (metastates .entry)) (now (arcs .entry))) limit)
+        (connectedIn header (now (nodes .entry)) (now (combinations .entry)) (now (metastates .entry))
+        (now (arcs .entry)) limit)
         r (now (metastates .exit)) (now (arcs .exit))
         ⌝ }
 {
@@ -368,8 +335,8 @@ fn connect_with(
     }
 }
 
-// Connects the combinations into cleared space. Space for fewer than 4096 metastates gets short chains, few slots for spans
-// and a short index, so that a small build clears few words.
+// Connects the combinations into cleared space. Space for fewer than 4096 metastates gets short chains, few
+// slots for spans and a short index, so that a small build clears few words.
 pub fn connect(
     header: Header,
     nodes: &[u32],
@@ -379,15 +346,11 @@ pub fn connect(
     arcs: &mut [u32],
     limit: u32,
 ) -> Build
-    requires { ⌜
-        Usable header (now combinations) × Modelled header (now nodes) (now combinations)
-        × Ending header (now combinations) (now ends)
-        × (now metastates ≡ cleared (length (now metastates))) × (now arcs ≡ cleared (length (now arcs)))
-        ⌝ }
+    requires { ⌜ Ready header (now nodes) (now combinations) (now ends) (now metastates) (now arcs) ⌝ }
     ensures { λ r. ⌜
         Connected (header .states) (now (metastates .entry)) (now (arcs .entry))
-        (connect (nodesBook header (now (nodes .entry))) (combinationsIn header (now (combinations .entry)))
-        (roomOf (now (metastates .entry)) (now (arcs .entry))) limit)
+        (connectedIn header (now (nodes .entry)) (now (combinations .entry)) (now (metastates .entry))
+        (now (arcs .entry)) limit)
         r (now (metastates .exit)) (now (arcs .exit))
         ⌝ }
 {

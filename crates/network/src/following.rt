@@ -1,5 +1,8 @@
-// The combinations whose matrices meet a shifted matrix validly, and the arcs to the metastates that they give.
+// The combinations whose matrices meet a shifted matrix validly, and the arcs to the metastates that they
+// give.
+use crate::Follower;
 use crate::Sizes;
+use crate::Source;
 use crate::Step;
 use crate::adding::enter;
 use crate::indexing::next_member;
@@ -16,24 +19,17 @@ use matrix::Matrix;
 use matrix::meeting::meet;
 use matrix::sets::has_phone;
 ghost use mathlib.Core.Path.{_≡_};
-ghost use mathlib.Core.Bool.{false};
-ghost use Prim.Native.Nat.{_≤_, _<_};
-ghost use lib.ListN.{length};
-ghost use Rattle.definitions.specs.Metastates.{followersFrom};
-ghost use Rattle.matrix.specs.Shapes.{widthOf, matrixIn, HasWidth};
-ghost use Rattle.network.specs.Combinations.{combinationsIn, Usable, Modelled};
-ghost use Rattle.network.specs.Indexing.{Indexed};
-ghost use Rattle.network.specs.Networks.{networkHeld, Holds};
-ghost use Rattle.network.specs.Rows.{Admitting};
-ghost use Rattle.network.specs.Steps.{AfterStep, enteringAll};
+ghost use Rattle.matrix.specs.Shapes.{matrixIn};
+ghost use Rattle.network.specs.Combinations.{combinationsIn};
 ghost use Rattle.network.specs.Following.{followsAt, Beyond, NextFollower};
+ghost use Rattle.network.specs.Outcomes.{followedFrom};
+ghost use Rattle.network.specs.Seeking.{SeekingFrom, Tried, Failed};
+ghost use Rattle.network.specs.Steps.{StepLeft};
+ghost use Rattle.network.specs.Underway.{Following};
 
 // Whether a combination's matrix meets a matrix validly; not tried where the centre lacks its phone.
 fn follows(header: Header, combinations: &[u64], number: usize, shifted: Matrix) -> bool
-    requires { ⌜
-        Usable header (now combinations) × (number < length (combinationsIn header (now combinations)))
-        × HasWidth (widthOf (header .half)) (shifted .columns)
-        ⌝ }
+    requires { ⌜ Tried header (now combinations) number (shifted .columns) ⌝ }
     ensures { λ r. ⌜
         r ≡ followsAt (matrixIn (header .half) (shifted .columns))
         (combinationsIn header (now (combinations .entry))) number
@@ -46,8 +42,8 @@ fn follows(header: Header, combinations: &[u64], number: usize, shifted: Matrix)
     meets(combinations, number, shifted, 2 * wide(header.half) + 1)
 }
 
-// Where to look after a combination: at the next, or, where the centre lacks its phone, at the first of the next phone that
-// the centre has.
+// Where to look after a combination: at the next, or, where the centre lacks its phone, at the first of the
+// next phone that the centre has.
 fn after(
     header: Header,
     combinations: &[u64],
@@ -55,15 +51,10 @@ fn after(
     number: usize,
     shifted: Matrix,
 ) -> usize
-    requires { ⌜
-        Usable header (now combinations) × Indexed header (now combinations) (now index)
-        × (number < length (combinationsIn header (now combinations)))
-        × HasWidth (widthOf (header .half)) (shifted .columns)
-        × (followsAt (matrixIn (header .half) (shifted .columns))
-        (combinationsIn header (now combinations)) number ≡ false)
-        ⌝ }
+    requires { ⌜ Failed header (now combinations) (now index) number (shifted .columns) ⌝ }
     ensures { λ r. ⌜
-        Beyond (matrixIn (header .half) (shifted .columns)) (combinationsIn header (now (combinations .entry))) number r
+        Beyond (matrixIn (header .half) (shifted .columns))
+        (combinationsIn header (now (combinations .entry))) number r
         ⌝ }
 {
     let centre = shifted.columns[wide(header.half)];
@@ -78,8 +69,8 @@ fn after(
     index[wide(next) - 1] as usize
 }
 
-// The first combination from one on that meets a matrix validly, or the number of combinations. Only those in the rows for
-// the matrix are tried.
+// The first combination from one on that meets a matrix validly, or the number of combinations. Only those in
+// the rows for the matrix are tried.
 fn next_follower(
     header: Header,
     combinations: &[u64],
@@ -88,13 +79,7 @@ fn next_follower(
     from: usize,
     shifted: Matrix,
 ) -> usize
-    requires { ⌜
-        Usable header (now combinations) × Indexed header (now combinations) (now index)
-        × (from ≤ length (combinationsIn header (now combinations)))
-        × HasWidth (widthOf (header .half)) (shifted .columns)
-        × Admitting (matrixIn (header .half) (shifted .columns)) (combinationsIn header (now combinations))
-        (now index) rows
-        ⌝ }
+    requires { ⌜ SeekingFrom header (now combinations) (now index) rows from (shifted .columns) ⌝ }
     ensures { λ r. ⌜
         NextFollower (matrixIn (header .half) (shifted .columns))
         (combinationsIn header (now (combinations .entry))) from r
@@ -122,27 +107,21 @@ pub fn follow(
     arcs: &mut [u32],
     chains: &mut [u32],
     sizes: Sizes,
-    from: u32,
-    shifted: Matrix,
+    source: Source,
 ) -> Step
     requires { ⌜
-        Usable header (now combinations) × Modelled header (now nodes) (now combinations)
-        × Indexed header (now combinations) (now index)
-        × HasWidth (widthOf (header .half)) (shifted .columns)
-        × Holds (header .half) (length (combinationsIn header (now combinations)))
-        (networkHeld (header .half) sizes (now metastates) (now arcs))
-        (now metastates) (now arcs) (now chains)
+        Following header (now nodes) (now combinations) (now index) (now metastates) (now arcs)
+        (now chains) sizes (source .shifted .columns)
         ⌝ }
     ensures { λ r. ⌜
-        AfterStep (header .half) (length (combinationsIn header (now (combinations .entry))))
-        (now (metastates .entry)) (now (arcs .entry))
-        (enteringAll header (now (nodes .entry)) (now (combinations .entry)) from (now (metastates .entry))
-        (now (arcs .entry)) (networkHeld (header .half) sizes (now (metastates .entry)) (now (arcs .entry)))
-        (followersFrom (matrixIn (header .half) (shifted .columns)) 0
-        (combinationsIn header (now (combinations .entry)))))
+        StepLeft header (now (combinations .entry)) (now (metastates .entry)) (now (arcs .entry))
+        (now (chains .entry))
+        (followedFrom header (now (nodes .entry)) (now (combinations .entry)) (now (metastates .entry))
+        (now (arcs .entry)) sizes (source .state) (source .shifted .columns))
         r (now (metastates .exit)) (now (arcs .exit)) (now (chains .exit))
         ⌝ }
 {
+    let shifted = source.shifted;
     let rows = rows_for(header, combinations, index, shifted);
     let mut now = sizes;
     let mut number = next_follower(header, combinations, index, rows, 0, shifted);
@@ -157,9 +136,8 @@ pub fn follow(
             arcs,
             chains,
             now,
-            from,
-            number,
-            met,
+            source.state,
+            Follower { number, met },
         );
         match step {
             Step::Next(next) => {

@@ -1,19 +1,19 @@
-// An index of the combinations, made once for a build: where those of each phone end, then rows of bits. There is a row for
-// each column left of the centre and each phone; it has a bit for each combination, set where that column has the
-// phone. Each word of a row is a set of places, 1 to 64. What has no room in the index is left out.
+// An index of the combinations, made once for a build: where those of each phone end, then rows of bits.
+// There is a row for each column left of the centre and each phone; it has a bit for each combination, set
+// where that column has the phone. Each word of a row is a set of places, 1 to 64. What has no room in the
+// index is left out.
+use crate::records::record_at;
 use definitions::COMBINATION_SIZE;
 use definitions::Header;
 use definitions::wide;
 use matrix::sets::alone;
 ghost use mathlib.Core.Path.{_≡_};
-ghost use Prim.Native.Nat.{ℕ, _+_, _*_, _/_, _≤_, _<_};
-ghost use lib.Dec.{T};
+ghost use Prim.Native.Nat.{_/_, _≤_};
 ghost use lib.ListN.{length};
 ghost use Rattle.definitions.specs.Combinations.{combinationSize};
-ghost use Rattle.definitions.specs.ForeignTables.{headerKnown};
-ghost use Rattle.definitions.specs.Lists.{_!_};
-ghost use Rattle.definitions.specs.PhoneSets.{has};
-ghost use Rattle.network.specs.Indexing.{endsSize, blocksIn, rowAt, farthest, Marking, NextMember, MarkedBelow, Marks};
+ghost use Rattle.network.specs.Filling.{Narrow, InRows, Markable, Fillable, PlaceMarked, PhonesMarked};
+ghost use Rattle.network.specs.Filling.{ColumnsMarked, CombinationsMarked, Noted, Filled};
+ghost use Rattle.network.specs.Indexing.{endsSize, blocksIn, rowAt, farthest, NearRow, NextMember};
 
 // How many combinations have their bits in one word, and how many words the ends take.
 pub const BLOCK_SIZE: usize = 64;
@@ -45,7 +45,7 @@ pub fn blocks_in(combinations: &[u64]) -> usize
 
 // Where the row of a column and a phone begins.
 pub fn row_at(header: Header, blocks: usize, column: usize, phone: u32) -> usize
-    requires { ⌜ (header .phones ≤ 64) × (blocks ≤ 1024) × (column < 3) × (phone ≤ 65) ⌝ }
+    requires { ⌜ NearRow (header .phones) blocks column × (phone ≤ 65) ⌝ }
     ensures { λ r. ⌜ (r ≡ rowAt (header .phones) blocks column phone) × (r ≤ farthest) ⌝ }
 {
     ENDS_SIZE + (column * wide(header.phones) + wide(phone)) * blocks
@@ -53,9 +53,8 @@ pub fn row_at(header: Header, blocks: usize, column: usize, phone: u32) -> usize
 
 // Sets the bit at a place of a word, if the index has the word.
 fn mark(index: &mut [u64], at: usize, place: u32)
-    requires { ⌜ (endsSize ≤ at) × (1 ≤ place) × (place ≤ 64) ⌝ }
-    ensures marking { λ r. ⌜ Marking (now (index .entry)) (now (index .exit)) ⌝ }
-    ensures marked { λ r. ⌜ (at < length (now (index .entry)) → T (has place (now (index .exit) ! at))) ⌝ }
+    requires { ⌜ InRows at place ⌝ }
+    ensures { λ r. ⌜ PlaceMarked at place (now (index .entry)) (now (index .exit)) ⌝ }
 {
     if index.len() <= at {
         return;
@@ -72,9 +71,10 @@ fn mark_column(
     set: u64,
     index: &mut [u64],
 )
-    requires { ⌜ (header .phones ≤ 64) × (blocks ≤ 1024) × (column < 3) × (number ≤ 65535) ⌝ }
-    ensures marking { λ r. ⌜ Marking (now (index .entry)) (now (index .exit)) ⌝ }
-    ensures marked { λ r. ⌜ MarkedBelow (header .phones) blocks number column set 65 (now (index .exit)) ⌝ }
+    requires { ⌜ NearRow (header .phones) blocks column × (number ≤ 65535) ⌝ }
+    ensures { λ r. ⌜
+        PhonesMarked (header .phones) blocks number column set (now (index .entry)) 65 (now (index .exit))
+        ⌝ }
 {
     let mut phone = next_member(set, 1);
     while phone <= 64 {
@@ -92,18 +92,13 @@ fn mark_columns(
     number: usize,
     index: &mut [u64],
 )
-    requires { ⌜
-        (header .phones ≤ 64) × (header .half ≤ 3) × (blocks ≤ 1024) × (number ≤ 65535)
-        × (combinationSize * number + combinationSize ≤ length (now combinations))
-        ⌝ }
-    ensures marking { λ r. ⌜ Marking (now (index .entry)) (now (index .exit)) ⌝ }
-    ensures marked { λ r. ⌜
-        ((column : ℕ) → column < header .half
-        → MarkedBelow (header .phones) blocks number column
-        (now (combinations .entry) ! (combinationSize * number + 4 + column)) 65 (now (index .exit)))
+    requires { ⌜ Markable header (now combinations) blocks number ⌝ }
+    ensures { λ r. ⌜
+        ColumnsMarked (header .phones) blocks (now (combinations .entry)) number (now (index .entry))
+        (header .half) (now (index .exit))
         ⌝ }
 {
-    let from = COMBINATION_SIZE * number + 4;
+    let record = record_at(combinations, COMBINATION_SIZE, number);
     let mut column = 0;
     while column < wide(header.half) {
         mark_column(
@@ -111,7 +106,7 @@ fn mark_columns(
             blocks,
             number,
             column,
-            combinations[from + column],
+            record[4 + column],
             index,
         );
         column += 1;
@@ -120,13 +115,10 @@ fn mark_columns(
 
 // Sets the bits of all combinations.
 fn mark_all(header: Header, combinations: &[u64], index: &mut [u64])
-    requires { ⌜
-        (header .phones ≤ 64) × (header .half ≤ 3) × (length (now combinations) / combinationSize ≤ 65535)
-        ⌝ }
-    ensures marking { λ r. ⌜ Marking (now (index .entry)) (now (index .exit)) ⌝ }
-    ensures marks { λ r. ⌜
-        Marks header (now (combinations .entry)) (length (now (combinations .entry)) / combinationSize)
-        (now (index .exit))
+    requires { ⌜ Narrow header × (length (now combinations) / combinationSize ≤ 65535) ⌝ }
+    ensures { λ r. ⌜
+        CombinationsMarked header (now (combinations .entry)) (now (index .entry))
+        (length (now (combinations .entry)) / combinationSize) (now (index .exit))
         ⌝ }
 {
     let blocks = blocks_in(combinations);
@@ -140,10 +132,7 @@ fn mark_all(header: Header, combinations: &[u64], index: &mut [u64])
 // Notes where the combinations of each phone end.
 fn note_ends(ends: &[u32], index: &mut [u64])
     requires { ⌜ (length (now ends) ≡ endsSize) × (endsSize ≤ length (now index)) ⌝ }
-    ensures { λ r. ⌜
-        (length (now (index .exit)) ≡ length (now (index .entry)))
-        × ((i : ℕ) → i < endsSize → (now (index .exit) ! i) ≡ (now (ends .entry) ! i))
-        ⌝ }
+    ensures { λ r. ⌜ Noted (now (ends .entry)) (now (index .entry)) endsSize (now (index .exit)) ⌝ }
 {
     let mut i = 0;
     while i < 65 {
@@ -154,17 +143,9 @@ fn note_ends(ends: &[u32], index: &mut [u64])
 
 // Fills the index.
 pub fn fill_index(header: Header, combinations: &[u64], ends: &[u32], index: &mut [u64])
-    requires { ⌜
-        T (headerKnown header) × (length (now combinations) / combinationSize ≤ 65535)
-        × (length (now ends) ≡ endsSize) × (endsSize ≤ length (now index))
-        ⌝ }
-    ensures ends { λ r. ⌜
-        (length (now (index .exit)) ≡ length (now (index .entry)))
-        × ((i : ℕ) → i < endsSize → (now (index .exit) ! i) ≡ (now (ends .entry) ! i))
-        ⌝ }
-    ensures marks { λ r. ⌜
-        Marks header (now (combinations .entry)) (length (now (combinations .entry)) / combinationSize)
-        (now (index .exit))
+    requires { ⌜ Fillable header (now combinations) (now ends) (now index) ⌝ }
+    ensures { λ r. ⌜
+        Filled header (now (combinations .entry)) (now (ends .entry)) (now (index .entry)) (now (index .exit))
         ⌝ }
 {
     note_ends(ends, index);

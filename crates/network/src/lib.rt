@@ -14,6 +14,7 @@ mod rows;
 use definitions::Counts;
 use definitions::Fault;
 use definitions::Refusal;
+use matrix::Matrix;
 
 // The turns that a build has done, and the counts of its network.
 pub struct Totals {
@@ -44,6 +45,32 @@ struct Sizes {
 enum Step {
     Next(Sizes),
     Stop(Fault),
+}
+
+// A combination that follows, and the matrix that it meets the shifted matrix in: the metastate that arcs
+// lead to.
+struct Follower {
+    number: usize,
+    met: Matrix,
+}
+
+// Where arcs to followers leave from: a state, and the matrix that a combination must meet to follow.
+struct Source {
+    state: u32,
+    shifted: Matrix,
+}
+
+// A metastate whose turn it is: its place, and how large the network is before.
+struct Turn {
+    place: usize,
+    sizes: Sizes,
+}
+
+// A metastate whose own arcs were added: its place, its matrix shifted, and how large the network is by now.
+struct Expanded {
+    place: usize,
+    shifted: Matrix,
+    sizes: Sizes,
 }
 
 // Up to three arcs, as words.

@@ -1,8 +1,11 @@
-// Metastates with the same shifted matrix have the same followers, so the arcs to the followers of one are copied for
-// the next, with another source: no matrices meet, and no metastate is looked for. `spans` has slots of three words: a
-// metastate, its place counted from 1, and where the arcs to its followers begin and end. Where a metastate is noted
-// depends on its shifted matrix, but is only a matter of speed: what a slot has is compared before it is used.
+// Metastates with the same shifted matrix have the same followers, so the arcs to the followers of one are
+// copied for the next, with another source: no matrices meet, and no metastate is looked for. `spans` has
+// slots of three words: a metastate, its place counted from 1, and where the arcs to its followers begin and
+// end. Where a metastate is noted depends on its shifted matrix, but is only a matter of speed: what a slot
+// has is compared before it is used.
+use crate::Expanded;
 use crate::Sizes;
+use crate::Source;
 use crate::Step;
 use crate::adding::arc_room;
 use crate::adding::last_state;
@@ -18,21 +21,18 @@ use matrix::Matrix;
 use matrix::sets::all_phones;
 use matrix::shaping::shift;
 use matrix::words::matrix_at;
-ghost use mathlib.Core.List.{[], _∷_, _++_, map};
 ghost use mathlib.Core.Path.{_≡_};
 ghost use Prim.Native.Nat.{_+_, _*_, _≤_, _<_};
-ghost use lib.ListN.{length, set, take, drop};
-ghost use Rattle.definitions.specs.Arcs.{arcSize, arcsIn, arcWords};
-ghost use Rattle.definitions.specs.Lists.{_!_, concatMap, padded, same};
+ghost use lib.ListN.{length};
+ghost use Rattle.definitions.specs.Arcs.{arcSize};
+ghost use Rattle.definitions.specs.Lists.{same};
 ghost use Rattle.lines.specs.Putting.{putAt};
-ghost use Rattle.matrix.specs.Shapes.{widthOf, HasWidth};
-ghost use Rattle.network.specs.Combinations.{combinationsIn};
-ghost use Rattle.network.specs.Combinations.{Usable, Modelled};
-ghost use Rattle.network.specs.Indexing.{Indexed};
-ghost use Rattle.network.specs.Networks.{arcRoom};
-ghost use Rattle.network.specs.Spans.{leavingFrom, spanSize};
-ghost use Rattle.network.specs.Repeating.{Repeated, Repeats, Onward, followedFrom, SpannedAfter};
-ghost use Rattle.network.specs.Steps.{AfterStep};
+ghost use Rattle.network.specs.Spans.{spanSize, SlotWithin, notedIn};
+ghost use Rattle.network.specs.Outcomes.{followedOn};
+ghost use Rattle.network.specs.Repeating.{copyWords, withCopies, Copyable, Repeatable, Repeated};
+ghost use Rattle.network.specs.Repeating.{Repeats, Notable};
+ghost use Rattle.network.specs.Steps.{TurnLeft};
+ghost use Rattle.network.specs.Underway.{Onward};
 
 // How many words a span takes.
 const SPAN_SIZE: usize = 3;
@@ -58,10 +58,7 @@ fn copy_arc(arcs: &mut [u32], place: usize, target: usize, from: u32)
         ⌝ }
     ensures { λ r. ⌜
         now (arcs .exit)
-        ≡ putAt (arcSize * target)
-        (from ∷ now (arcs .entry) ! (arcSize * place + 1) ∷ now (arcs .entry) ! (arcSize * place + 2)
-        ∷ now (arcs .entry) ! (arcSize * place + 3) ∷ [])
-        (now (arcs .entry))
+        ≡ putAt (arcSize * target) (copyWords from (now (arcs .entry)) place) (now (arcs .entry))
         ⌝ }
 {
     let old = ARC_SIZE * place;
@@ -73,16 +70,8 @@ fn copy_arc(arcs: &mut [u32], place: usize, target: usize, from: u32)
 
 // Appends copies of `many` arcs, from the first on, with another source.
 fn copy_span(arcs: &mut [u32], count: usize, first: usize, many: usize, from: u32)
-    requires { ⌜
-        (now arcs ≡ padded (length (now arcs)) (concatMap arcWords (arcsIn count (now arcs))))
-        × (first + many ≤ count) × (arcSize * (count + many) ≤ length (now arcs))
-        ⌝ }
-    ensures { λ r. ⌜
-        now (arcs .exit)
-        ≡ padded (length (now (arcs .entry)))
-        (concatMap arcWords (arcsIn count (now (arcs .entry))
-        ++ map (leavingFrom from) (take many (drop first (arcsIn count (now (arcs .entry)))))))
-        ⌝ }
+    requires { ⌜ Copyable (now arcs) count first many ⌝ }
+    ensures { λ r. ⌜ now (arcs .exit) ≡ withCopies (now (arcs .entry)) count first many from ⌝ }
 {
     let mut i = 0;
     while i < many {
@@ -93,10 +82,7 @@ fn copy_span(arcs: &mut [u32], count: usize, first: usize, many: usize, from: u3
 
 // The arcs of a span once more, with another source, if they have room.
 fn repeat(arcs: &mut [u32], sizes: Sizes, first: usize, end: usize, from: u32) -> Step
-    requires { ⌜
-        (now arcs ≡ padded (length (now arcs)) (concatMap arcWords (arcsIn (sizes .arcs) (now arcs))))
-        × (first ≤ end) × (end ≤ sizes .arcs) × (sizes .arcs ≤ arcRoom (now arcs))
-        ⌝ }
+    requires { ⌜ Repeatable sizes first end (now arcs) ⌝ }
     ensures { λ r. ⌜ Repeated sizes first end from (now (arcs .entry)) r (now (arcs .exit)) ⌝ }
 {
     let many = end - first;
@@ -112,8 +98,10 @@ fn repeat(arcs: &mut [u32], sizes: Sizes, first: usize, end: usize, from: u32) -
 
 // Whether the span in a slot is of a metastate with this matrix after the shift.
 fn repeats(header: Header, metastates: &[u64], spans: &[u32], slot: usize, shifted: Matrix) -> bool
-    requires { ⌜ (header .half ≤ 3) × (spanSize * slot + spanSize ≤ length (now spans)) ⌝ }
-    ensures { λ r. ⌜ Repeats header (now (metastates .entry)) (now (spans .entry)) slot (shifted .columns) r ⌝ }
+    requires { ⌜ (header .half ≤ 3) × SlotWithin (now spans) slot ⌝ }
+    ensures { λ r. ⌜
+        Repeats header (now (metastates .entry)) (now (spans .entry)) slot (shifted .columns) r
+        ⌝ }
 {
     let place = wide(spans[SPAN_SIZE * slot]);
     if place == 0 {
@@ -127,10 +115,11 @@ fn repeats(header: Header, metastates: &[u64], spans: &[u32], slot: usize, shift
     alike(shift(m, 2 * wide(header.half), all), shifted)
 }
 
-// The slot for a shifted matrix: where it is noted, or the first empty one of the next few, or else the one of its key.
+// The slot for a shifted matrix: where it is noted, or the first empty one of the next few, or else the one
+// of its key.
 fn slot_for(header: Header, metastates: &[u64], spans: &[u32], shifted: Matrix) -> usize
     requires { ⌜ (header .half ≤ 3) × (spanSize ≤ length (now spans)) ⌝ }
-    ensures { λ r. ⌜ (spanSize * r + spanSize ≤ length (now (spans .entry))) × (r < 65536) ⌝ }
+    ensures { λ r. ⌜ SlotWithin (now (spans .entry)) r × (r < 65536) ⌝ }
 {
     let slots = spans.len() / SPAN_SIZE;
     let own = key_of(0, shifted) % slots;
@@ -150,14 +139,8 @@ fn slot_for(header: Header, metastates: &[u64], spans: &[u32], shifted: Matrix) 
 
 // Notes where the arcs to the followers of the metastate at a place stand.
 fn note_span(spans: &mut [u32], slot: usize, place: usize, first: usize, end: usize)
-    requires { ⌜
-        (spanSize * slot + spanSize ≤ length (now spans)) × (place < 65535) × (first ≤ 999999) × (end ≤ 999999)
-        ⌝ }
-    ensures { λ r. ⌜
-        now (spans .exit)
-        ≡ set (set (set (now (spans .entry)) (spanSize * slot) (place + 1)) (spanSize * slot + 1) first)
-        (spanSize * slot + 2) end
-        ⌝ }
+    requires { ⌜ Notable (now spans) slot place first end ⌝ }
+    ensures { λ r. ⌜ now (spans .exit) ≡ notedIn (now (spans .entry)) slot place first end ⌝ }
 {
     let at = SPAN_SIZE * slot;
     spans[at] = (place + 1) as u32;
@@ -165,8 +148,8 @@ fn note_span(spans: &mut [u32], slot: usize, place: usize, first: usize, end: us
     spans[at + 2] = end as u32;
 }
 
-// Appends the arcs from a metastate's last state to its followers, as `follow` does: copied where an earlier metastate
-// with the same shifted matrix is noted, else entered one by one and noted.
+// Appends the arcs from a metastate's last state to its followers, as `follow` does: copied where an earlier
+// metastate with the same shifted matrix is noted, else entered one by one and noted.
 pub fn follow_on(
     header: Header,
     nodes: &[u32],
@@ -176,31 +159,23 @@ pub fn follow_on(
     arcs: &mut [u32],
     chains: &mut [u32],
     spans: &mut [u32],
-    sizes: Sizes,
-    place: usize,
-    shifted: Matrix,
+    expanded: Expanded,
 ) -> Step
     requires { ⌜
-        Usable header (now combinations) × Modelled header (now nodes) (now combinations)
-        × Indexed header (now combinations) (now index)
-        × HasWidth (widthOf (header .half)) (shifted .columns) × (spanSize ≤ length (now spans))
-        × Onward header (now nodes) (now combinations) (now metastates) (now arcs) (now chains) (now spans) sizes place
-        (shifted .columns)
+        Onward header (now nodes) (now combinations) (now index) (now metastates) (now arcs)
+        (now chains) (now spans) (expanded .sizes) (expanded .place) (expanded .shifted .columns)
         ⌝ }
-    ensures step { λ r. ⌜
-        AfterStep (header .half) (length (combinationsIn header (now (combinations .entry))))
-        (now (metastates .entry)) (now (arcs .entry))
-        (followedFrom header (now (nodes .entry)) (now (combinations .entry)) (now (metastates .entry)) (now (arcs .entry))
-        sizes place (shifted .columns))
-        r (now (metastates .exit)) (now (arcs .exit)) (now (chains .exit))
-        ⌝ }
-    ensures spans { λ r. ⌜
-        SpannedAfter header (now (nodes .entry)) (now (combinations .entry))
-        (followedFrom header (now (nodes .entry)) (now (combinations .entry)) (now (metastates .entry)) (now (arcs .entry))
-        sizes place (shifted .columns))
-        (now (spans .exit))
+    ensures { λ r. ⌜
+        TurnLeft header (now (nodes .entry)) (now (combinations .entry)) (now (metastates .entry))
+        (now (arcs .entry)) (now (chains .entry)) (now (spans .entry))
+        (followedOn header (now (nodes .entry)) (now (combinations .entry)) (now (metastates .entry))
+        (now (arcs .entry)) (expanded .sizes) (expanded .place) (expanded .shifted .columns))
+        r (now (metastates .exit)) (now (arcs .exit)) (now (chains .exit)) (now (spans .exit))
         ⌝ }
 {
+    let place = expanded.place;
+    let shifted = expanded.shifted;
+    let sizes = expanded.sizes;
     let slot = slot_for(header, metastates, spans, shifted);
     let from = last_state(header, place);
     if repeats(header, metastates, spans, slot, shifted) {
@@ -216,8 +191,10 @@ pub fn follow_on(
         arcs,
         chains,
         sizes,
-        from,
-        shifted,
+        Source {
+            state: from,
+            shifted,
+        },
     );
     match step {
         Step::Next(next) => {

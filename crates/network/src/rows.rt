@@ -1,5 +1,6 @@
-// Rows of the index for a matrix: where a column left of the centre has one phone alone, none but the combinations in that
-// phone's row can follow. Of each other column there is no row; its place is the index's end, where all bits count as set.
+// Rows of the index for a matrix: where a column left of the centre has one phone alone, none but the
+// combinations in that phone's row can follow. Of each other column there is no row; its place is the index's
+// end, where all bits count as set.
 use crate::indexing::BLOCK_SIZE;
 use crate::indexing::blocks_in;
 use crate::indexing::next_member;
@@ -8,13 +9,14 @@ use definitions::Header;
 use definitions::wide;
 use matrix::Matrix;
 use matrix::sets::alone;
-ghost use Prim.Native.Nat.{ℕ, _+_, _≤_, _<_};
+ghost use Prim.Native.Nat.{ℕ, _≤_, _<_};
 ghost use lib.Dec.{T};
 ghost use Rattle.definitions.specs.PhoneSets.{has};
-ghost use Rattle.matrix.specs.Shapes.{widthOf, matrixIn, HasWidth};
-ghost use Rattle.network.specs.Combinations.{combinationsIn, Usable};
-ghost use Rattle.network.specs.Indexing.{IsSet, Indexed};
-ghost use Rattle.network.specs.Rows.{Admits, Admitting, Near, NextMarked};
+ghost use Rattle.matrix.specs.Shapes.{matrixIn};
+ghost use Rattle.network.specs.Combinations.{combinationsIn};
+ghost use Rattle.network.specs.Indexing.{IsSet};
+ghost use Rattle.network.specs.Rows.{Admits, Admitting, Near, HasAllSet, AlongRows, NextMarked};
+ghost use Rattle.network.specs.Seeking.{Seeking};
 
 // Where the rows for a matrix begin.
 pub struct Rows {
@@ -31,13 +33,10 @@ fn row_for(
     column: usize,
     shifted: Matrix,
 ) -> usize
-    requires { ⌜
-        Usable header (now combinations) × Indexed header (now combinations) (now index)
-        × HasWidth (widthOf (header .half)) (shifted .columns) × (column < 3)
-        ⌝ }
+    requires { ⌜ Seeking header (now combinations) (now index) (shifted .columns) × (column < 3) ⌝ }
     ensures { λ r. ⌜
-        Admits (matrixIn (header .half) (shifted .columns)) (combinationsIn header (now (combinations .entry)))
-        (now (index .entry)) r
+        Admits (matrixIn (header .half) (shifted .columns))
+        (combinationsIn header (now (combinations .entry))) (now (index .entry)) r
         ⌝ }
 {
     if wide(header.half) <= column {
@@ -53,13 +52,10 @@ fn row_for(
 
 // The rows for a matrix.
 pub fn rows_for(header: Header, combinations: &[u64], index: &[u64], shifted: Matrix) -> Rows
-    requires { ⌜
-        Usable header (now combinations) × Indexed header (now combinations) (now index)
-        × HasWidth (widthOf (header .half)) (shifted .columns)
-        ⌝ }
+    requires { ⌜ Seeking header (now combinations) (now index) (shifted .columns) ⌝ }
     ensures { λ r. ⌜
-        Admitting (matrixIn (header .half) (shifted .columns)) (combinationsIn header (now (combinations .entry)))
-        (now (index .entry)) r
+        Admitting (matrixIn (header .half) (shifted .columns))
+        (combinationsIn header (now (combinations .entry))) (now (index .entry)) r
         ⌝ }
 {
     let first = row_for(header, combinations, index, 0, shifted);
@@ -85,11 +81,7 @@ fn word_at(index: &[u64], at: usize) -> u64
 // The combinations of a block whose bits are set in all rows.
 fn marked_in(index: &[u64], rows: Rows, block: usize) -> u64
     requires { ⌜ Near rows × (block ≤ 1024) ⌝ }
-    ensures { λ r. ⌜
-        ((p : ℕ) → 1 ≤ p → p ≤ 64 → IsSet (now (index .entry)) (rows .first + block) p
-        → IsSet (now (index .entry)) (rows .second + block) p
-        → IsSet (now (index .entry)) (rows .third + block) p → T (has p r))
-        ⌝ }
+    ensures { λ r. ⌜ HasAllSet (now (index .entry)) rows block r ⌝ }
 {
     let first = word_at(index, rows.first + block);
     let second = word_at(index, rows.second + block);
@@ -99,7 +91,7 @@ fn marked_in(index: &[u64], rows: Rows, block: usize) -> u64
 
 // The first combination, from one on, whose bits are set in all rows, or the number of combinations.
 pub fn next_marked(index: &[u64], rows: Rows, from: usize, count: usize) -> usize
-    requires { ⌜ Near rows × (from ≤ count) × (count ≤ 65535) ⌝ }
+    requires { ⌜ AlongRows rows from count ⌝ }
     ensures { λ r. ⌜ NextMarked (now (index .entry)) rows from count r ⌝ }
 {
     let mut number = from;

@@ -1,5 +1,6 @@
 -- Laws about reading and building put together: what the text leads to where reading refuses it, and where it
--- accepts it, by what the build from the tables then gives; and demand 3 of a finished answer.
+-- accepts it, by what the build from the tables then gives; and of a finished answer demand 3, and that nothing
+-- leaves FINAL.
 use mathlib.Core.Path.{_≡_, refl, sym, ap, _∙_, subst}
 use mathlib.Core.List.{List}
 use Prim.Native.Nat.{ℕ}
@@ -12,18 +13,21 @@ use Rattle.definitions.specs.Faults.{Outcome, answered, refused, andThen}
 use Rattle.definitions.specs.BookLines.{BookLine, headerOf}
 use Rattle.definitions.specs.BookReading.{Lent, readBook}
 use Rattle.definitions.specs.Tables.{Tables, tablesLeft, noTables, tablesBook}
-use Rattle.definitions.specs.Connecting.{Built}
 use Rattle.definitions.specs.Building.{Space, build, Buffers, buffersLeft, noBuffers}
 use Rattle.definitions.specs.BookBuilding.{BookBuilt, buildRead, buildBook, tablesAfter, buffersAfter}
+use Rattle.definitions.specs.Growing.{finished}
+use Rattle.definitions.specs.Connecting.{Network, Built}
 use Rattle.definitions.specs.demand.Demand.{demand3}
+use Rattle.definitions.specs.demand.Endings.{finished-final}
 use Rattle.tables.specs.Lending.{lengthsOf}
 use Rattle.book.specs.declared.Reading.{Reading}
 use Rattle.book.specs.declared.Reading.the-variants as reading
 use Rattle.book.specs.Answers.{readingOf}
+use Rattle.network.specs.declared.Totals.{Totals}
 use Rattle.network.specs.declared.Build.{Build}
 use Rattle.network.specs.declared.Build.the-variants as build
 use Rattle.network.specs.Answers.{totalsOf, buildOf, lentBuffers, buildAnswer, buildLeft}
-use Rattle.builder.specs.Answers.{bookAnswer, MeetsDemand3}
+use Rattle.builder.specs.Answers.{bookAnswer, WhereFinished, MeetsDemand3, KeepsFinalLast}
 use Rattle.builder.specs.Tables.{tablesKept}
 use Rattle.builder.specs.laws.Keeping.{finished-inverted}
 
@@ -73,8 +77,9 @@ module _ (lent : Lent) (space : Space) (limit : ℕ) (text : List ℕ) (r : Refu
     unfolding buffersAfter
     refused-buffers buffers h = h ∙ rw refused-book
 
-    pub refused-demand : (arcs : List ℕ) → MeetsDemand3 lent text (build.Refused r) arcs
-    refused-demand arcs totals f = absurd (not-finished f)
+    -- whatever is claimed of a finished answer
+    pub refused-unfinished : (claim : Totals → Type 0) → WhereFinished (build.Refused r) claim
+    refused-unfinished claim totals f = absurd (not-finished f)
       where
         not-finished : build.Refused r ≡ build.Finished totals → ⊥
         not-finished f = let z : _≡_ {A = ℕ} 0 1 = cc in omega arith
@@ -129,14 +134,32 @@ module _ (lent : Lent) (space : Space) (limit : ℕ) (text : List ℕ) (lines : 
         go (answered built) = rw e
         go (refused r) = refl
 
-    -- demand 3, of the answer's own counts and the words in the arc buffer
-    pub built-demand : (answer : Build) (arcs : List ℕ) → answer ≡ buildOf (headerOf lines .states) outcome
-        → arcs ≡ buffersLeft (tablesBook (headerOf lines) tablesRead) space outcome .arcs
-        → MeetsDemand3 lent text answer arcs
-    unfolding totalsOf
-    built-demand answer arcs h left totals f =
-        let (turns, net, done, same) = finished-inverted (headerOf lines .states) outcome totals (sym f ∙ h) in
-        (lines, e, rw (same, left) (demand3 lent text lines space limit e turns net done))
+    -- of the answer's own counts and the words in the arc buffer:
+    module _ (answer : Build) (arcs : List ℕ) (h : answer ≡ buildOf (headerOf lines .states) outcome)
+        (left : arcs ≡ buffersLeft (tablesBook (headerOf lines) tablesRead) space outcome .arcs)
+      where
+        -- a claim about the totals of every build that is finished,
+        built-finished : (claim : Totals → Type 0)
+            → ((turns : ℕ) (net : Network) → outcome ≡ answered (finished turns net)
+            → claim (totalsOf (headerOf lines .states) turns net))
+            → WhereFinished answer claim
+        built-finished claim holds totals f =
+            let (turns, net, done, same) = finished-inverted (headerOf lines .states) outcome totals (sym f ∙ h) in
+            subst claim (sym same) (holds turns net done)
+
+        -- demand 3,
+        pub built-demand : MeetsDemand3 lent text answer arcs
+        unfolding totalsOf
+        built-demand =
+            built-finished _ λ turns net done.
+            (lines, e, rw left (demand3 lent text lines space limit e turns net done))
+
+        -- and that nothing leaves FINAL
+        pub built-final : KeepsFinalLast answer arcs
+        unfolding totalsOf
+        built-final =
+            built-finished _ λ turns net done.
+            rw left (finished-final lent text lines space limit e turns net done)
 
 -- ---- the two ways that reading and building end, as the code meets them
 
@@ -146,7 +169,7 @@ BookEnds lent space limit text answer tables buffers =
     (answer ≡ bookAnswer (buildBook lent space limit text))
     × ((tables ≡ tablesAfter lent (buildBook lent space limit text))
     × ((buffers ≡ buffersAfter lent space (buildBook lent space limit text))
-    × MeetsDemand3 lent text answer (buffers .arcs)))
+    × (MeetsDemand3 lent text answer (buffers .arcs) × KeepsFinalLast answer (buffers .arcs))))
 
 module _ (lent : Lent) (space : Space) (limit : ℕ) (text : List ℕ) where
   -- what the build from these tables under this header answers and leaves is what the whole does
@@ -162,16 +185,20 @@ module _ (lent : Lent) (space : Space) (limit : ℕ) (text : List ℕ) where
 
   ends-read : (lines : List BookLine) → readBook lent text ≡ answered lines
       → EndsFrom (headerOf lines) (tablesLeft lent (readBook lent text))
-  ends-read lines e answer tables′ buffers n c r a t b = (
-    built-answer lent space limit text lines e answer a,
-    (
-      built-tables lent space limit text lines e tables′ (rw (n, c, r)) t,
-      (
-        built-buffers lent space limit text lines e buffers b,
-        built-demand lent space limit text lines e answer (buffers .arcs) a (ap (λ (x : Buffers). x .arcs) b),
-      ),
-    ),
-  )
+  ends-read lines e answer tables′ buffers n c r a t b =
+      let left = ap (λ (x : Buffers). x .arcs) b in (
+        built-answer lent space limit text lines e answer a,
+        (
+          built-tables lent space limit text lines e tables′ (rw (n, c, r)) t,
+          (
+            built-buffers lent space limit text lines e buffers b,
+            (
+              built-demand lent space limit text lines e answer (buffers .arcs) a left,
+              built-final lent space limit text lines e answer (buffers .arcs) a left,
+            ),
+          ),
+        ),
+      )
 
   module _ {reads : Reading} {tables : Tables}
       (told : reads ≡ readingOf (readBook lent text)) (left : tables ≡ tablesLeft lent (readBook lent text))
@@ -194,7 +221,10 @@ module _ (lent : Lent) (space : Space) (limit : ℕ) (text : List ℕ) where
               refused-tables lent space limit text r e tables left,
               (
                 refused-buffers lent space limit text r e (lentBuffers combinations metastates arcs) (rw (x, y, z)),
-                refused-demand lent space limit text r e arcs,
+                (
+                  refused-unfinished lent space limit text r e _,
+                  refused-unfinished lent space limit text r e _,
+                ),
               ),
             ),
           )

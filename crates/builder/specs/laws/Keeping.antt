@@ -9,7 +9,8 @@ use Rattle.definitions.specs.declared.Refusal.{Refusal}
 use Rattle.definitions.specs.Lists.{cleared}
 use Rattle.definitions.specs.Faults.{Outcome, answered, refused}
 use Rattle.definitions.specs.Tables.{Tables, noTables}
-use Rattle.definitions.specs.Connecting.{Network, Built, finished, stopped}
+use Rattle.definitions.specs.Growing.{finished, stopped}
+use Rattle.definitions.specs.Connecting.{Network, Built}
 use Rattle.tables.specs.Lending.{lentTables}
 use Rattle.network.specs.declared.Totals.{Totals}
 use Rattle.network.specs.declared.Build.{Build}

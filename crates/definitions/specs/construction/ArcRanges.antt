@@ -14,17 +14,16 @@ use Rattle.definitions.specs.declared.Counts.{Counts}
 use Rattle.definitions.specs.Lists.{concatMap}
 use Rattle.definitions.specs.Forms.{_‥_}
 use Rattle.definitions.specs.Lines.{inRanges}
-use Rattle.definitions.specs.Tables.{Book}
-use Rattle.definitions.specs.Combinations.{Combination}
 use Rattle.definitions.specs.Arcs.{Arc, INITIAL, firstState, lastState}
-use Rattle.definitions.specs.Metastates.{Metastate, phoneOf, modelsOf, starts, followers, mayEnd}
-use Rattle.definitions.specs.Connecting.{Network, ownArcs, finalArcs, arcInto}
+use Rattle.definitions.specs.Metastates.{Metastate, sameMetastate}
+use Rattle.definitions.specs.Connecting.{Rules, ownArcs, finalArcs, arcInto, Network, noMetastate}
 use Rattle.definitions.specs.NetworkText.{isState, arcKnown}
 use Rattle.definitions.specs.laws.Members.{isIn, in-left, of-append, in-map, of-map, of-concatMap}
 use Rattle.definitions.specs.laws.Members.{of-one, in-at}
 use Rattle.definitions.specs.laws.Known.{within-passes}
+use Rattle.definitions.specs.laws.Metastates.{metastates-told}
 use Rattle.definitions.specs.construction.Table.{placeOf, placed}
-use Rattle.definitions.specs.construction.Finished.{turnArcs, Expansion}
+use Rattle.definitions.specs.construction.Finished.{arcTo, turnArcs, Expansion}
 
 -- ---- in range
 
@@ -80,32 +79,33 @@ own-fit states state (model ∷ models) l most a (inl e) =
 own-fit states state (model ∷ models) l most a (inr h) =
     own-fit states (suc state) models (omega arith) (λ m i. most m (inr i)) a h
 
-module _ (book : Book) (combinations : List Combination) where
+module _ (rules : Rules) where
   -- what network text asks of a metastate's models and phone
   pub record MetastateFits (x : Metastate) : Type 0 where
-    pub count : length (modelsOf book combinations x) ≡ book .states
-    pub models : (m : ℕ) → isIn m (modelsOf book combinations x) → m ≤ 65535
-    pub phone : phoneOf combinations x ≤ 64
+    pub count : length (rules .models x) ≡ rules .states
+    pub models : (m : ℕ) → isIn m (rules .models x) → m ≤ 65535
+    pub phone : rules .phone x ≤ 64
 
-  module _ (some-state : 1 ≤ book .states) (table : List Metastate)
+  module _ (some-state : 1 ≤ rules .states) (table : List Metastate)
       (fit : (x : Metastate) → isIn x table → MetastateFits x)
     where
       abbrev states : ℕ
-      states = 2 + book .states * length table
+      states = 2 + rules .states * length table
 
       -- the states of a metastate of the table
-      own-state : (x : Metastate) (i : ℕ) → isIn x table → i < book .states
-          → firstState (book .states) (placeOf table x) + i < states
+      own-state : (x : Metastate) (i : ℕ) → isIn x table → i < rules .states
+          → firstState (rules .states) (placeOf sameMetastate table x) + i < states
       own-state x i h l =
-          state-listed (book .states) (length table) (placeOf table x) i (placed x table h .0) l
+          let (inside, here) = placed sameMetastate metastates-told noMetastate x table h in
+          state-listed (rules .states) (length table) (placeOf sameMetastate table x) i inside l
 
       into-fits : (from : ℕ) (x : Metastate) → from < states → isIn x table
-          → ArcFits states (arcInto book combinations from (placeOf table x) x)
+          → ArcFits states (arcInto rules from (placeOf sameMetastate table x) x)
       unfolding arcInto
       into-fits from x l h =
           let first = own-state x 0 h (omega arith) in
           let r = fit x h in
-          let most = in-at (modelsOf book combinations x) 0 0 (omega (arith, r .count)) in
+          let most = in-at (rules .models x) 0 0 (omega (arith, r .count)) in
           record {
             from-state = l;
             to-state = omega arith;
@@ -114,19 +114,18 @@ module _ (book : Book) (combinations : List Combination) where
           }
 
       all-into : (from : ℕ) (xs : List Metastate) → from < states
-          → ((x : Metastate) → isIn x xs → isIn x table)
-          → (a : Arc) → isIn a (map (λ x. arcInto book combinations from (placeOf table x) x) xs)
-          → ArcFits states a
+          → ((x : Metastate) → isIn x xs → isIn (rules .kept x) table)
+          → (a : Arc) → isIn a (map (arcTo rules table from) xs) → ArcFits states a
       all-into from xs l h a i =
-          let (x, there, e) = of-map (λ x. arcInto book combinations from (placeOf table x) x) a xs i in
-          subst (ArcFits states) (sym e) (into-fits from x l (h x there))
+          let (x, there, e) = of-map (arcTo rules table from) a xs i in
+          subst (ArcFits states) (sym e) (into-fits from (rules .kept x) l (h x there))
 
       final-fits : (x : Metastate) → isIn x table → (a : Arc)
-          → isIn a (finalArcs book combinations (placeOf table x) x) → ArcFits states a
+          → isIn a (finalArcs rules (placeOf sameMetastate table x) x) → ArcFits states a
       unfolding finalArcs lastState
       final-fits x h a i =
-          let last = own-state x (book .states - 1) h (omega arith) in
-          subst (ArcFits states) (sym (of-one _ (mayEnd book combinations x) a i .1)) record {
+          let last = own-state x (rules .states - 1) h (omega arith) in
+          subst (ArcFits states) (sym (of-one _ (rules .ending x) a i .1)) record {
             from-state = last;
             to-state = omega arith;
             model-most = omega arith;
@@ -134,17 +133,17 @@ module _ (book : Book) (combinations : List Combination) where
           }
 
       turn-fits : (q : Metastate) → isIn q table
-          → ((x : Metastate) → isIn x (followers book combinations q) → isIn x table)
-          → (a : Arc) → isIn a (turnArcs book combinations table q) → ArcFits states a
+          → ((x : Metastate) → isIn x (rules .followers q) → isIn (rules .kept x) table)
+          → (a : Arc) → isIn a (turnArcs rules table q) → ArcFits states a
       unfolding turnArcs lastState
       turn-fits q h follow a i =
-          let place : ℕ = placeOf table q in
-          let first : ℕ = firstState (book .states) place in
-          let last : ℕ = first + (book .states - 1) in
-          let models : List ℕ = modelsOf book combinations q in
+          let place : ℕ = placeOf sameMetastate table q in
+          let first : ℕ = firstState (rules .states) place in
+          let last : ℕ = first + (rules .states - 1) in
+          let models : List ℕ = rules .models q in
           let own : List Arc = ownArcs first (drop 1 models) in
-          let final : List Arc = finalArcs book combinations place q in
-          let listed : last < states = own-state q (book .states - 1) h (omega arith) in
+          let final : List Arc = finalArcs rules place q in
+          let listed : last < states = own-state q (rules .states - 1) h (omega arith) in
           let r = fit q h in
           let through : first + length (drop 1 models) < states =
           rw (length-drop, r .count) listed in
@@ -152,7 +151,7 @@ module _ (book : Book) (combinations : List Combination) where
           (λ j. ⊎-elim
           (own-fit states first (drop 1 models) through (λ m k. r .models m (in-rest m models k)) a)
           (final-fits q h a) (of-append a own final j))
-          (all-into last (followers book combinations q) listed follow a)
+          (all-into last (rules .followers q) listed follow a)
           (of-append a (own ++ final) _ i)
         where
           in-rest : (m : ℕ) (l : List ℕ) → isIn m (drop 1 l) → isIn m l
@@ -161,30 +160,30 @@ module _ (book : Book) (combinations : List Combination) where
 
   -- ---- the arcs of a network of whose table some are expanded
 
-  module _ (done : List Metastate) (net : Network) (left : Expansion book combinations done net) where
+  module _ (done : List Metastate) (net : Network) (left : Expansion rules done net) where
     abbrev intoStart : Metastate → Arc
-    intoStart x = arcInto book combinations INITIAL (placeOf (net .metastates) x) x
+    intoStart x = arcTo rules (net .table) INITIAL x
 
     abbrev startArcs : List Arc
-    startArcs = map intoStart (starts book combinations)
+    startArcs = map intoStart (rules .starts)
 
-    pub arcs-fit : 1 ≤ book .states → ((x : Metastate) → isIn x (net .metastates) → MetastateFits x)
-        → (a : Arc) → isIn a (net .arcs) → ArcFits (2 + book .states * length (net .metastates)) a
+    pub arcs-fit : 1 ≤ rules .states → ((x : Metastate) → isIn x (net .table) → MetastateFits x)
+        → (a : Arc) → isIn a (net .arcs) → ArcFits (2 + rules .states * length (net .table)) a
     arcs-fit some-state fit a h =
-        let table : List Metastate = net .metastates in
+        let table : List Metastate = net .table in
         ⊎-elim
-        (all-into some-state table fit INITIAL (starts book combinations) (omega arith) (left .starts-in) a)
+        (all-into some-state table fit INITIAL (rules .starts) (omega arith) (left .starts-in) a)
         (λ i.
-        let (q, there, own) = of-concatMap (turnArcs book combinations table) a done i in
+        let (q, there, own) = of-concatMap (turnArcs rules table) a done i in
         turn-fits some-state table fit q (left .listed q there) (λ x. left .followers-in q x there) a own)
-        (of-append a startArcs (concatMap (turnArcs book combinations table) done)
+        (of-append a startArcs (concatMap (turnArcs rules table) done)
         (subst (isIn a) (left .arcs) h))
 
     -- where some metastate starts, there is a metastate and an arc
-    pub some-there : (x : Metastate) → isIn x (starts book combinations)
-        → (1 ≤ length (net .metastates)) × (1 ≤ length (net .arcs))
+    pub some-there : (x : Metastate) → isIn x (rules .starts)
+        → (1 ≤ length (net .table)) × (1 ≤ length (net .arcs))
     some-there x h =
         let first : isIn (intoStart x) (net .arcs) =
         rw (left .arcs)
-        (in-left (intoStart x) startArcs _ (in-map intoStart x (starts book combinations) h)) in
-        (some-in x (net .metastates) (left .starts-in x h), some-in (intoStart x) (net .arcs) first)
+        (in-left (intoStart x) startArcs _ (in-map intoStart x (rules .starts) h)) in
+        (some-in (rules .kept x) (net .table) (left .starts-in x h), some-in (intoStart x) (net .arcs) first)

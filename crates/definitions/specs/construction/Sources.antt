@@ -10,16 +10,14 @@ use native.Mathlib.Omega.{arith}
 use lib.Dec.{T, leb, le→leb}
 use lib.ListN.{length, drop, getD, length-drop}
 use Rattle.definitions.specs.Lists.{concatMap}
-use Rattle.definitions.specs.Tables.{Book}
-use Rattle.definitions.specs.Combinations.{Combination}
 use Rattle.definitions.specs.Arcs.{Arc, INITIAL, firstState, lastState}
-use Rattle.definitions.specs.Metastates.{Metastate, modelsOf, starts, followers, mayEnd}
-use Rattle.definitions.specs.Connecting.{Network, ownArcs, finalArcs, arcInto, noMetastate}
+use Rattle.definitions.specs.Metastates.{Metastate, sameMetastate}
+use Rattle.definitions.specs.Connecting.{Rules, ownArcs, finalArcs, arcInto, Network, noMetastate}
 use Rattle.definitions.specs.NetworkText.{neverDescending}
 use Rattle.definitions.specs.laws.Tests.{T-and, by-test}
 use Rattle.definitions.specs.laws.Members.{isIn}
 use Rattle.definitions.specs.construction.Table.{placeOf}
-use Rattle.definitions.specs.construction.Finished.{turnArcs, Expansion}
+use Rattle.definitions.specs.construction.Finished.{arcTo, turnArcs, Expansion}
 
 -- ---- rising
 
@@ -59,53 +57,52 @@ rises-own state high (model ∷ models) l = (
       (rises-own (suc state) high models (omega arith)),
 )
 
-module _ (book : Book) (combinations : List Combination) where
+module _ (rules : Rules) where
   -- those from one state stay there
-  rises-into : (from : ℕ) (place : Metastate → ℕ) (xs : List Metastate)
-      → Rises from (map (λ x. arcInto book combinations from (place x) x) xs) from
+  rises-into : (from : ℕ) (table xs : List Metastate) → Rises from (map (arcTo rules table from) xs) from
   unfolding arcInto
-  rises-into from place [] = omega arith
-  rises-into from place (x ∷ xs) = (omega arith, rises-into from place xs)
+  rises-into from table [] = omega arith
+  rises-into from table (x ∷ xs) = (omega arith, rises-into from table xs)
 
   rises-final : (place : ℕ) (q : Metastate)
-      → Rises (lastState (book .states) place) (finalArcs book combinations place q)
-      (lastState (book .states) place)
+      → Rises (lastState (rules .states) place) (finalArcs rules place q)
+      (lastState (rules .states) place)
   unfolding finalArcs
   rises-final place q =
-      by-test (mayEnd book combinations q) (λ e. rw e (omega arith, omega arith)) (λ e. rw e (omega arith))
+      by-test (rules .ending q) (λ e. rw e (omega arith, omega arith)) (λ e. rw e (omega arith))
 
-  module _ (some-state : 1 ≤ book .states) (table : List Metastate) where
+  module _ (some-state : 1 ≤ rules .states) (table : List Metastate) where
     -- the arcs of one metastate rise from its first state to its last
-    rises-turn : (q : Metastate) → length (modelsOf book combinations q) ≡ book .states
-        → Rises (firstState (book .states) (placeOf table q)) (turnArcs book combinations table q)
-        (lastState (book .states) (placeOf table q))
+    rises-turn : (q : Metastate) → length (rules .models q) ≡ rules .states
+        → Rises (firstState (rules .states) (placeOf sameMetastate table q)) (turnArcs rules table q)
+        (lastState (rules .states) (placeOf sameMetastate table q))
     unfolding turnArcs lastState
     rises-turn q count =
-        let place : ℕ = placeOf table q in
-        let first : ℕ = firstState (book .states) place in
-        let last : ℕ = first + (book .states - 1) in
-        let models : List ℕ = drop 1 (modelsOf book combinations q) in
+        let place : ℕ = placeOf sameMetastate table q in
+        let first : ℕ = firstState (rules .states) place in
+        let last : ℕ = first + (rules .states - 1) in
+        let models : List ℕ = drop 1 (rules .models q) in
         let own : List Arc = ownArcs first models in
-        let final : List Arc = finalArcs book combinations place q in
+        let final : List Arc = finalArcs rules place q in
         let all : first + length models ≤ last = rw (length-drop, count) (omega arith) in
         rises-append first last last (own ++ final) _
         (rises-append first last last own final (rises-own first last models all) (rises-final place q))
-        (rises-into last (placeOf table) (followers book combinations q))
+        (rises-into last table (rules .followers q))
 
     -- those of one after the other rise on
     rises-turns : (at : ℕ) (done : List Metastate)
-        → ((x : Metastate) → isIn x done → length (modelsOf book combinations x) ≡ book .states)
-        → ((i : ℕ) → i < length done → placeOf table (getD done i noMetastate) ≡ at + i)
-        → Rises (firstState (book .states) at) (concatMap (turnArcs book combinations table) done)
-        (firstState (book .states) (at + length done))
+        → ((x : Metastate) → isIn x done → length (rules .models x) ≡ rules .states)
+        → ((i : ℕ) → i < length done → placeOf sameMetastate table (getD done i noMetastate) ≡ at + i)
+        → Rises (firstState (rules .states) at) (concatMap (turnArcs rules table) done)
+        (firstState (rules .states) (at + length done))
     unfolding concatMap firstState lastState
     rises-turns at [] counts places = omega arith
     rises-turns at (q ∷ done) counts places =
-        let k : ℕ = book .states in
-        let own : List Arc = turnArcs book combinations table q in
-        let later : List Arc = concatMap (turnArcs book combinations table) done in
-        let head : placeOf table q ≡ at + 0 = places 0 (omega arith) in
-        let here : placeOf table q ≡ at = omega arith in
+        let k : ℕ = rules .states in
+        let own : List Arc = turnArcs rules table q in
+        let later : List Arc = concatMap (turnArcs rules table) done in
+        let head : placeOf sameMetastate table q ≡ at + 0 = places 0 (omega arith) in
+        let here : placeOf sameMetastate table q ≡ at = omega arith in
         let end : suc at + length done ≡ at + suc (length done) = omega arith in
         let high : ℕ = firstState k (at + suc (length done)) in
         let turn : Rises (firstState k at) own (lastState k at) =
@@ -118,16 +115,15 @@ module _ (book : Book) (combinations : List Combination) where
         (rises-lower (lastState k at) (firstState k (suc at)) high later (omega (arith, suc-mul at k)) rest)
 
   -- the arcs of a network whose metastates have a model for each state
-  pub sources-rise : (done : List Metastate) (net : Network) → Expansion book combinations done net
-      → 1 ≤ book .states
-      → ((x : Metastate) → isIn x (net .metastates) → length (modelsOf book combinations x) ≡ book .states)
+  pub sources-rise : (done : List Metastate) (net : Network) → Expansion rules done net
+      → 1 ≤ rules .states
+      → ((x : Metastate) → isIn x (net .table) → length (rules .models x) ≡ rules .states)
       → T (neverDescending (net .arcs))
   sources-rise done net left some-state counts =
-      let k : ℕ = book .states in
-      let table : List Metastate = net .metastates in
-      let into : Metastate → Arc = λ x. arcInto book combinations INITIAL (placeOf table x) x in
-      let first : List Arc = map into (starts book combinations) in
-      let later : List Arc = concatMap (turnArcs book combinations table) done in
+      let k : ℕ = rules .states in
+      let table : List Metastate = net .table in
+      let first : List Arc = map (arcTo rules table INITIAL) (rules .starts) in
+      let later : List Arc = concatMap (turnArcs rules table) done in
       let high : ℕ = firstState k (0 + length done) in
       let turns : Rises (firstState k 0) later high =
       rises-turns some-state table 0 done (λ x h. counts x (left .listed x h))
@@ -135,5 +131,5 @@ module _ (book : Book) (combinations : List Combination) where
       rw (left .arcs)
       (rises-never INITIAL high (first ++ later)
       (rises-append INITIAL INITIAL high first later
-      (rises-into INITIAL (placeOf table) (starts book combinations))
+      (rises-into INITIAL table (rules .starts))
       (rises-lower INITIAL (firstState k 0) high later (omega arith) turns)))

@@ -1,6 +1,6 @@
--- From every metastate of the construction some way leads on to the end of a sentence. Its matrix is valid, so
--- it admits some window: go on with the phones right of that window's centre, then end with silence. By the
--- choice of a combination for each window this is a sentence. So every arc lies on an accepting path.
+-- From every metastate of the construction some way leads on to the end of a sentence. It admits some window: go
+-- on with the phones right of that window's centre, then end with silence. By the choice of a combination for
+-- each window this is a sentence. So every arc lies on an accepting path.
 use mathlib.Core.Path.{_≡_, sym, ap, _∙_, subst}
 use mathlib.Core.List.{List, _∷_, _++_}
 use Prim.Native.Nat.{ℕ, suc, _+_}
@@ -16,7 +16,7 @@ use Rattle.definitions.specs.laws.Lists.{every-parts, every-split, part-
 use Rattle.definitions.specs.laws.Sound.{AllPhones, Sound}
 use Rattle.definitions.specs.laws.Contexts.{silence-phones}
 use Rattle.definitions.specs.graph.Graph.{Alive}
-use Rattle.definitions.specs.demand.Windows.{admits, admits-take, Window, valid-admits}
+use Rattle.definitions.specs.demand.Carrier.{fits, fits-take, SomeWindow, holds-fits}
 use Rattle.definitions.specs.demand.ChoicesAlong.{Along, choices-along}
 use Rattle.definitions.specs.demand.Network.{graphOf}
 use Rattle.definitions.specs.demand.Passages.{phonesOf, along, passage-onward}
@@ -28,14 +28,14 @@ module _ (book : Book) (sound : Sound book) (x : Metastate) (kept : Constructed 
   n = book .half
 
   -- a window that the metastate admits, then silence
-  window : Window (book .phones) (x .matrix)
-  window = valid-admits (book .phones) (x .matrix) (kept .below) (kept .is-valid)
+  window : SomeWindow book (x .carried)
+  window = holds-fits (kept .formed)
 
   abbrev Z : List ℕ
   Z = window .window ++ replicate (suc n) 1
 
   window-length : length (window .window) ≡ n + n + 1
-  window-length = window .width ∙ kept .width
+  window-length = window .size
 
   onward-length : length Z ≡ n + n + 1 + suc n
   onward-length = length-append (window .window) (replicate (suc n) 1) ∙ rw (window-length, length-replicate)
@@ -45,11 +45,11 @@ module _ (book : Book) (sound : Sound book) (x : Metastate) (kept : Constructed 
       let silent = silence-phones (book .phones) (suc n) (sound .some-phone) in
       every-parts (isPhone (book .phones)) (window .window) (replicate (suc n) 1) .1 (window .phones-in, silent)
 
-  onward-admitted : T (admits (x .matrix) Z)
+  onward-admitted : T (fits (x .carried) Z)
   onward-admitted =
       subst T
-      (ap (admits (x .matrix)) (sym (take-at (window .window) (replicate (suc n) 1) _ (window .width)))
-      ∙ admits-take (x .matrix) Z)
+      (ap (fits (x .carried)) (sym (take-at (window .window) (replicate (suc n) 1) _ (window .size)))
+      ∙ fits-take (kept .formed .wide) Z)
       (window .admitted)
 
   -- the combinations that admit what follows

@@ -4,7 +4,6 @@
 use mathlib.Core.Path.{_≡_}
 use mathlib.Core.Logic.{_↔_, Iff·rfl, Iff·symm, Iff·trans, Iff·and}
 use mathlib.Core.List.{List}
-use mathlib.Core.Option.{some}
 use Prim.Native.Nat.{ℕ}
 use lib.Dec.{T, lit<}
 use Rattle.definitions.specs.declared.Header.{Header}
@@ -15,17 +14,18 @@ use Rattle.definitions.specs.Tables.{Book, bookOf, Tables, tablesLeft, t
 use Rattle.definitions.specs.ForeignTables.{tablesKnown}
 use Rattle.definitions.specs.Combinations.{Combination, combinations, combine}
 use Rattle.definitions.specs.Arcs.{arcsIn}
-use Rattle.definitions.specs.Connecting.{Network, Built, finished, connect}
+use Rattle.definitions.specs.Growing.{finished}
+use Rattle.definitions.specs.Connecting.{Network, Built, connect}
 use Rattle.definitions.specs.Building.{Space, roomIn, build, networkIn, countsIn, buffersOf}
 use Rattle.definitions.specs.Building.{buffersLeft}
 use Rattle.definitions.specs.Paths.{Carries}
-use Rattle.definitions.specs.TreesGive.{silentEnds, treesGive}
+use Rattle.definitions.specs.TreesGive.{Given}
 use Rattle.definitions.specs.laws.Records.{arcs-read}
 use Rattle.definitions.specs.laws.Judging.{passes-at, judge-answered, andThen-answered}
 use Rattle.definitions.specs.laws.Books.{accepted-book}
 use Rattle.definitions.specs.laws.Accepted.{accepted-sound}
 use Rattle.definitions.specs.laws.ModelsAlong.{given-is}
-use Rattle.definitions.specs.demand.Network.{BuiltFrom}
+use Rattle.definitions.specs.demand.Network.{bookRules, BuiltFrom}
 use Rattle.definitions.specs.demand.Main.{book-exactly}
 
 module _ (header : Header) (tables : Tables) (space : Space) where
@@ -46,8 +46,7 @@ module _ (header : Header) (tables : Tables) (space : Space) where
       combined found combines .0
 
   pub build-connects : (limit : ℕ) (built : Built) → build header tables space limit ≡ answered built
-      → connect (tablesBook header tables) (combinations (tablesBook header tables)) (roomIn space) limit
-      ≡ answered built
+      → connect (bookRules (tablesBook header tables)) (roomIn space) limit ≡ answered built
   unfolding build
   build-connects limit built e =
       let choices = combine header tables (space .combinations) in
@@ -79,8 +78,8 @@ module _ (lent : Lent) (text : List ℕ) (lines : List BookLine) (accepted : rea
           (build-connects (headerOf lines) (tablesLeft lent (readBook lent text)) space limit _ built);
     }
 
-    pub exactly-by-lines : (M S : List ℕ) → ((places : List ℕ) × Carries (net .arcs) places M S)
-        ↔ (T (silentEnds S) × (treesGive lines S ≡ some M))
+    pub exactly-by-lines : (M S : List ℕ)
+        → ((places : List ℕ) × Carries (net .arcs) places M S) ↔ Given lines M S
     exactly-by-lines M S =
         Iff·trans (book-exactly (bookOf lines) net built-from M S)
         (Iff·and Iff·rfl (Iff·symm (given-is lent text lines accepted S M)))

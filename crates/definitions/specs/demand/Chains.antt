@@ -1,108 +1,101 @@
--- The chain theorem, the core of demand 3: what the matrix at the end of a chain of steps admits. A step to a
--- combination meets the shifted matrix with the combination's. By laws 1 to 3 of Windows the matrix after the
--- steps admits W exactly when some phones e before W make the first matrix admit e ++ W and each combination
--- admit it from its own place on. Nothing here looks inside a matrix or knows the ends of a sentence:
--- demand/Sentences.antt joins it with them.
-use mathlib.Core.Path.{_≡_, refl, sym, ap, _∙_}
+-- The chain theorem, the core of demand 3: what is admitted at the end of a chain of steps. A step to a
+-- combination shifts what is carried and meets it with what the combination carries. By laws 1 to 3 of Carrier
+-- the last carrier admits W exactly when some phones e before W make the first admit e ++ W and each combination
+-- admit it from its own place on. Nothing here knows the ends of a sentence: demand/Sentences.antt joins it with
+-- them.
+use mathlib.Core.Path.{_≡_, refl, ap}
 use mathlib.Core.Logic.{_↔_}
 use mathlib.Core.List.{List, [], _∷_, _++_}
-use Prim.Native.Nat.{ℕ, suc, _+_, _≤_, _<_}
+use Prim.Native.Nat.{ℕ, suc, _+_, _≤_}
 use native.Mathlib.Omega.{arith}
 use lib.Dec.{T}
 use lib.ListN.{length, drop, length-append}
 use lib.Seq.{drop-at}
 use Rattle.definitions.specs.Lists.{every}
 use Rattle.definitions.specs.BookLines.{isPhone}
-use Rattle.definitions.specs.Matrices.{Matrix, valid, meet, shift}
+use Rattle.definitions.specs.Tables.{Book}
 use Rattle.definitions.specs.laws.Lists.{every-cons, every-parts}
-use Rattle.definitions.specs.laws.Matrices.{Below, meet-length, meet-below, shift-length, shift-below}
-use Rattle.definitions.specs.demand.Windows.{admits, meet-admits, shift-admits-rest}
-use Rattle.definitions.specs.demand.Windows.{shift-admits-from, admits-valid}
+use Rattle.definitions.specs.laws.Sound.{columnsOf, AllPhones}
+use Rattle.definitions.specs.demand.Carrier.{Carrier, holdsSome, meetOf, shiftOf, fits, Wide, Formed}
+use Rattle.definitions.specs.demand.Carrier.{meet-wide, meet-fits, shift-wide, shift-fits-rest}
+use Rattle.definitions.specs.demand.Carrier.{shift-fits-from, fits-holds}
 
--- each matrix admits the list from its own place on
-abbrev pub AdmitEach : List Matrix → (Z : List ℕ) → Type 0
+-- each carrier admits the list from its own place on
+abbrev pub AdmitEach : List Carrier → (Z : List ℕ) → Type 0
 AdmitEach [] Z = Unit {0}
-AdmitEach (c ∷ cs) Z = T (admits c Z) × AdmitEach cs (drop 1 Z)
+AdmitEach (c ∷ cs) Z = T (fits c Z) × AdmitEach cs (drop 1 Z)
 
--- matrices of one width
-abbrev pub AllWide : (width : ℕ) → List Matrix → Type 0
-AllWide width [] = Unit {0}
-AllWide width (c ∷ cs) = (length c ≡ width) × AllWide width cs
+module _ (book : Book) where
+  -- carriers of the book's form
+  abbrev pub AllWide : List Carrier → Type 0
+  AllWide [] = Unit {0}
+  AllWide (c ∷ cs) = Wide book c × AllWide cs
 
-module _ (phones : ℕ) where
-  -- what is carried from a matrix by a step to a combination with matrix c
-  abbrev pub stepTo : Matrix → (c : Matrix) → Matrix
-  stepTo m c = meet (shift phones m) c
+  -- what a step leads to from m, where the combination carries c
+  abbrev pub stepTo : Carrier → (c : Carrier) → Carrier
+  stepTo m c = meetOf (shiftOf book m) c
 
-  -- what is carried at the end of steps, and that every step is valid
-  unfoldable pub carried : Matrix → List Matrix → Matrix
-  carried m [] = m
-  carried m (c ∷ cs) = carried (stepTo m c) cs
+  -- what is carried at the end of steps, and that every step leaves some window
+  unfoldable pub afterSteps : Carrier → List Carrier → Carrier
+  afterSteps m [] = m
+  afterSteps m (c ∷ cs) = afterSteps (stepTo m c) cs
 
-  abbrev pub Steps : Matrix → List Matrix → Type 0
+  abbrev pub Steps : Carrier → List Carrier → Type 0
   Steps m [] = Unit {0}
-  Steps m (c ∷ cs) = T (valid (stepTo m c)) × Steps (stepTo m c) cs
+  Steps m (c ∷ cs) = T (holdsSome (stepTo m c)) × Steps (stepTo m c) cs
 
   -- phones before W that trace the steps back to their beginning
-  pub record Trace (m : Matrix) (cs : List Matrix) (W e : List ℕ) : Type 0 where
+  pub record Trace (m : Carrier) (cs : List Carrier) (W e : List ℕ) : Type 0 where
     pub as-many : length e ≡ length cs
-    pub phones-in : T (every (isPhone phones) e)
-    pub first : T (admits m (e ++ W))
+    pub phones-in : AllPhones book e
+    pub first : T (fits m (e ++ W))
     pub others : AdmitEach cs (drop 1 (e ++ W))
 
-  module _ (width : ℕ) (some : 0 < width) where
-    step-length : (m c : Matrix) → length m ≡ width → length c ≡ width → length (shift phones m) ≡ length c
-    step-length m c e k = shift-length phones m (omega arith) ∙ e ∙ sym k
+  -- one phone more for each step, back from the end
+  traced : (m : Carrier) (cs : List Carrier) (W : List ℕ) → Formed book m → AllWide cs
+      → Steps m cs → T (fits (afterSteps m cs) W) → (e : List ℕ) × Trace m cs W e
+  unfolding afterSteps every
+  traced m [] W f wide s h = ([], record { as-many = refl; phones-in = tt; first = h; others = tt })
+  traced m (c ∷ cs) W f wide s h =
+      let shifted = shift-wide (f .wide) in
+      let on : Formed book (stepTo m c) = record { wide = meet-wide shifted (wide .0); holds = s .0 } in
+      let (e, t) = traced (stepTo m c) cs W on (wide .1) (s .1) h in
+      let both = meet-fits shifted (wide .0) (e ++ W) .0 (t .first) in
+      let (x, phone, begins) = shift-fits-from f (e ++ W) (both .0) in (
+        x ∷ e,
+        record {
+          as-many = ap suc (t .as-many);
+          phones-in = every-cons (isPhone (book .phones)) x e .1 (phone, t .phones-in);
+          first = begins;
+          others = (both .1, t .others);
+        },
+      )
 
-    pub step-wide : (m c : Matrix) → length m ≡ width → length c ≡ width → length (stepTo m c) ≡ width
-    step-wide m c e k = meet-length (shift phones m) c (step-length m c e k) ∙ step-length m c e k ∙ k
+  -- each step leaves some window, as it admits the rest of the list
+  stepped : (m : Carrier) (cs : List Carrier) (Z : List ℕ) → Wide book m → AllWide cs
+      → AllPhones book Z → columnsOf book + length cs ≤ length Z → T (fits m Z) → AdmitEach cs (drop 1 Z)
+      → Steps m cs × T (fits (afterSteps m cs) (drop (length cs) Z))
+  unfolding afterSteps
+  stepped m [] Z w wide r long h each = (tt, h)
+  stepped m (c ∷ cs) [] w wide r long h each = absurd (omega arith)
+  stepped m (c ∷ cs) (x ∷ Z) w wide r long h each =
+      let shifted = shift-wide w in
+      let rest = every-cons (isPhone (book .phones)) x Z .0 r .1 in
+      let on = shift-fits-rest w x Z (omega arith) rest h in
+      let met = meet-fits shifted (wide .0) Z .1 (on, each .0) in
+      let (steps, last) = stepped (stepTo m c) cs Z (meet-wide shifted (wide .0)) (wide .1) rest
+      (omega arith) met (each .1) in
+      ((fits-holds (stepTo m c) Z met, steps), last)
 
-    pub step-below : (m c : Matrix) → Below phones m → Below phones (stepTo m c)
-    step-below m c b = meet-below phones (shift phones m) c (shift-below phones m b)
-
-    -- one phone more for each step, back from the end
-    traced : (m : Matrix) (cs : List Matrix) (W : List ℕ) → length m ≡ width → AllWide width cs → Below phones m
-        → T (valid m) → Steps m cs → T (admits (carried m cs) W) → (e : List ℕ) × Trace m cs W e
-    unfolding carried every
-    traced m [] W l wide b v s h = ([], record { as-many = refl; phones-in = tt; first = h; others = tt })
-    traced m (c ∷ cs) W l wide b v s h =
-        let (e, t) = traced (stepTo m c) cs W (step-wide m c l (wide .0)) (wide .1) (step-below m c b) (s .0)
-        (s .1) h in
-        let both = meet-admits (shift phones m) c (e ++ W) (step-length m c l (wide .0)) .0 (t .first) in
-        let (x, phone, begins) = shift-admits-from phones m (e ++ W) (omega arith) b v (both .0) in (
-          x ∷ e,
-          record {
-            as-many = ap suc (t .as-many);
-            phones-in = every-cons (isPhone phones) x e .1 (phone, t .phones-in);
-            first = begins;
-            others = (both .1, t .others);
-          },
-        )
-
-    -- each step is valid, as it admits what is left
-    stepped : (m : Matrix) (cs : List Matrix) (Z : List ℕ) → length m ≡ width → AllWide width cs
-        → T (every (isPhone phones) Z) → width + length cs ≤ length Z → T (admits m Z) → AdmitEach cs (drop 1 Z)
-        → Steps m cs × T (admits (carried m cs) (drop (length cs) Z))
-    unfolding carried
-    stepped m [] Z l wide r long h each = (tt, h)
-    stepped m (c ∷ cs) [] l wide r long h each = absurd (omega arith)
-    stepped m (c ∷ cs) (x ∷ Z) l wide r long h each =
-        let rest = every-cons (isPhone phones) x Z .0 r .1 in
-        let on = shift-admits-rest phones m x Z (omega arith) (omega arith) rest h in
-        let met = meet-admits (shift phones m) c Z (step-length m c l (wide .0)) .1 (on, each .0) in
-        let (steps, last) = stepped (stepTo m c) cs Z (step-wide m c l (wide .0)) (wide .1) rest (omega arith)
-        met (each .1) in
-        ((admits-valid (stepTo m c) Z met, steps), last)
-
-    pub chain : (m : Matrix) (cs : List Matrix) (W : List ℕ) → length m ≡ width → AllWide width cs
-        → Below phones m → T (valid m) → T (every (isPhone phones) W) → width ≤ length W
-        → (Steps m cs × T (admits (carried m cs) W)) ↔ ((e : List ℕ) × Trace m cs W e)
-    chain m cs W l wide b v r long = (λ h. traced m cs W l wide b v (h .0) (h .1), λ h. back (h .0) (h .1))
-      where
-        back : (e : List ℕ) → Trace m cs W e → Steps m cs × T (admits (carried m cs) W)
-        back e t =
-            let all = every-parts (isPhone phones) e W .1 (t .phones-in, r) in
-            let enough : width + length cs ≤ length (e ++ W) =
-            omega (arith, length-append e W, t .as-many) in
-            let (steps, last) = stepped m cs (e ++ W) l wide all enough (t .first) (t .others) in
-            (steps, rw (drop-at e W (length cs) (t .as-many)) at last)
+  pub chain : (m : Carrier) (cs : List Carrier) (W : List ℕ) → Formed book m → AllWide cs
+      → AllPhones book W → columnsOf book ≤ length W
+      → (Steps m cs × T (fits (afterSteps m cs) W)) ↔ ((e : List ℕ) × Trace m cs W e)
+  chain m cs W f wide r long = (λ h. traced m cs W f wide (h .0) (h .1), λ h. back (h .0) (h .1))
+    where
+      back : (e : List ℕ) → Trace m cs W e → Steps m cs × T (fits (afterSteps m cs) W)
+      back e t =
+          let all = every-parts (isPhone (book .phones)) e W .1 (t .phones-in, r) in
+          let enough : columnsOf book + length cs ≤ length (e ++ W) =
+          omega (arith, length-append e W, t .as-many) in
+          let (steps, last) = stepped m cs (e ++ W) (f .wide) wide all enough (t .first) (t .others) in
+          (steps, rw (drop-at e W (length cs) (t .as-many)) at last)

@@ -12,16 +12,15 @@ use lib.Seq.{length-take-le}
 use Rattle.definitions.specs.Lists.{_!_}
 use Rattle.definitions.specs.BookLines.{isPhone}
 use Rattle.definitions.specs.Tables.{Book}
-use Rattle.definitions.specs.Matrices.{Matrix}
 use Rattle.definitions.specs.Combinations.{combinations}
 use Rattle.definitions.specs.TreesGive.{windows}
 use Rattle.definitions.specs.laws.Lists.{every-split}
-use Rattle.definitions.specs.laws.Sound.{AllPhones, Sound}
-use Rattle.definitions.specs.demand.Windows.{admits, admits-take}
+use Rattle.definitions.specs.laws.Sound.{columnsOf, AllPhones, Sound}
+use Rattle.definitions.specs.demand.Carrier.{fits, fits-take}
 use Rattle.definitions.specs.demand.Chains.{AdmitEach}
 use Rattle.definitions.specs.demand.Chosen.{combinationAt, chosen-at}
 use Rattle.definitions.specs.demand.Choices.{leavesReached, TheChoice, the-choice}
-use Rattle.definitions.specs.demand.Passages.{Listed, matricesOf}
+use Rattle.definitions.specs.demand.Passages.{Listed, carriersOf}
 
 module _ (book : Book) where
   -- a list with so many windows
@@ -38,7 +37,7 @@ module _ (book : Book) where
   pub record Along (count : ℕ) (Z js : List ℕ) : Type 0 where
     pub as-many : length js ≡ count
     pub listed : Listed book js
-    pub admitted : AdmitEach (matricesOf book js) Z
+    pub admitted : AdmitEach (carriersOf book js) Z
 
 module _ (book : Book) (sound : Sound book) where
   -- ---- the window at the front of a list
@@ -54,15 +53,15 @@ module _ (book : Book) (sound : Sound book) where
 
   -- a combination sees nothing beyond it
   front-admits : (j : ℕ) (Z : List ℕ) → j < length (combinations book)
-      → admits (combinationAt book j .matrix) (frontOf Z) ≡ admits (combinationAt book j .matrix) Z
+      → fits (combinationAt book j .carried) (frontOf Z) ≡ fits (combinationAt book j .carried) Z
   front-admits j Z l =
-      let m : Matrix = combinationAt book j .matrix in
-      let width : length m ≡ 2 * book .half + 1 = chosen-at book sound j l .width ∙ omega arith in
-      ap (λ (k : ℕ). admits m (take k Z)) (sym width) ∙ admits-take m Z
+      let size : 2 * book .half + 1 ≡ columnsOf book = omega arith in
+      ap (λ (k : ℕ). fits (combinationAt book j .carried) (take k Z)) size
+      ∙ fits-take (chosen-at book sound j l .formed .wide) Z
 
   -- a combination that admits the front is the one
   front-only : (j : ℕ) (Z : List ℕ) (long : Long book 1 Z) (r : AllPhones book Z)
-      → j < length (combinations book) → T (admits (combinationAt book j .matrix) Z)
+      → j < length (combinations book) → T (fits (combinationAt book j .carried) Z)
       → j ≡ front-choice Z long r .number
   front-only j Z long r l h = front-choice Z long r .only j l (subst T (sym (front-admits j Z l)) h)
 
@@ -84,8 +83,8 @@ module _ (book : Book) (sound : Sound book) where
 
   -- there are no others
   pub choices-unique : (js ks Z : List ℕ) → Listed book js → Listed book ks → length js ≡ length ks
-      → Long book (length js) Z → AllPhones book Z → AdmitEach (matricesOf book js) Z
-      → AdmitEach (matricesOf book ks) Z → js ≡ ks
+      → Long book (length js) Z → AllPhones book Z → AdmitEach (carriersOf book js) Z
+      → AdmitEach (carriersOf book ks) Z → js ≡ ks
   choices-unique [] [] Z l m e long r a b = refl
   choices-unique [] (k ∷ ks) Z l m e long r a b = absurd (omega arith)
   choices-unique (j ∷ js) [] Z l m e long r a b = absurd (omega arith)
@@ -97,7 +96,7 @@ module _ (book : Book) (sound : Sound book) where
 
   -- their leaves
   pub choices-leaves : (js Z : List ℕ) → Listed book js → Long book (length js) Z → AllPhones book Z
-      → AdmitEach (matricesOf book js) Z
+      → AdmitEach (carriersOf book js) Z
       → map (λ j. combinationAt book j .leaves) js
       ≡ map (λ W. leavesReached book W (W ! book .half)) (windows (2 * book .half + 1) (length js) Z)
   unfolding windows

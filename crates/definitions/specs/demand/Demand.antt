@@ -12,12 +12,11 @@
 --   build, countsIn, buffersLeft (Building.antt)              the build's answer, its counts and its buffers
 --   arcsIn (Arcs.antt)                                        the arcs in the words of the arc buffer
 --   accepting, Carries (Paths.antt)                           paths and what they carry
---   silentEnds, treesGive (TreesGive.antt)                    what the trees give, from the book's lines alone
+--   Given, silentEnds, treesGive (TreesGive.antt)             what the trees give, from the book's lines alone
 -- The idea of the proof is in docs/THEOREM.md.
 use mathlib.Core.Path.{_≡_}
 use mathlib.Core.Logic.{_↔_}
 use mathlib.Core.List.{List}
-use mathlib.Core.Option.{some}
 use Prim.Native.Nat.{ℕ, _<_}
 use lib.Dec.{T, eqb}
 use Rattle.definitions.specs.declared.Counts.{Counts}
@@ -27,10 +26,11 @@ use Rattle.definitions.specs.BookLines.{BookLine, headerOf}
 use Rattle.definitions.specs.BookReading.{Lent, readBook}
 use Rattle.definitions.specs.Tables.{Book, bookOf, Tables, tablesLeft, tablesBook}
 use Rattle.definitions.specs.Arcs.{Arc, arcsIn}
-use Rattle.definitions.specs.Connecting.{Network, Built, finished}
-use Rattle.definitions.specs.Building.{Space, build, networkIn, countsIn, buffersLeft}
+use Rattle.definitions.specs.Growing.{finished, grownIn}
+use Rattle.definitions.specs.Connecting.{Network, Built}
+use Rattle.definitions.specs.Building.{Space, build, countsIn, buffersLeft}
 use Rattle.definitions.specs.Paths.{accepting, Carries}
-use Rattle.definitions.specs.TreesGive.{silentEnds, treesGive}
+use Rattle.definitions.specs.TreesGive.{Given}
 use Rattle.definitions.specs.demand.Main.{book-one-path, book-every-arc}
 use Rattle.definitions.specs.demand.Assembly.{arcs-decoded, built-from, exactly-by-lines}
 
@@ -41,8 +41,8 @@ module _ (lines : List BookLine) (counts : Counts) (words : List ℕ) where
 
   pub record Demand3 : Type 0 where
     -- some accepting path carries M and S exactly when S has silent ends and the trees give M to S;
-    pub exactly : (M S : List ℕ) → ((places : List ℕ) × Carries countedArcs places M S)
-        ↔ (T (silentEnds S) × (treesGive lines S ≡ some M))
+    pub exactly : (M S : List ℕ)
+        → ((places : List ℕ) × Carries countedArcs places M S) ↔ Given lines M S
     -- two accepting paths that carry the same M and S are the same list of places;
     pub one-path : (M S p q : List ℕ) → Carries countedArcs p M S → Carries countedArcs q M S → p ≡ q
     -- every place among the counted arcs lies on some accepting path.
@@ -66,7 +66,7 @@ module _ (lent : Lent) (text : List ℕ) (lines : List BookLine) (space : Space)
   pub demand3 : readBook lent text ≡ answered lines
       → (turns : ℕ) (net : Network) → buildAnswer ≡ answered (finished turns net)
       → Demand3 lines (countsIn (headerOf lines .states) net) arcBuffer
-  unfolding countsIn networkIn
+  unfolding countsIn grownIn
   demand3 accepted turns net built =
       let left : Book = tablesBook (headerOf lines) tablesRead in
       let arcs = arcs-decoded left space (headerOf lines .states) (finished turns net) buildAnswer built in

@@ -38,7 +38,7 @@ use Rattle.definitions.specs.construction.ArcRanges.{ArcFits, fits-known
 use Rattle.definitions.specs.construction.ArcRanges.{some-there}
 use Rattle.definitions.specs.graph.Graph.{Way}
 use Rattle.definitions.specs.demand.Chosen.{LeafOf, combinationAt, chosen-at}
-use Rattle.definitions.specs.demand.Network.{graphOf}
+use Rattle.definitions.specs.demand.Network.{bookRules, graphOf}
 use Rattle.definitions.specs.demand.Sentences.{Constructed}
 use Rattle.definitions.specs.demand.Ways.{table-constructed}
 use Rattle.definitions.specs.demand.Meaning.{way-exists}
@@ -73,15 +73,12 @@ module _ (book : Book) (sound : Sound book) (few-states : book .states ≤ 3) (f
     (few-models : (node model : ℕ) → node < length (book .nodes) → nodeAt (book .nodes) node ≡ leaf model
     → model ≤ 65535)
   where
-    abbrev cs : List Combination
-    cs = combinations book
-
     -- the models and the phone of a metastate are those of a combination
     leaf-most : (node : ℕ) → LeafOf book node → modelAt (book .nodes) node ≤ 65535
     leaf-most node (listed, (model, e)) =
         rw (model-at (book .nodes) node model e) (few-models node model listed e)
 
-    constructed-fits : (x : Metastate) → Constructed book x → MetastateFits book (combinations book) x
+    constructed-fits : (x : Metastate) → Constructed book x → MetastateFits (bookRules book) x
     unfolding modelsOf phoneOf combinationOf
     constructed-fits x k =
         let c : Combination = combinationAt book (x .number) in
@@ -108,22 +105,22 @@ module _ (book : Book) (sound : Sound book) (few-states : book .states ≤ 3) (f
         first (x ∷ ws) way = (x, way .0)
 
     pub connected-known : (space : Space) (limit : ℕ) (built : Built)
-        → connect book (combinations book) (roomIn space) limit ≡ answered built
+        → connect (bookRules book) (roomIn space) limit ≡ answered built
         → T (networkKnown (countsIn (book .states) (networkIn built))
         (buffersOf book space (networkIn built) .arcs))
     unfolding countsIn buffersOf roomIn
     connected-known space limit built e =
         let net : Network = networkIn built in
-        let (turns, left) = build-expanded book cs (roomIn space) limit built e in
-        let room = connected-room (roomIn space) book cs limit built e in
-        let fits : ((x : Metastate) → isIn x (net .metastates) → MetastateFits book cs x) =
+        let (turns, left) = build-expanded (bookRules book) (roomIn space) limit built e in
+        let room = connected-room (roomIn space) (bookRules book) limit built e in
+        let fits : ((x : Metastate) → isIn x (net .table) → MetastateFits (bookRules book) x) =
         λ x h. constructed-fits x (table-constructed book sound (roomIn space) limit built e x h) in
-        let done : List Metastate = take turns (net .metastates) in
+        let done : List Metastate = take turns (net .table) in
         let (start, starting) = some-start in
-        let (metastates, arcs) = some-there book cs done net left start starting in
+        let (metastates, arcs) = some-there (bookRules book) done net left start starting in
         known-network (countsIn (book .states) net) (space .arcs) (net .arcs)
         record { low = sound .some-state; high = few-states }
-        record { low = metastates; high = omega (arith, room .metastates) }
+        record { low = metastates; high = omega (arith, room .table) }
         record { low = arcs; high = omega (arith, room .arcs) }
-        refl (omega (arith, room .arcs)) (arcs-fit book cs done net left (sound .some-state) fits)
-        (sources-rise book cs done net left (sound .some-state) (λ x h. fits x h .count))
+        refl (omega (arith, room .arcs)) (arcs-fit (bookRules book) done net left (sound .some-state) fits)
+        (sources-rise (bookRules book) done net left (sound .some-state) (λ x h. fits x h .count))

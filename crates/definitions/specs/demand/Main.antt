@@ -4,20 +4,24 @@
 use mathlib.Core.Path.{_≡_, sym, ap, _∙_, subst}
 use mathlib.Core.Logic.{_↔_}
 use mathlib.Core.List.{List, map}
+use mathlib.Core.Bool.{not}
 use Prim.Native.Nat.{ℕ, _<_}
-use lib.Dec.{T, eqb}
+use lib.Dec.{T, eqb, eqb→eq, not-T}
 use lib.ListN.{length}
 use Rattle.definitions.specs.Lists.{atLeastOne}
 use Rattle.definitions.specs.Tables.{Book}
 use Rattle.definitions.specs.Combinations.{combinations}
+use Rattle.definitions.specs.Arcs.{FINAL}
 use Rattle.definitions.specs.Metastates.{Metastate, phoneOf}
 use Rattle.definitions.specs.Connecting.{Network}
-use Rattle.definitions.specs.Paths.{accepting, Carries}
+use Rattle.definitions.specs.Paths.{accepting, Carries, finalLast}
 use Rattle.definitions.specs.TreesGive.{silentEnds}
 use Rattle.definitions.specs.Transcription.{transcription}
+use Rattle.definitions.specs.laws.Members.{every-in}
 use Rattle.definitions.specs.laws.Sound.{Sound}
 use Rattle.definitions.specs.laws.ModelsAlong.{Reaches}
 use Rattle.definitions.specs.graph.Graph.{Graph, Proper, arcsOf}
+use Rattle.definitions.specs.graph.Arcs.{none-from-final}
 use Rattle.definitions.specs.graph.Theorem.{exactly, one-path, every-arc}
 use Rattle.definitions.specs.demand.Network.{graphOf, BuiltFrom}
 use Rattle.definitions.specs.demand.Meaning.{ways-unique, way-phones-silent, way-transcribed}
@@ -26,7 +30,7 @@ use Rattle.definitions.specs.demand.ProperNetwork.{proper, arcs-are, rea
 
 module _ (book : Book) (net : Network) (built : BuiltFrom book net) where
   abbrev table : List Metastate
-  table = net .metastates
+  table = net .table
 
   abbrev graph : Graph Metastate
   graph = graphOf book table
@@ -68,3 +72,10 @@ module _ (book : Book) (net : Network) (built : BuiltFrom book net) where
   pub book-every-arc : (place : ℕ) → place < length (net .arcs)
       → (places : List ℕ) × T (accepting (net .arcs) places) × T (atLeastOne (eqb place) places)
   book-every-arc = rw arcs (every-arc graph regular (reached-and-alive book net built))
+
+  -- beside them: no arc leaves FINAL
+  pub book-final-last : T (finalLast (net .arcs))
+  unfolding finalLast
+  book-final-last =
+      rw arcs (every-in (λ a. not (eqb (a .from) FINAL)) (arcsOf graph) λ a h.
+      not-T (eqb (a .from) FINAL) (λ f. none-from-final graph regular a h (eqb→eq (a .from) FINAL f)))

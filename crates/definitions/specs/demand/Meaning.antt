@@ -13,19 +13,21 @@ use Rattle.definitions.specs.Lookup.{modelAt, leafReached}
 use Rattle.definitions.specs.Tables.{rootOf}
 use Rattle.definitions.specs.Combinations.{combinations}
 use Rattle.definitions.specs.Metastates.{Metastate, combinationOf, phoneOf, modelsOf}
-use Rattle.definitions.specs.TreesGive.{windows, withSilence, contexts, silentEnds}
+use Rattle.definitions.specs.TreesGive.{windows, contextsWithin, silences, withSilence, contexts}
+use Rattle.definitions.specs.TreesGive.{silentEnds}
 use Rattle.definitions.specs.Transcription.{modelOf, transcription}
 use Rattle.definitions.specs.laws.Lists.{concatMap-map}
 use Rattle.definitions.specs.laws.Sound.{AllPhones, Sound}
+use Rattle.definitions.specs.laws.Walks.{reached-model}
 use Rattle.definitions.specs.laws.ModelsAlong.{leafModels}
-use Rattle.definitions.specs.laws.Contexts.{around-length, around-middle, around-phones}
+use Rattle.definitions.specs.laws.Contexts.{around-middle, silences-length, silent-length, silent-phones}
 use Rattle.definitions.specs.graph.Graph.{Way}
 use Rattle.definitions.specs.demand.Chains.{AdmitEach}
 use Rattle.definitions.specs.demand.Chosen.{combinationAt}
 use Rattle.definitions.specs.demand.Choices.{leavesReached}
 use Rattle.definitions.specs.demand.ChoicesAlong.{Long, choices-along, choices-unique, choices-leaves}
 use Rattle.definitions.specs.demand.Network.{graphOf}
-use Rattle.definitions.specs.demand.Passages.{numbersAlong, matricesOf, phonesOf}
+use Rattle.definitions.specs.demand.Passages.{numbersAlong, carriersOf, phonesOf}
 use Rattle.definitions.specs.demand.Sentences.{centres}
 use Rattle.definitions.specs.demand.Ways.{wayOf, wayOf-numbers, Admitted, way-admitted, admitted-way}
 use Rattle.definitions.specs.demand.Ways.{listed-phones}
@@ -52,19 +54,21 @@ module _ (book : Book) (sound : Sound book) where
       ≡ modelsAt
   unfolding modelOf
   reached-models =
-      let reach : List ℕ → ℕ → ℕ =
-      λ W state. leafReached (book .nodes) (book .classes) W (rootOf book (W ! book .half) state) in
-      λ i W. map-map (modelAt (book .nodes)) (reach W) (upFrom 1 (book .states)) i
+      let states : List ℕ = upFrom 1 (book .states) in
+      let root : List ℕ → ℕ → ℕ = λ W state. rootOf book (W ! book .half) state in
+      let reach : List ℕ → ℕ → ℕ = λ W state. leafReached (book .nodes) (book .classes) W (root W state) in
+      (λ i W. map-map (modelAt (book .nodes)) (reach W) states i)
+      ∙ sym (λ i W. map (λ state. reached-model (book .nodes) (book .classes) W (root W state) i) states)
 
   -- the sequence of the phones of combinations, with silence around it, has a window for each
   phones-length : (js : List ℕ) → length (phonesOf book js) ≡ length js
   phones-length js = length-map js (λ j. combinationAt book j .phone)
 
   around-long : (js : List ℕ) → Long book (length js) (withSilence (book .half) (phonesOf book js))
-  around-long js = omega (arith, around-length (book .half) (phonesOf book js), phones-length js)
+  around-long js = omega (arith, silent-length (book .half) (phonesOf book js), phones-length js)
 
   around-in-range : (S : List ℕ) → AllPhones book S → AllPhones book (withSilence (book .half) S)
-  around-in-range S r = around-phones (book .half) S (book .phones) (sound .some-phone) r
+  around-in-range S r = silent-phones (book .half) S (book .phones) (sound .some-phone) r
 
   -- combinations with the same phones that admit their windows are the same
   admitted-unique : (js ks : List ℕ) → Admitted book js → Admitted book ks
@@ -73,7 +77,7 @@ module _ (book : Book) (sound : Sound book) where
       let n : ℕ = book .half in
       let count : length js ≡ length ks = sym (phones-length js) ∙ ap length e ∙ phones-length ks in
       let range = around-in-range (phonesOf book js) (listed-phones book sound js (a .listed)) in
-      let second : AdmitEach (matricesOf book ks) (withSilence n (phonesOf book js)) = rw e (b .windows) in
+      let second : AdmitEach (carriersOf book ks) (withSilence n (phonesOf book js)) = rw e (b .windows) in
       choices-unique book sound js ks (withSilence n (phonesOf book js)) (a .listed) (b .listed) count
       (around-long js) range (a .windows) second
 
@@ -100,7 +104,7 @@ module _ (book : Book) (sound : Sound book) where
         → map (λ j. combinationAt book j .leaves) (numbersAlong ws)
         ≡ map (λ W. leavesReached book W (W ! book .half))
         (contexts (book .half) (phonesOf book (numbersAlong ws)))
-    unfolding contexts
+    unfolding contextsWithin
     way-reached ws w =
         let js : List ℕ = numbersAlong ws in
         let S : List ℕ = phonesOf book js in
@@ -126,13 +130,14 @@ module _ (book : Book) (sound : Sound book) where
     pub way-exists : (S : List ℕ) → AllPhones book S → T (silentEnds S)
         → (ws : List Metastate) × Way (graphOf book table) ws × (map (phoneOf (combinations book)) ws ≡ S)
     way-exists S range silent =
-        let Z : List ℕ = withSilence (book .half) S in
-        let long : Long book (length S) Z = omega (arith, around-length (book .half) S) in
+        let n : ℕ = book .half in
+        let Z : List ℕ = withSilence n S in
+        let long : Long book (length S) Z = omega (arith, silent-length n S) in
         let (js, a) = choices-along book sound (length S) Z long (around-in-range S range) in
-        let enough : book .half + length js ≤ length Z = omega (arith, a .as-many) in
+        let enough : n + length js ≤ length Z = omega (arith, a .as-many) in
         let phones : phonesOf book js ≡ S =
         sym (centres book sound js Z (a .listed) (a .admitted) enough)
-        ∙ rw (a .as-many) (around-middle (book .half) S) in
+        ∙ rw (a .as-many) (around-middle (silences n) S (silences n) n (silences-length n)) in
         let way = admitted-way book sound table js record {
           listed = a .listed;
           windows = rw phones (a .admitted);

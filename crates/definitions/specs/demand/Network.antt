@@ -7,23 +7,29 @@ use Prim.Native.Nat.{ℕ}
 use Rattle.definitions.specs.Faults.{answered}
 use Rattle.definitions.specs.Tables.{Book}
 use Rattle.definitions.specs.Combinations.{combinations}
-use Rattle.definitions.specs.Metastates.{Metastate, phoneOf, starts, followers, modelsOf, mayEnd}
-use Rattle.definitions.specs.Connecting.{Network, Room, finished, connect}
+use Rattle.definitions.specs.Metastates.{Metastate, sameMetastate}
+use Rattle.definitions.specs.Growing.{Room, finished}
+use Rattle.definitions.specs.Connecting.{Rules, rulesOf, Network, connect}
 use Rattle.definitions.specs.laws.Sound.{Sound}
 use Rattle.definitions.specs.construction.Table.{placeOf}
 use Rattle.definitions.specs.graph.Graph.{Graph}
 
+-- the rules of a book
+abbrev pub bookRules : Book → Rules
+bookRules book = rulesOf book (combinations book)
+
+-- what is stored of a metastate is all of it, so starts and followers stand in the table as they are
 abbrev pub graphOf : Book → (table : List Metastate) → Graph Metastate
 graphOf book table =
     record {
-      states = book .states;
+      states = bookRules book .states;
       table = table;
-      place = placeOf table;
-      starts = starts book (combinations book);
-      followers = followers book (combinations book);
-      ends = mayEnd book (combinations book);
-      models = modelsOf book (combinations book);
-      phone = phoneOf (combinations book);
+      place = placeOf sameMetastate table;
+      starts = bookRules book .starts;
+      followers = bookRules book .followers;
+      ends = bookRules book .ending;
+      models = bookRules book .models;
+      phone = bookRules book .phone;
     }
 
 -- a build from a sound book finished this network
@@ -32,4 +38,4 @@ pub record BuiltFrom (book : Book) (net : Network) : Type 0 where
   pub room : Room
   pub limit : ℕ
   pub turns : ℕ
-  pub connects : connect book (combinations book) room limit ≡ answered (finished turns net)
+  pub connects : connect (bookRules book) room limit ≡ answered (finished turns net)

@@ -7,12 +7,12 @@ use Prim.Native.Nat.{ℕ, _<_}
 use lib.Dec.{T}
 use lib.ListN.{length}
 use Rattle.definitions.specs.Tables.{Book}
-use Rattle.definitions.specs.Matrices.{Matrix, valid}
 use Rattle.definitions.specs.Combinations.{combinations}
 use Rattle.definitions.specs.Metastates.{Metastate, followers, mayEnd}
 use Rattle.definitions.specs.laws.Members.{isIn}
 use Rattle.definitions.specs.laws.Metastates.{metastates-equal, FollowerOf, follower-is}
 use Rattle.definitions.specs.graph.Graph.{Onward}
+use Rattle.definitions.specs.demand.Carrier.{Carrier, holdsSome}
 use Rattle.definitions.specs.demand.Chains.{stepTo, Steps}
 use Rattle.definitions.specs.demand.Chosen.{combinationAt}
 use Rattle.definitions.specs.demand.Network.{graphOf}
@@ -22,20 +22,20 @@ abbrev pub numbersAlong : List Metastate → List ℕ
 numbersAlong ws = map (λ x. x .number) ws
 
 module _ (book : Book) where
-  -- the combinations with these numbers: whether there are such, their matrices and phones
+  -- the combinations with these numbers: whether there are such, what they carry, their phones
   abbrev pub Listed : List ℕ → Type 0
   Listed [] = Unit {0}
   Listed (j ∷ js) = (j < length (combinations book)) × Listed js
 
-  abbrev pub matricesOf : List ℕ → List Matrix
-  matricesOf js = map (λ j. combinationAt book j .matrix) js
+  abbrev pub carriersOf : List ℕ → List Carrier
+  carriersOf js = map (λ j. combinationAt book j .carried) js
 
   abbrev pub phonesOf : List ℕ → List ℕ
   phonesOf js = map (λ j. combinationAt book j .phone) js
 
   -- the metastate that a step leads to
   abbrev pub stepOf : Metastate → (j : ℕ) → Metastate
-  stepOf x j = record { number = j; matrix = stepTo (book .phones) (x .matrix) (combinationAt book j .matrix) }
+  stepOf x j = record { number = j; carried = stepTo book (x .carried) (combinationAt book j .carried) }
 
   -- the metastates that steps lead through, and the last
   unfoldable pub along : Metastate → List ℕ → List Metastate
@@ -46,20 +46,20 @@ module _ (book : Book) where
   lastAlong x [] = x
   lastAlong x (j ∷ js) = lastAlong (stepOf x j) js
 
-  -- steps from a metastate that are valid and end where a sentence may end
+  -- steps from a metastate that leave some window each, and end where a sentence may end
   pub record Passage (x : Metastate) (js : List ℕ) : Type 0 where
     pub listed : Listed js
-    pub steps : Steps (book .phones) (x .matrix) (matricesOf js)
+    pub steps : Steps book (x .carried) (carriersOf js)
     pub ends : T (mayEnd book (combinations book) (lastAlong x js))
 
   -- a follower is what the step to its combination gives
   pub follower-step : (x y : Metastate) → FollowerOf book (combinations book) x y → y ≡ stepOf x (y .number)
   follower-step x y f = metastates-equal y (stepOf x (y .number)) refl (f .met)
 
-  step-follower : (x : Metastate) (j : ℕ) → j < length (combinations book) → T (valid (stepOf x j .matrix))
+  step-follower : (x : Metastate) (j : ℕ) → j < length (combinations book) → T (holdsSome (stepOf x j .carried))
       → isIn (stepOf x j) (followers book (combinations book) x)
   step-follower x j l v =
-      follower-is book (combinations book) x (stepOf x j) .1 record { listed = l; met = refl; is-valid = v }
+      follower-is book (combinations book) x (stepOf x j) .1 record { listed = l; met = refl; holds = v }
 
   module _ (table : List Metastate) where
     -- onward from a metastate is a passage, each step named by its number
@@ -76,7 +76,7 @@ module _ (book : Book) where
           ap₂ _∷_ e (same ∙ ap (λ z. along z js) e),
           record {
             listed = (f .listed, passage .listed);
-            steps = (f .is-valid, passage .steps);
+            steps = (f .holds, passage .steps);
             ends = passage .ends;
           },
         )

@@ -1,6 +1,6 @@
 -- The finished network of a sound book is a proper graph, and each of its metastates is reached and leads
 -- on. What the start metastates have and followers take over, the whole table has
--- (construction/Turning.antt): so every metastate is one of the construction's, and some way leads to it.
+-- (construction/Finished.antt): so every metastate is one of the construction's, and some way leads to it.
 use mathlib.Core.Path.{_≡_, sym, ap, _∙_}
 use mathlib.Core.List.{List, [], _∷_, _++_, append-assoc}
 use mathlib.Core.Bool.{not}
@@ -12,49 +12,49 @@ use Rattle.definitions.specs.Lists.{every}
 use Rattle.definitions.specs.Tables.{Book}
 use Rattle.definitions.specs.Lookup.{modelAt}
 use Rattle.definitions.specs.Combinations.{combinations}
-use Rattle.definitions.specs.Metastates.{Metastate, combinationOf, phoneOf, modelsOf, followers}
-use Rattle.definitions.specs.Connecting.{Network, noMetastate, arcInto, finalArcs, finished}
-use Rattle.definitions.specs.Building.{networkIn}
+use Rattle.definitions.specs.Metastates.{Metastate, sameMetastate, combinationOf, phoneOf, modelsOf}
+use Rattle.definitions.specs.Metastates.{followers}
+use Rattle.definitions.specs.Growing.{finished, grownIn}
+use Rattle.definitions.specs.Connecting.{finalArcs, arcInto, Network, noMetastate}
 use Rattle.definitions.specs.laws.Members.{isIn, of-map, every-in}
 use Rattle.definitions.specs.laws.Ranges.{phone-range}
 use Rattle.definitions.specs.laws.Sound.{Sound}
 use Rattle.definitions.specs.laws.ModelsAlong.{leafModels}
-use Rattle.definitions.specs.laws.Metastates.{starts-once, followers-once}
-use Rattle.definitions.specs.construction.Table.{placed}
-use Rattle.definitions.specs.construction.Turning.{table-holds}
-use Rattle.definitions.specs.construction.Finished.{turnArcs, Finished, build-finished}
+use Rattle.definitions.specs.laws.Metastates.{metastates-told, starts-once, followers-once}
+use Rattle.definitions.specs.construction.Table.{placeOf, placed}
+use Rattle.definitions.specs.construction.Finished.{turnArcs, Finished, build-finished, table-holds}
 use Rattle.definitions.specs.graph.Graph.{Graph, Proper, arcsOf, Reachable, Alive}
 use Rattle.definitions.specs.demand.Chosen.{LeafOf, Chosen, combinationAt, chosen-at}
-use Rattle.definitions.specs.demand.Network.{graphOf, BuiltFrom}
+use Rattle.definitions.specs.demand.Network.{bookRules, graphOf, BuiltFrom}
 use Rattle.definitions.specs.demand.Sentences.{Constructed}
 use Rattle.definitions.specs.demand.Ways.{table-constructed}
 use Rattle.definitions.specs.demand.Alive.{constructed-alive}
 
 module _ (book : Book) (net : Network) (built : BuiltFrom book net) where
   abbrev table : List Metastate
-  table = net .metastates
+  table = net .table
 
   abbrev network : Graph Metastate
-  network = graphOf book (net .metastates)
+  network = graphOf book (net .table)
 
   sound : Sound book
   sound = built .sound
 
-  left : Finished book (combinations book) net
+  left : Finished (bookRules book) net
   left =
-      build-finished book (combinations book) (built .room) (built .limit) (built .turns) net (built .connects)
+      build-finished (bookRules book) (built .room) (built .limit) (built .turns) net (built .connects)
 
   -- ---- every metastate of the table is the construction's, is reached and leads on
 
   constructed : (x : Metastate) → isIn x table → Constructed book x
-  unfolding networkIn
+  unfolding grownIn
   constructed =
       table-constructed book sound (built .room) (built .limit) (finished (built .turns) net) (built .connects)
 
   reachable : (x : Metastate) → isIn x table → Reachable network x
-  unfolding networkIn
+  unfolding grownIn
   reachable =
-      table-holds book (combinations book) (Reachable network) (built .room) (built .limit)
+      table-holds (bookRules book) (Reachable network) (built .room) (built .limit)
       (finished (built .turns) net) (λ x h. ([], λ us onward. (h, onward))) further (built .connects)
     where
       further : (x y : Metastate) → Reachable network x → isIn y (followers book (combinations book) x)
@@ -62,13 +62,13 @@ module _ (book : Book) (net : Network) (built : BuiltFrom book net) where
       further x y (ws, way) h =
           (ws ++ (x ∷ []), λ us onward. rw append-assoc (way (y ∷ us) (h, onward)))
 
-  pub reached-and-alive : (x : Metastate) → isIn x (net .metastates)
-      → Reachable (graphOf book (net .metastates)) x × Alive (graphOf book (net .metastates)) x
+  pub reached-and-alive : (x : Metastate) → isIn x (net .table)
+      → Reachable (graphOf book (net .table)) x × Alive (graphOf book (net .table)) x
   reached-and-alive x h = (reachable x h, constructed-alive book sound x (constructed x h) table)
 
   -- ---- the network is a proper graph
 
-  pub arcs-are : net .arcs ≡ arcsOf (graphOf book (net .metastates))
+  pub arcs-are : net .arcs ≡ arcsOf (graphOf book (net .table))
   unfolding arcsOf turnArcs finalArcs arcInto
   arcs-are = left .arcs
 
@@ -90,7 +90,12 @@ module _ (book : Book) (net : Network) (built : BuiltFrom book net) where
       let (node, there, e) = of-map (modelAt (book .nodes)) m leaves i in
       not-zero m (rw e (leaf-model node (each node there)))
 
-  pub proper : Proper (graphOf book (net .metastates))
+  -- a metastate stands at its place
+  told : (x : Metastate) → isIn x table
+      → getD table (placeOf sameMetastate table x) noMetastate ≡ x
+  told x h = placed sameMetastate metastates-told noMetastate x table h .1
+
+  pub proper : Proper (graphOf book (net .table))
   unfolding modelsOf phoneOf combinationOf
   proper =
       let at : ℕ → Metastate = λ place. getD table place noMetastate in
@@ -99,7 +104,7 @@ module _ (book : Book) (net : Network) (built : BuiltFrom book net) where
         table-once = left .once;
         starts-once = starts-once book (combinations book);
         followers-once = λ x h. followers-once book (combinations book) x;
-        place-injective = λ x y h k e. sym (placed x table h .1) ∙ ap at e ∙ placed y table k .1;
+        place-injective = λ x y h k e. sym (told x h) ∙ ap at e ∙ told y k;
         starts-in = left .starts-in;
         followers-in = left .followers-in;
         models-length = λ x h. length-map (combinationAt book (x .number) .leaves) _ ∙ of-choice x h .count;

@@ -1,6 +1,6 @@
 -- A passage from a metastate to where a sentence may end is the same as a list of phones that ends in silence,
 -- which the metastate admits and each further combination admits from its own place on. Both directions are
--- the chain theorem with the end test (law 4 of Windows); Ways and Alive use them.
+-- the chain theorem with the end test (law 4 of Carrier); Ways and Alive use them.
 use mathlib.Core.Path.{_≡_, refl, sym, ap, ap₂, _∙_, subst}
 use mathlib.Core.Logic.{_↔_}
 use mathlib.Core.List.{List, [], _∷_, _++_}
@@ -13,38 +13,34 @@ use lib.Seq.{drop-cons, drop-drop, drop-at, drop-append-add, length-take-le}
 use Rattle.definitions.specs.Lists.{_!_}
 use Rattle.definitions.specs.BookLines.{isPhone}
 use Rattle.definitions.specs.Tables.{Book}
-use Rattle.definitions.specs.Matrices.{Matrix, valid, endsHere}
 use Rattle.definitions.specs.Combinations.{combinations}
 use Rattle.definitions.specs.Metastates.{Metastate, phoneOf, combinationOf}
 use Rattle.definitions.specs.laws.Lists.{every-parts, every-split}
 use Rattle.definitions.specs.laws.Sound.{columnsOf, AllPhones, Sound}
-use Rattle.definitions.specs.laws.Matrices.{Below, shift-length}
 use Rattle.definitions.specs.laws.Metastates.{FollowerOf, may-end}
 use Rattle.definitions.specs.laws.Contexts.{silence-phones}
-use Rattle.definitions.specs.demand.Windows.{admits, meet-admits, ends-admits, admits-ends}
-use Rattle.definitions.specs.demand.Chains.{AdmitEach, AllWide, carried, Steps, Trace, chain}
-use Rattle.definitions.specs.demand.Chains.{step-wide, step-below}
+use Rattle.definitions.specs.demand.Carrier.{holdsSome, endTest, fits, Formed, meet-wide, meet-fits}
+use Rattle.definitions.specs.demand.Carrier.{shift-wide, fits-ends, ends-fits}
+use Rattle.definitions.specs.demand.Chains.{AdmitEach, AllWide, afterSteps, Steps, Trace, chain}
 use Rattle.definitions.specs.demand.Chosen.{combinationAt, chosen-at}
-use Rattle.definitions.specs.demand.Passages.{Listed, matricesOf, phonesOf, stepOf, lastAlong}
+use Rattle.definitions.specs.demand.Passages.{Listed, carriersOf, phonesOf, stepOf, lastAlong}
 use Rattle.definitions.specs.demand.Passages.{Passage, follower-step}
 
 module _ (book : Book) where
   -- what the construction keeps of a metastate
   pub record Constructed (x : Metastate) : Type 0 where
     pub listed : x .number < length (combinations book)
-    pub width : length (x .matrix) ≡ columnsOf book
-    pub below : Below (book .phones) (x .matrix)
-    pub is-valid : T (valid (x .matrix))
+    pub formed : Formed book (x .carried)
     -- it admits nothing that its combination does not
-    pub inside : (Z : List ℕ) → T (admits (x .matrix) Z) → T (admits (combinationAt book (x .number) .matrix) Z)
+    pub inside : (Z : List ℕ) → T (fits (x .carried) Z) → T (fits (combinationAt book (x .number) .carried) Z)
 
   -- ---- the last metastate of a passage
 
-  last-matrix : (x : Metastate) (js : List ℕ)
-      → lastAlong book x js .matrix ≡ carried (book .phones) (x .matrix) (matricesOf book js)
-  unfolding lastAlong carried
-  last-matrix x [] = refl
-  last-matrix x (j ∷ js) = last-matrix (stepOf book x j) js
+  last-carried : (x : Metastate) (js : List ℕ)
+      → lastAlong book x js .carried ≡ afterSteps book (x .carried) (carriersOf book js)
+  unfolding lastAlong afterSteps
+  last-carried x [] = refl
+  last-carried x (j ∷ js) = last-carried (stepOf book x j) js
 
   pub last-phone : (x : Metastate) (js : List ℕ)
       → phoneOf (combinations book) (lastAlong book x js) ≡ phonesOf book (x .number ∷ js) ! length js
@@ -56,22 +52,22 @@ module _ (book : Book) where
   pub record Sentence (x : Metastate) (js Z : List ℕ) : Type 0 where
     pub phones-in : AllPhones book Z
     pub long : length Z ≡ length js + (book .half + 1 + book .half)
-    pub first : T (admits (x .matrix) Z)
-    pub others : AdmitEach (matricesOf book js) (drop 1 Z)
+    pub first : T (fits (x .carried) Z)
+    pub others : AdmitEach (carriersOf book js) (drop 1 Z)
     pub silence : drop (length js + (book .half + 1)) Z ≡ replicate (book .half) 1
 
   -- all combinations of a passage, that of its first metastate included, admit their windows
   pub sentence-all : (x : Metastate) (js Z : List ℕ) → Constructed x → Sentence x js Z
-      → AdmitEach (matricesOf book (x .number ∷ js)) Z
+      → AdmitEach (carriersOf book (x .number ∷ js)) Z
   sentence-all x js Z k s = (k .inside Z (s .first), s .others)
 
 module _ (book : Book) (sound : Sound book) where
-  listed-wide : (js : List ℕ) → Listed book js → AllWide (columnsOf book) (matricesOf book js)
+  listed-wide : (js : List ℕ) → Listed book js → AllWide book (carriersOf book js)
   listed-wide [] l = tt
-  listed-wide (j ∷ js) l = (chosen-at book sound j (l .0) .width, listed-wide js (l .1))
+  listed-wide (j ∷ js) l = (chosen-at book sound j (l .0) .formed .wide, listed-wide js (l .1))
 
   -- the phones in the centres of the windows are the combinations' phones
-  pub centres : (js Z : List ℕ) → Listed book js → AdmitEach (matricesOf book js) Z
+  pub centres : (js Z : List ℕ) → Listed book js → AdmitEach (carriersOf book js) Z
       → book .half + length js ≤ length Z → take (length js) (drop (book .half) Z) ≡ phonesOf book js
   centres [] Z l each long = refl
   centres (j ∷ js) Z l each long =
@@ -85,28 +81,24 @@ module _ (book : Book) (sound : Sound book) where
   -- ---- what the construction keeps of a metastate is kept by steps
 
   constructed-step : (x : Metastate) (j : ℕ) → Constructed book x → j < length (combinations book)
-      → T (valid (stepOf book x j .matrix)) → Constructed book (stepOf book x j)
+      → T (holdsSome (stepOf book x j .carried)) → Constructed book (stepOf book x j)
   constructed-step x j k l v =
-      let c : Matrix = combinationAt book j .matrix in
-      let some : 0 < columnsOf book = omega arith in
-      let wide = chosen-at book sound j l .width in
-      let same = shift-length (book .phones) (x .matrix) (omega (arith, k .width)) ∙ k .width ∙ sym wide in
+      let shifted = shift-wide (k .formed .wide) in
+      let own = chosen-at book sound j l .formed .wide in
       record {
         listed = l;
-        width = step-wide (book .phones) (columnsOf book) some (x .matrix) c (k .width) wide;
-        below = step-below (book .phones) (columnsOf book) some (x .matrix) c (k .below);
-        is-valid = v;
-        inside = λ Z h. meet-admits _ c Z same .0 h .1;
+        formed = record { wide = meet-wide shifted own; holds = v };
+        inside = λ Z h. meet-fits shifted own Z .0 h .1;
       }
 
   pub constructed-follower : (x y : Metastate) → Constructed book x → FollowerOf book (combinations book) x y
       → Constructed book y
   constructed-follower x y k f =
       subst (Constructed book) (sym (follower-step book x y f))
-      (constructed-step x (y .number) k (f .listed) (f .is-valid))
+      (constructed-step x (y .number) k (f .listed) (f .holds))
 
   constructed-last : (x : Metastate) (js : List ℕ) → Constructed book x → Listed book js
-      → Steps (book .phones) (x .matrix) (matricesOf book js) → Constructed book (lastAlong book x js)
+      → Steps book (x .carried) (carriersOf book js) → Constructed book (lastAlong book x js)
   unfolding lastAlong
   constructed-last x [] k l s = k
   constructed-last x (j ∷ js) k l s =
@@ -129,17 +121,16 @@ module _ (book : Book) (sound : Sound book) where
   -- the chain theorem for the steps of a passage
   chained : (x : Metastate) (js W : List ℕ) → Constructed book x → Listed book js
       → AllPhones book W → columnsOf book ≤ length W
-      → (Steps (book .phones) (x .matrix) (matricesOf book js)
-      × T (admits (carried (book .phones) (x .matrix) (matricesOf book js)) W))
-      ↔ ((e : List ℕ) × Trace (book .phones) (x .matrix) (matricesOf book js) W e)
+      → (Steps book (x .carried) (carriersOf book js)
+      × T (fits (afterSteps book (x .carried) (carriersOf book js)) W))
+      ↔ ((e : List ℕ) × Trace book (x .carried) (carriersOf book js) W e)
   chained x js W k l r long =
-      chain (book .phones) (columnsOf book) (omega arith) (x .matrix) (matricesOf book js) W
-      (k .width) (listed-wide js l) (k .below) (k .is-valid) r long
+      chain book (x .carried) (carriersOf book js) W (k .formed) (listed-wide js l) r long
 
   -- the phones before the end are those that trace the steps back
   traced-sentence : (x : Metastate) (js U e : List ℕ) → AllPhones book U
       → length U ≡ book .half + 1
-      → Trace (book .phones) (x .matrix) (matricesOf book js) (U ++ replicate (book .half) 1) e
+      → Trace book (x .carried) (carriersOf book js) (U ++ replicate (book .half) 1) e
       → Sentence book x js (e ++ (U ++ replicate (book .half) 1))
   traced-sentence x js U e inside size t =
       let n : ℕ = book .half in
@@ -161,35 +152,34 @@ module _ (book : Book) (sound : Sound book) where
       let last : Metastate = lastAlong book x js in
       let kept = constructed-last x js k (r .listed) (r .steps) in
       let ends = may-end book (combinations book) last .0 (r .ends) .1 in
-      go
-      (ends-admits (book .half) (last .matrix) (kept .width) (book .phones) (kept .below) (kept .is-valid) ends)
+      go (ends-fits (kept .formed) ends)
     where
       go : (U : List ℕ) × (length U ≡ book .half + 1) × AllPhones book U
-          × T (admits (lastAlong book x js .matrix) (U ++ replicate (book .half) 1))
+          × T (fits (lastAlong book x js .carried) (U ++ replicate (book .half) 1))
           → (Z : List ℕ) × Sentence book x js Z
       go (U, size, inside, admitted) =
           let W : List ℕ = U ++ replicate (book .half) 1 in
           let enough : columnsOf book ≤ length W = omega (arith, end-length U size) in
           let (e, t) = chained x js W k (r .listed) (end-phones U inside) enough .0
-          (r .steps, rw (last-matrix book x js) at admitted) in
+          (r .steps, rw (last-carried book x js) at admitted) in
           (e ++ W, traced-sentence x js U e inside size t)
 
   -- a sentence, cut where the last window begins
   sentence-trace : (x : Metastate) (js Z : List ℕ) → Sentence book x js Z
-      → Trace (book .phones) (x .matrix) (matricesOf book js) (drop (length js) Z) (take (length js) Z)
+      → Trace book (x .carried) (carriersOf book js) (drop (length js) Z) (take (length js) Z)
   sentence-trace x js Z s =
       let whole : Z ≡ take (length js) Z ++ drop (length js) Z = sym (take-append-drop (length js) Z) in
       record {
         as-many = length-take-le (length js) Z (omega (arith, s .long)) ∙ sym (length-map js _);
         phones-in = every-split (isPhone (book .phones)) (length js) Z (s .phones-in) .0;
-        first = subst (λ (z : List ℕ). T (admits (x .matrix) z)) whole (s .first);
-        others = subst (λ (z : List ℕ). AdmitEach (matricesOf book js) (drop 1 z)) whole (s .others);
+        first = subst (λ (z : List ℕ). T (fits (x .carried) z)) whole (s .first);
+        others = subst (λ (z : List ℕ). AdmitEach (carriersOf book js) (drop 1 z)) whole (s .others);
       }
 
   -- the last window ends in silence
   last-ends : (x : Metastate) (js Z : List ℕ) → Constructed book (lastAlong book x js) → Sentence book x js Z
-      → T (admits (lastAlong book x js .matrix) (drop (length js) Z))
-      → T (endsHere (book .half) (lastAlong book x js .matrix))
+      → T (fits (lastAlong book x js .carried) (drop (length js) Z))
+      → T (endTest book (lastAlong book x js .carried))
   last-ends x js Z k s h =
       let n : ℕ = book .half in
       let W : List ℕ = drop (length js) Z in
@@ -198,8 +188,8 @@ module _ (book : Book) (sound : Sound book) where
       let silent : drop (n + 1) W ≡ replicate n 1 = drop-drop (n + 1) (length js) Z ∙ s .silence in
       let whole : W ≡ take (n + 1) W ++ replicate n 1 =
       sym (take-append-drop (n + 1) W) ∙ ap (λ (z : List ℕ). take (n + 1) W ++ z) silent in
-      admits-ends n (lastAlong book x js .matrix) (k .width) (take (n + 1) W) size
-      (subst (λ (z : List ℕ). T (admits (lastAlong book x js .matrix) z)) whole h)
+      fits-ends (k .formed .wide) (take (n + 1) W) size
+      (subst (λ (z : List ℕ). T (fits (lastAlong book x js .carried) z)) whole h)
 
   pub sentence-passage : (x : Metastate) (js Z : List ℕ) → Constructed book x → Listed book js
       → Sentence book x js Z → phonesOf book (x .number ∷ js) ! length js ≡ 1 → Passage book x js
@@ -209,7 +199,7 @@ module _ (book : Book) (sound : Sound book) where
       let enough : columnsOf book ≤ length W = rw length-drop (omega (arith, s .long)) in
       let (steps, admitted) = chained x js W k l inside enough .1
       (take (length js) Z, sentence-trace x js Z s) in
-      let ends = last-ends x js Z (constructed-last x js k l steps) s (rw (last-matrix book x js) admitted) in
+      let ends = last-ends x js Z (constructed-last x js k l steps) s (rw (last-carried book x js) admitted) in
       let silence : phoneOf (combinations book) (lastAlong book x js) ≡ 1 = last-phone book x js ∙ e in
       record {
         listed = l;

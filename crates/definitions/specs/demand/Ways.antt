@@ -1,11 +1,11 @@
 -- The ways through a book's metastates, as lists of combination numbers: numbers make a way exactly when each
 -- combination admits its own window of the sequence of their phones with silence around it, and that sequence
--- begins and ends with silence. The start's cut (law 5 of Windows) makes the left end silent, the end test the
+-- begins and ends with silence. The start's cut (law 5 of Carrier) makes the left end silent, the end test the
 -- right end. demand/Meaning.antt finds the one way of each sequence by it.
 use mathlib.Core.Path.{_≡_, refl, sym, ap, ap₂, _∙_, subst}
 use mathlib.Core.Logic.{_↔_, Iff·trans, Iff·and}
 use mathlib.Core.List.{List, [], _∷_, _++_, append-assoc}
-use Prim.Native.Nat.{ℕ, suc, _+_, _-_, _≤_, _<_}
+use Prim.Native.Nat.{ℕ, suc, _+_, _-_, _<_}
 use native.Mathlib.Omega.{arith}
 use lib.Dec.{T, eqb}
 use lib.ListN.{length, take, drop, replicate, length-map, take-append-drop}
@@ -14,26 +14,26 @@ use Rattle.definitions.specs.Lists.{_!_, every}
 use Rattle.definitions.specs.Faults.{answered}
 use Rattle.definitions.specs.BookLines.{isPhone}
 use Rattle.definitions.specs.Tables.{Book}
-use Rattle.definitions.specs.Matrices.{startCut}
 use Rattle.definitions.specs.Combinations.{combinations}
 use Rattle.definitions.specs.Metastates.{Metastate}
-use Rattle.definitions.specs.Connecting.{Room, Built, connect}
+use Rattle.definitions.specs.Growing.{Room}
+use Rattle.definitions.specs.Connecting.{Built, connect}
 use Rattle.definitions.specs.Building.{networkIn}
-use Rattle.definitions.specs.TreesGive.{withSilence, silentEnds}
+use Rattle.definitions.specs.TreesGive.{around, silences, withSilence, silentEnds}
 use Rattle.definitions.specs.laws.Tests.{T-and, T-eqb}
 use Rattle.definitions.specs.laws.Lists.{every-cons}
 use Rattle.definitions.specs.laws.Members.{isIn}
 use Rattle.definitions.specs.laws.Sound.{AllPhones, Sound}
-use Rattle.definitions.specs.laws.Matrices.{start-length, start-below}
 use Rattle.definitions.specs.laws.Metastates.{metastates-equal, StartOf, start-is, follower-is, may-end}
-use Rattle.definitions.specs.laws.Contexts.{around-length, around-left, around-right, around-phones}
-use Rattle.definitions.specs.construction.Turning.{table-holds}
+use Rattle.definitions.specs.laws.Contexts.{around-left, around-right, silences-length, silent-length}
+use Rattle.definitions.specs.laws.Contexts.{silent-phones}
+use Rattle.definitions.specs.construction.Finished.{table-holds}
 use Rattle.definitions.specs.graph.Graph.{Way}
-use Rattle.definitions.specs.demand.Windows.{admits, start-admits, admits-valid}
+use Rattle.definitions.specs.demand.Carrier.{cutOf, fits, cut-wide, cut-fits, fits-holds}
 use Rattle.definitions.specs.demand.Chains.{AdmitEach}
 use Rattle.definitions.specs.demand.Chosen.{combinationAt, chosen-at}
-use Rattle.definitions.specs.demand.Network.{graphOf}
-use Rattle.definitions.specs.demand.Passages.{numbersAlong, Listed, matricesOf, phonesOf, stepOf}
+use Rattle.definitions.specs.demand.Network.{bookRules, graphOf}
+use Rattle.definitions.specs.demand.Passages.{numbersAlong, Listed, carriersOf, phonesOf, stepOf}
 use Rattle.definitions.specs.demand.Passages.{along, lastAlong, Passage, onward-passage}
 use Rattle.definitions.specs.demand.Passages.{passage-onward}
 use Rattle.definitions.specs.demand.Sentences.{Constructed, Sentence, sentence-all, constructed-follower}
@@ -42,7 +42,7 @@ use Rattle.definitions.specs.demand.Sentences.{passage-sentence, sentenc
 module _ (book : Book) where
   -- the metastate where a sentence starts with a combination, and the metastates of a sequence of numbers
   abbrev startOf : (j : ℕ) → Metastate
-  startOf j = record { number = j; matrix = startCut (book .half) (combinationAt book j .matrix) }
+  startOf j = record { number = j; carried = cutOf book (combinationAt book j .carried) }
 
   unfoldable pub wayOf : List ℕ → List Metastate
   wayOf [] = []
@@ -61,38 +61,34 @@ module _ (book : Book) where
   -- each combination admits its window, and the phones begin and end with silence
   pub record Admitted (js : List ℕ) : Type 0 where
     pub listed : Listed book js
-    pub windows : AdmitEach (matricesOf book js) (withSilence (book .half) (phonesOf book js))
+    pub windows : AdmitEach (carriersOf book js) (withSilence (book .half) (phonesOf book js))
     pub silent : T (silentEnds (phonesOf book js))
 
 module _ (book : Book) (sound : Sound book) where
   -- ---- a start metastate: its combination's windows that begin with silence
 
   start-windows : (x : Metastate) → StartOf book (combinations book) x → (Z : List ℕ)
-      → T (admits (x .matrix) Z)
-      ↔ (T (admits (combinationAt book (x .number) .matrix) Z)
+      → T (fits (x .carried) Z)
+      ↔ (T (fits (combinationAt book (x .number) .carried) Z)
       × (take (book .half) Z ≡ replicate (book .half) 1))
   start-windows x s Z =
-      let room : book .half ≤ length (combinationAt book (x .number) .matrix) =
-      omega (arith, chosen-at book sound (x .number) (s .listed) .width) in
-      rw (s .cut) (start-admits (book .half) (combinationAt book (x .number) .matrix) Z room)
+      rw (s .cut) (cut-fits (chosen-at book sound (x .number) (s .listed) .formed .wide) Z)
 
   constructed-start : (x : Metastate) → StartOf book (combinations book) x → Constructed book x
   constructed-start x s =
-      let f = chosen-at book sound (x .number) (s .listed) in
+      let own = chosen-at book sound (x .number) (s .listed) .formed .wide in
       record {
         listed = s .listed;
-        width = ap length (s .cut) ∙ start-length (book .half) _ ∙ f .width;
-        below = rw (s .cut) (start-below (book .phones) (book .half) _ (f .below));
-        is-valid = s .is-valid;
+        formed = record { wide = rw (s .cut) (cut-wide own); holds = s .holds };
         inside = λ Z h. start-windows x s Z .0 h .0;
       }
 
   -- so every metastate of a build's table is one of the construction's
   pub table-constructed : (room : Room) (limit : ℕ) (built : Built)
-      → connect book (combinations book) room limit ≡ answered built
-      → (x : Metastate) → isIn x (networkIn built .metastates) → Constructed book x
+      → connect (bookRules book) room limit ≡ answered built
+      → (x : Metastate) → isIn x (networkIn built .table) → Constructed book x
   table-constructed room limit built e =
-      table-holds book (combinations book) (Constructed book) room limit built
+      table-holds (bookRules book) (Constructed book) room limit built
       (λ x h. constructed-start x (start-is book (combinations book) x .0 h))
       (λ x y k h. constructed-follower book sound x y k (follower-is book (combinations book) x y .0 h)) e
 
@@ -102,7 +98,7 @@ module _ (book : Book) (sound : Sound book) where
   silent-around : (x : Metastate) (js Z : List ℕ) → StartOf book (combinations book) x → Listed book js
       → Sentence book x js Z
       → Z ≡ withSilence (book .half) (phonesOf book (x .number ∷ js))
-  unfolding withSilence
+  unfolding around
   silent-around x js Z start l s =
       let n : ℕ = book .half in
       let count : ℕ = suc (length js) in
@@ -137,7 +133,7 @@ module _ (book : Book) (sound : Sound book) where
       let ends = may-end book (combinations book) (lastAlong book x js) .0 (p .ends) .0 in
       record {
         listed = (s .listed, p .listed);
-        windows = subst (AdmitEach (matricesOf book (x .number ∷ js))) around all;
+        windows = subst (AdmitEach (carriersOf book (x .number ∷ js))) around all;
         silent = ends-silent (x .number) js .1 (s .silence, sym (last-phone book x js) ∙ ends);
       }
 
@@ -156,13 +152,11 @@ module _ (book : Book) (sound : Sound book) where
 
   -- where the combination admits the sequence with silence around it, a sentence may start
   admitted-start : (j : ℕ) (Z : List ℕ) → j < length (combinations book) → combinationAt book j .phone ≡ 1
-      → T (admits (combinationAt book j .matrix) Z) → take (book .half) Z ≡ replicate (book .half) 1
-      → StartOf book (combinations book) (startOf book j) × T (admits (startOf book j .matrix) Z)
+      → T (fits (combinationAt book j .carried) Z) → take (book .half) Z ≡ replicate (book .half) 1
+      → StartOf book (combinations book) (startOf book j) × T (fits (startOf book j .carried) Z)
   admitted-start j Z l phone h left =
-      let room : book .half ≤ length (combinationAt book j .matrix) =
-      omega (arith, chosen-at book sound j l .width) in
-      let cut = start-admits (book .half) (combinationAt book j .matrix) Z room .1 (h, left) in
-      (record { listed = l; silence = phone; cut = refl; is-valid = admits-valid _ Z cut }, cut)
+      let cut = cut-fits (chosen-at book sound j l .formed .wide) Z .1 (h, left) in
+      (record { listed = l; silence = phone; cut = refl; holds = fits-holds _ Z cut }, cut)
 
   -- all phones of listed combinations are phones of the book
   pub listed-phones : (js : List ℕ) → Listed book js → AllPhones book (phonesOf book js)
@@ -173,7 +167,7 @@ module _ (book : Book) (sound : Sound book) where
       (chosen-at book sound j (l .0) .phone-of, listed-phones js (l .1))
 
   admitted-sentence : (j : ℕ) (js : List ℕ) → Admitted book (j ∷ js)
-      → T (admits (startOf book j .matrix) (withSilence (book .half) (phonesOf book (j ∷ js))))
+      → T (fits (startOf book j .carried) (withSilence (book .half) (phonesOf book (j ∷ js))))
       → Sentence book (startOf book j) js (withSilence (book .half) (phonesOf book (j ∷ js)))
   admitted-sentence j js a h =
       let n : ℕ = book .half in
@@ -182,11 +176,11 @@ module _ (book : Book) (sound : Sound book) where
       let place : n + length S ≡ length js + (n + 1) = omega arith in
       record {
         phones-in =
-            around-phones n S (book .phones) (sound .some-phone) (listed-phones (j ∷ js) (a .listed));
-        long = around-length n S ∙ omega arith;
+            silent-phones n S (book .phones) (sound .some-phone) (listed-phones (j ∷ js) (a .listed));
+        long = silent-length n S ∙ omega arith;
         first = h;
         others = a .windows .1;
-        silence = rw place at (around-right n S);
+        silence = rw place at (around-right (silences n) S (silences n) n (silences-length n));
       }
 
   pub admitted-way : (table : List Metastate) (js : List ℕ) → Admitted book js
@@ -194,8 +188,10 @@ module _ (book : Book) (sound : Sound book) where
   unfolding wayOf silentEnds
   admitted-way table [] a = absurd (a .silent)
   admitted-way table (j ∷ js) a =
-      let Z : List ℕ = withSilence (book .half) (phonesOf book (j ∷ js)) in
-      let left = around-left (book .half) (phonesOf book (j ∷ js)) in
+      let n : ℕ = book .half in
+      let S : List ℕ = phonesOf book (j ∷ js) in
+      let Z : List ℕ = withSilence n S in
+      let left = around-left (silences n) S (silences n) n (silences-length n) in
       let (first, last) = ends-silent j js .0 (a .silent) in
       let (start, begins) = admitted-start j Z (a .listed .0) first (a .windows .0) left in
       let k = constructed-start (startOf book j) start in

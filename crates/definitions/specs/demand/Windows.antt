@@ -1,8 +1,8 @@
 -- A matrix read as the set of windows that it admits: lists whose first phones its columns hold. The list
 -- may be longer than the matrix, so the window at a place is the rest of a sequence from there on, and hardly
 -- any index is computed. Meet, shift, validity, the end and the start of a sentence are used through these
--- five laws alone, trees through those of TreeWindows: beside widths and ranges nothing else in the proof
--- looks inside a matrix.
+-- five laws alone, trees through those of TreeWindows: nothing else in the proof looks inside a matrix
+-- (Carrier.antt states both for a book, and all that stands above uses them so).
 use mathlib.Core.Path.{_≡_, refl, sym, ap, ap₂, _∙_, subst}
 use mathlib.Core.Logic.{_↔_, Iff·rfl, Iff·trans, Iff·and}
 use mathlib.Core.List.{List, [], _∷_, _++_}
@@ -20,7 +20,7 @@ use Rattle.definitions.specs.Matrices.{Matrix, valid, meet, shift, start
 use Rattle.definitions.specs.laws.Tests.{T-and, every-at}
 use Rattle.definitions.specs.laws.Lists.{every-cons, every-split, same-is}
 use Rattle.definitions.specs.laws.Ranges.{phone-range}
-use Rattle.definitions.specs.laws.PhoneSets.{has-and, has-alone, has-all, has-below}
+use Rattle.definitions.specs.laws.PhoneSets.{has-none, has-and, has-alone, has-all, has-below}
 use Rattle.definitions.specs.laws.Matrices.{Below, column-member}
 
 -- whether the columns of a matrix hold the first phones of a list, one each
@@ -136,6 +136,20 @@ valid-admits phones (column ∷ m) b v =
           (member-phone phones column p (b 0) first, rest .phones-in);
       admitted = admits-cons column m p (rest .window) .1 (first, rest .admitted);
     }
+
+-- and one through each phone of each column
+pub valid-through : (phones : ℕ) (m : Matrix) → Below phones m → T (valid m)
+    → (c p : ℕ) → T (has p (m ! c)) → (W : List ℕ) × T (admits m W) × (W ! c ≡ p)
+unfolding valid
+valid-through phones [] b v c p h = absurd (subst T (has-none p) h)
+valid-through phones (column ∷ m) b v zero p h =
+    let rest = valid-admits phones m (λ c. b (suc c)) (every-cons _ column m .0 v .1) in
+    (p ∷ rest .window, admits-cons column m p (rest .window) .1 (h, rest .admitted), refl)
+valid-through phones (column ∷ m) b v (suc c) p h =
+    let (some, others) = every-cons _ column m .0 v in
+    let (q, first) = column-member column .0 some in
+    let (W, rest, here) = valid-through phones m (λ c. b (suc c)) others c p h in
+    (q ∷ W, admits-cons column m q W .1 (first, rest), here)
 
 -- ---- 4. The end test of a valid matrix holds exactly when some admitted window has silence in all places
 -- right of the centre.

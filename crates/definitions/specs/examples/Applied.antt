@@ -15,7 +15,8 @@ use Rattle.definitions.specs.declared.Counts.{Counts}
 use Rattle.definitions.specs.Faults.{Outcome, answered, refused}
 use Rattle.definitions.specs.BookLines.{BookLine, H, Q, N, L, R, headerOf}
 use Rattle.definitions.specs.BookReading.{Lent, nodeSize, readBook}
-use Rattle.definitions.specs.Connecting.{Network, Built, finished, noNetwork}
+use Rattle.definitions.specs.Growing.{finished}
+use Rattle.definitions.specs.Connecting.{Network, Built, noNetwork}
 use Rattle.definitions.specs.Building.{networkIn, countsIn}
 use Rattle.definitions.specs.Paths.{Carries}
 use Rattle.definitions.specs.examples.Everything.{everything}

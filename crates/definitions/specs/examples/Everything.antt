@@ -19,7 +19,7 @@ use Rattle.definitions.specs.Tables.{tablesLeft, nodeOf, treeNode, nodeR
 use Rattle.definitions.specs.ForeignTables.{headerKnown, questionKnown, leafKnown, nodesKnown}
 use Rattle.definitions.specs.ForeignTables.{holdsOnly, nodeTableKnown, classTableKnown}
 use Rattle.definitions.specs.ForeignTables.{rootTableKnown, namedOnce, tablesKnown}
-use Rattle.definitions.specs.Lookup.{modelAt, answers, walk, leafReached, lookupKnown, isContext}
+use Rattle.definitions.specs.Lookup.{modelAt, answers, walk, reached, lookupKnown, isContext}
 use Rattle.definitions.specs.Lookup.{leafLookup, leafLookupInTable}
 use Rattle.definitions.specs.PhoneSets.{has, alone, allPhones, without, setOf}
 use Rattle.definitions.specs.Matrices.{matrixWords, rootMatrix, yesSide, noSide, valid, meet, shift}
@@ -32,21 +32,22 @@ use Rattle.definitions.specs.Combinations.{combinationRoom, combine, com
 use Rattle.definitions.specs.Arcs.{firstState, lastState, arcWords, arcOf, arcsIn}
 use Rattle.definitions.specs.Metastates.{sameMetastate, metastateWords, startsFrom, followersFrom}
 use Rattle.definitions.specs.Metastates.{combinationOf, phoneOf, starts, followers, modelsOf, mayEnd}
+use Rattle.definitions.specs.Growing.{placeFrom, addArc, addElement, addBoth, grownIn, perform}
+use Rattle.definitions.specs.Growing.{performAll, expand, turnsFrom, grow}
 use Rattle.definitions.specs.Connecting.{ownArcs, finalArcs, startEvents, turnEvents, arcInto}
-use Rattle.definitions.specs.Connecting.{placeFrom, addArc, addMetastate, addBoth, perform}
-use Rattle.definitions.specs.Connecting.{performAll, expand, turnsFrom, connect}
-use Rattle.definitions.specs.Building.{roomIn, build, networkIn, countsIn, buffersOf, noBuffers}
+use Rattle.definitions.specs.Building.{roomIn, build, countsIn, buffersOf, noBuffers}
 use Rattle.definitions.specs.Building.{buffersLeft}
 use Rattle.definitions.specs.Paths.{leads, accepting, withoutZeros, modelsCarried, phonesCarried}
+use Rattle.definitions.specs.Paths.{finalLast}
 use Rattle.definitions.specs.Leaving.{partOf, leaving, partHanded, partWords}
 use Rattle.definitions.specs.NetworkText.{networkLine, countsInLine, countsOf, arcInLine, arcsOf}
 use Rattle.definitions.specs.NetworkText.{isState, networkFollows, withinCounts, networkInOrder}
 use Rattle.definitions.specs.NetworkText.{networkTests, networkComplete, networkKind, readNetwork}
 use Rattle.definitions.specs.NetworkText.{arcsLeft, arcKnown, neverDescending, networkKnown}
 use Rattle.definitions.specs.NetworkText.{lineOfCounts, lineOfArc, networkText, writeNetwork}
-use Rattle.definitions.specs.TreesGive.{windows, withSilence, contexts, rootLine, nodeLine}
-use Rattle.definitions.specs.TreesGive.{putInClass, answersByLines, modelBelow, modelGiven, together}
-use Rattle.definitions.specs.TreesGive.{modelsAlong, treesGive, silentEnds}
+use Rattle.definitions.specs.TreesGive.{windows, around, contextsWithin, rootLine, nodeLine}
+use Rattle.definitions.specs.TreesGive.{putInClass, answersByLines, walkByLines, reachedByLines}
+use Rattle.definitions.specs.TreesGive.{modelGiven, together, modelsAlong, treesGive, silentEnds}
 use Rattle.definitions.specs.Transcription.{modelOf, transcription, isUtterance, transcribe}
 use Rattle.definitions.specs.BookBuilding.{buildRead, buildBook, tablesAfter, buffersAfter}
 use Rattle.definitions.specs.Program.{textOfBuilt, networkOf, refusalText, printed}
@@ -62,18 +63,18 @@ unfolding every atLeastOne firstWhere mapOption select lastPasses concatMap upFr
     orphans isLineOf lineWhere judgeNames bookKind readBook phonesOfClass classSets bookOf bookIn contentsOf
     nodeWords tablesOf noTables tablesLeft nodeOf treeNode nodeRecords tablesBook tablesContents headerKnown
     questionKnown leafKnown nodesKnown holdsOnly nodeTableKnown classTableKnown rootTableKnown namedOnce
-    tablesKnown modelAt answers walk leafReached lookupKnown isContext leafLookup leafLookupInTable has
+    tablesKnown modelAt answers walk reached lookupKnown isContext leafLookup leafLookupInTable has
     alone allPhones without setOf matrixWords rootMatrix yesSide noSide valid meet shift startCut endsHere
     leavesBelow isBefore insertLeaf ascending rootOf leavesOf choose combinationsOf combinations
     combinationWords combinationRoom combine combinationSpace firstState lastState arcWords arcOf arcsIn
     sameMetastate metastateWords startsFrom followersFrom combinationOf phoneOf starts followers modelsOf
-    mayEnd ownArcs finalArcs startEvents turnEvents arcInto placeFrom addArc addMetastate addBoth perform
-    performAll expand turnsFrom connect roomIn build networkIn countsIn buffersOf noBuffers buffersLeft
-    leads accepting withoutZeros modelsCarried phonesCarried partOf leaving partHanded partWords networkLine
-    countsInLine countsOf arcInLine arcsOf isState networkFollows withinCounts networkInOrder networkTests
-    networkComplete networkKind readNetwork arcsLeft arcKnown neverDescending networkKnown lineOfCounts
-    lineOfArc networkText writeNetwork windows withSilence contexts rootLine nodeLine putInClass
-    answersByLines modelBelow modelGiven together modelsAlong treesGive silentEnds modelOf transcription
+    mayEnd ownArcs finalArcs startEvents turnEvents arcInto placeFrom addArc addBoth perform performAll
+    expand turnsFrom roomIn build countsIn buffersOf noBuffers buffersLeft leads accepting withoutZeros
+    modelsCarried phonesCarried partOf leaving partHanded partWords networkLine countsInLine countsOf
+    arcInLine arcsOf isState networkFollows withinCounts networkInOrder networkTests networkComplete
+    networkKind readNetwork arcsLeft arcKnown neverDescending networkKnown lineOfCounts lineOfArc
+    networkText writeNetwork windows around contextsWithin rootLine nodeLine putInClass answersByLines
+    walkByLines reachedByLines modelGiven together modelsAlong treesGive silentEnds modelOf transcription
     isUtterance transcribe buildRead buildBook tablesAfter buffersAfter textOfBuilt networkOf refusalText
-    printed program
+    printed program addElement grow grownIn finalLast
 everything = tt

@@ -14,7 +14,8 @@ use Rattle.definitions.specs.Tables.{Tables, tablesLeft}
 use Rattle.definitions.specs.Combinations.{combinationSize}
 use Rattle.definitions.specs.Arcs.{arcSize}
 use Rattle.definitions.specs.Metastates.{metastateSize}
-use Rattle.definitions.specs.Connecting.{Built, finished, stopped}
+use Rattle.definitions.specs.Growing.{finished, stopped}
+use Rattle.definitions.specs.Connecting.{Built}
 use Rattle.definitions.specs.Building.{Space}
 
 -- Texts. A line is written as in the document, "with blank fields to the line's end".
@@ -96,8 +97,8 @@ given (answered numbers) = gives numbers
 given (refused r) = refuses (numberOf (r .fault)) (r .line)
 
 unfoldable pub built : Outcome Built → Result
-built (answered (finished turns net)) = finishes turns (length (net .metastates)) (length (net .arcs))
-built (answered (stopped turns net)) = stops turns (length (net .metastates)) (length (net .arcs))
+built (answered (finished turns net)) = finishes turns (length (net .table)) (length (net .arcs))
+built (answered (stopped turns net)) = stops turns (length (net .table)) (length (net .arcs))
 built (refused r) = refuses (numberOf (r .fault)) (r .line)
 
 -- A table of cases: what is asked, and what the document says to it. It holds row by row.

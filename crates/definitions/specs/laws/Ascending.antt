@@ -5,7 +5,7 @@ use mathlib.Core.Path.{_≡_, refl, sym, ap, ap₂, _∙_, subst}
 use mathlib.Core.Logic.{_≢_, inl, inr}
 use mathlib.Core.List.{List, [], _∷_, _++_, map, map-append, append-assoc, append-nil}
 use mathlib.Core.Bool.{Bool, true, false, not}
-use Prim.Native.Nat.{ℕ, zero, suc, _-_, _≤_, _<_}
+use Prim.Native.Nat.{ℕ, zero, suc, _≤_, _<_}
 use native.Mathlib.Omega.{arith}
 use lib.Dec.{T, ltb→lt, nltb→le}
 use lib.ListN.{length, getD}
@@ -14,7 +14,6 @@ use Rattle.definitions.specs.Faults.{answered}
 use Rattle.definitions.specs.BookLines.{BookLine, nodesOf, rootNames, rootsOf}
 use Rattle.definitions.specs.BookReading.{Lent, readBook}
 use Rattle.definitions.specs.Tables.{Book, bookOf}
-use Rattle.definitions.specs.Matrices.{Matrix, rootMatrix, valid, meet}
 use Rattle.definitions.specs.Tables.{rootOf, bookIn, contentsOf}
 use Rattle.definitions.specs.Combinations.{Leaf, leavesBelow, isBefore, insertLeaf, ascending}
 use Rattle.definitions.specs.Combinations.{leavesOf, Combination, choose, combinationsOf}
@@ -29,25 +28,26 @@ use Rattle.definitions.specs.laws.Walks.{Forward, by-node}
 use Rattle.definitions.specs.laws.Accepted.{accepted-sound}
 use Rattle.definitions.specs.laws.Leaves.{of-insert, of-ascending}
 use Rattle.definitions.specs.laws.NamedOnce.{ChildOnce, child-once, leavesUnder, leaves-once}
+use Rattle.definitions.specs.demand.Carrier.{Carrier, holdsSome, meetOf, topOf}
 
 -- ---- the leaves of a tree
 
 abbrev pub leafNodes : List Leaf → List ℕ
 leafNodes leaves = map (λ l. l .node) leaves
 
-pub nodes-below : (levels : ℕ) (book : Book) (m : Matrix) (node : ℕ)
+pub nodes-below : (levels : ℕ) (book : Book) (m : Carrier) (node : ℕ)
     → leafNodes (leavesBelow levels book m node) ≡ leavesUnder levels (book .nodes) node
 unfolding leavesBelow concatMap
 nodes-below zero book m node = refl
 nodes-below (suc levels) book m node =
     by-node (book .nodes) node (λ model e. rw (e, leavesBelow))
     (λ asked yesNode noNode e.
-    let yesMatrix : Matrix = onYes (book .classes) asked m in
-    let noMatrix : Matrix = onNo (book .classes) asked m in
+    let a : Carrier = onYes (book .classes) asked m in
+    let b : Carrier = onNo (book .classes) asked m in
     rw (e, leavesBelow)
-    (map-append _ (leavesBelow levels book yesMatrix yesNode) (leavesBelow levels book noMatrix noNode)
-    ∙ ap₂ _++_ (nodes-below levels book yesMatrix yesNode)
-    (nodes-below levels book noMatrix noNode ∙ sym (append-nil (leavesUnder levels (book .nodes) noNode)))))
+    (map-append _ (leavesBelow levels book a yesNode) (leavesBelow levels book b noNode)
+    ∙ ap₂ _++_ (nodes-below levels book a yesNode)
+    (nodes-below levels book b noNode ∙ sym (append-nil (leavesUnder levels (book .nodes) noNode)))))
 
 -- strictly ascending by node number
 abbrev pub leafBefore : Leaf → Leaf → Type 0
@@ -92,7 +92,7 @@ leaves-ascend : (book : Book) → Forward (book .nodes) → ChildOnce (book .nod
     → Rising leafBefore (leavesOf book phone state)
 unfolding leavesOf
 leaves-ascend book forward once phone state =
-    let top : Matrix = rootMatrix (book .half) (book .phones) phone in
+    let top : Carrier = topOf book phone in
     let levels : ℕ = length (book .nodes) in
     let root : ℕ = rootOf book phone state in
     ascending-rising (leavesBelow levels book top root)
@@ -108,46 +108,46 @@ abbrev combinationBefore : Combination → Combination → Type 0
 combinationBefore a b = T (precedes (key a) (key b))
 
 -- the key of a combination begins with the phone and the leaves taken so far
-choose-key : (phone : ℕ) (leaves : List ℕ) (m : Matrix) (trees : List (List Leaf)) (c : Combination)
+choose-key : (phone : ℕ) (leaves : List ℕ) (m : Carrier) (trees : List (List Leaf)) (c : Combination)
     → isIn c (choose phone leaves m trees) → (rest : List ℕ) × (key c ≡ (phone ∷ leaves) ++ rest)
 unfolding choose
 choose-key phone leaves m [] c h =
-    ([], ap key (of-one _ (valid m) c h .1) ∙ sym (append-nil (phone ∷ leaves)))
+    ([], ap key (of-one _ (holdsSome m) c h .1) ∙ sym (append-nil (phone ∷ leaves)))
 choose-key phone leaves m (tree ∷ trees) c h =
     let (l, i, j) = of-concatMap _ c tree h in
-    let (rest, e) = choose-key phone (leaves ++ (l .node ∷ [])) (meet m (l .matrix)) trees c j in
+    let (rest, e) = choose-key phone (leaves ++ (l .node ∷ [])) (meetOf m (l .carried)) trees c j in
     (l .node ∷ rest, e ∙ append-assoc (phone ∷ leaves) (l .node ∷ []) rest)
 
-choose-key-more : (phone : ℕ) (leaves : List ℕ) (x : ℕ) (m : Matrix) (trees : List (List Leaf))
+choose-key-more : (phone : ℕ) (leaves : List ℕ) (x : ℕ) (m : Carrier) (trees : List (List Leaf))
     → (c : Combination) → isIn c (choose phone (leaves ++ (x ∷ [])) m trees)
     → (rest : List ℕ) × (key c ≡ (phone ∷ leaves) ++ (x ∷ rest))
 choose-key-more phone leaves x m trees c h =
     let (rest, e) = choose-key phone (leaves ++ (x ∷ [])) m trees c h in
     (rest, e ∙ append-assoc (phone ∷ leaves) (x ∷ []) rest)
 
-choose-rising : (phone : ℕ) (leaves : List ℕ) (m : Matrix) (trees : List (List Leaf))
+choose-rising : (phone : ℕ) (leaves : List ℕ) (m : Carrier) (trees : List (List Leaf))
     → ((tree : List Leaf) → isIn tree trees → Rising leafBefore tree)
     → Rising combinationBefore (choose phone leaves m trees)
 unfolding choose
-choose-rising phone leaves m [] up = go (valid m)
+choose-rising phone leaves m [] up = go (holdsSome m)
   where
     go : (b : Bool) → Rising combinationBefore
-        (if b then record { phone = phone; leaves = leaves; matrix = m } ∷ [] else [])
+        (if b then record { phone = phone; leaves = leaves; carried = m } ∷ [] else [])
     go true = (λ y h. absurd h, tt)
     go false = tt
 choose-rising phone leaves m (tree ∷ trees) up =
     rising-concatMap leafBefore combinationBefore taking tree (up tree (inl refl))
-    (λ l i. choose-rising phone (leaves ++ (l .node ∷ [])) (meet m (l .matrix)) trees (λ t j. up t (inr j)))
+    (λ l i. choose-rising phone (leaves ++ (l .node ∷ [])) (meetOf m (l .carried)) trees (λ t j. up t (inr j)))
     across
   where
     taking : Leaf → List Combination
-    taking l = choose phone (leaves ++ (l .node ∷ [])) (meet m (l .matrix)) trees
+    taking l = choose phone (leaves ++ (l .node ∷ [])) (meetOf m (l .carried)) trees
 
     across : (x y : Leaf) (a b : Combination) → leafBefore x y → isIn a (taking x) → isIn b (taking y)
         → combinationBefore a b
     across x y a b h i j =
-        let (k, e) = choose-key-more phone leaves (x .node) (meet m (x .matrix)) trees a i in
-        let (l, q) = choose-key-more phone leaves (y .node) (meet m (y .matrix)) trees b j in
+        let (k, e) = choose-key-more phone leaves (x .node) (meetOf m (x .carried)) trees a i in
+        let (l, q) = choose-key-more phone leaves (y .node) (meetOf m (y .carried)) trees b j in
         rw (e, q)
         (precedes-after (phone ∷ leaves) (x .node ∷ k) (y .node ∷ l)
         (precedes-first (x .node) (y .node) k l h))
@@ -157,7 +157,7 @@ phone-rising : (book : Book) → Forward (book .nodes) → ChildOnce (book .node
     → Rising combinationBefore (combinationsOf book phone)
 unfolding combinationsOf
 phone-rising book forward once phone =
-    choose-rising phone [] (rootMatrix (book .half) (book .phones) phone) trees up
+    choose-rising phone [] (topOf book phone) trees up
   where
     trees : List (List Leaf)
     trees = map (λ state. leavesOf book phone state) (upFrom 1 (book .states))

@@ -1,76 +1,28 @@
--- Laws about the leaves of a tree: the matrix of each lies inside the matrix that its root carries, so the
--- root's matrix is where the meeting of a combination's leaves may start; and in ascending order they are the
--- same leaves. The choice of a combination for a window and the order of combinations use them.
+-- Laws about the leaves of a tree: what both sides of each question keep holds of every leaf, and in ascending
+-- order they are the same leaves. The choice of a combination for a window and the order of combinations use
+-- them.
 use mathlib.Core.Path.{_≡_, refl, sym, ap, _∙_, subst}
-use mathlib.Core.Logic.{_≢_, inl, inr, ⊎-elim}
+use mathlib.Core.Logic.{inl, inr, ⊎-elim}
 use mathlib.Core.List.{List, [], _∷_, _++_}
-use mathlib.Core.Bool.{Bool, true, false, not, _&&_}
-use Prim.Native.Nat.{ℕ, zero, suc, _-_, _≤_}
+use mathlib.Core.Bool.{Bool, true, false}
+use Prim.Native.Nat.{ℕ, zero, suc, _≤_}
 use native.Mathlib.Omega.{arith}
-use native.Mathlib.Decide.{ℕ-discrete}
-use lib.Dec.{T}
 use lib.ListN.{length}
-use Rattle.definitions.specs.Lists.{if_then_else_, _!_, select}
+use Rattle.definitions.specs.Lists.{if_then_else_, select}
 use Rattle.definitions.specs.BookLines.{question, leaf, Asked}
 use Rattle.definitions.specs.Tables.{Book}
 use Rattle.definitions.specs.Lookup.{nodeAt}
-use Rattle.definitions.specs.PhoneSets.{has}
-use Rattle.definitions.specs.Matrices.{Matrix, rootMatrix, yesSide, noSide, meet}
 use Rattle.definitions.specs.Combinations.{Leaf, leavesBelow, isBefore, insertLeaf, ascending}
-use Rattle.definitions.specs.Tables.{rootOf}
-use Rattle.definitions.specs.Combinations.{leavesOf, onYes, onNo}
-use Rattle.definitions.specs.laws.Tests.{T-and}
+use Rattle.definitions.specs.Combinations.{onYes, onNo}
 use Rattle.definitions.specs.laws.Members.{isIn, of-append, of-single}
 use Rattle.definitions.specs.laws.Walks.{IsLeaf, by-node}
-use Rattle.definitions.specs.laws.Matrices.{meet-has, meet-length, yes-has, yes-other, yes-length}
-use Rattle.definitions.specs.laws.Matrices.{no-has, no-other, no-length, columns-same}
-
--- ---- a matrix inside another: of its width, with no phone in a column that the other lacks there
-pub record Inside (a m : Matrix) : Type 0 where
-  pub width : length a ≡ length m
-  pub held : (c p : ℕ) → T (has p (a ! c)) → T (has p (m ! c))
-
-inside-self : (m : Matrix) → Inside m m
-inside-self m = record { width = refl; held = λ c p h. h }
-
-inside-trans : (a b m : Matrix) → Inside a b → Inside b m → Inside a m
-inside-trans a b m i j = record { width = i .width ∙ j .width; held = λ c p h. j .held c p (i .held c p h) }
-
--- where one column is cut and the others stay
-side-inside : (a m : Matrix) (position : ℕ) → length a ≡ length m
-    → ((c : ℕ) → c ≢ position → a ! c ≡ m ! c)
-    → ((p : ℕ) → T (has p (a ! position)) → T (has p (m ! position))) → Inside a m
-side-inside a m position w others cut =
-    record { width = w; held = λ c p h. at c p h (ℕ-discrete c position) }
-  where
-    at : (c p : ℕ) → T (has p (a ! c)) → Dec (c ≡ position) → T (has p (m ! c))
-    at c p h (yes e) = rw e (cut p (rw e at h))
-    at c p h (no e) = subst (λ (s : ℕ). T (has p s)) (others c e) h
-
-yes-inside : (position s : ℕ) (m : Matrix) → Inside (yesSide position s m) m
-yes-inside i s m = side-inside (yesSide i s m) m i (yes-length i s m) (yes-other i s m)
-    (λ p h. T-and (has p (m ! i)) (has p s) .0 (rw yes-has at h) .0)
-
-no-inside : (position s : ℕ) (m : Matrix) → Inside (noSide position s m) m
-no-inside i s m = side-inside (noSide i s m) m i (no-length i s m) (no-other i s m)
-    (λ p h. T-and (has p (m ! i)) (not (has p s)) .0 (rw no-has at h) .0)
-
--- meeting it with the other changes nothing, so a meeting may start from the other
-both-second : (x y : Bool) → (T y → T x) → (x && y) ≡ y
-both-second true y h = refl
-both-second false true h = absurd (h tt)
-both-second false false h = refl
-
-pub inside-meet : (a m : Matrix) → Inside a m → meet m a ≡ a
-inside-meet a m i =
-    columns-same (meet m a) a (meet-length m a (sym (i .width)) ∙ sym (i .width))
-    (λ c k p. meet-has p m a c ∙ both-second (has p (m ! c)) (has p (a ! c)) (i .held c p))
+use Rattle.definitions.specs.demand.Carrier.{Carrier}
 
 -- ---- a step down a tree: a leaf stays, a question has two sides
 
-module _ (book : Book) (levels : ℕ) (m : Matrix) (node : ℕ) where
+module _ (book : Book) (levels : ℕ) (m : Carrier) (node : ℕ) where
   pub below-leaf : (model : ℕ) → nodeAt (book .nodes) node ≡ leaf model
-      → leavesBelow (suc levels) book m node ≡ record { node = node; matrix = m } ∷ []
+      → leavesBelow (suc levels) book m node ≡ record { node = node; carried = m } ∷ []
   unfolding leavesBelow
   below-leaf model e = rw (e, leavesBelow)
 
@@ -84,47 +36,31 @@ module _ (book : Book) (levels : ℕ) (m : Matrix) (node : ℕ) where
 
 -- ---- the leaves below a node
 
--- the matrix that the roots of a phone carry
-abbrev pub phoneMatrix : Book → (phone : ℕ) → Matrix
-phoneMatrix book phone = rootMatrix (book .half) (book .phones) phone
-
 -- what both sides of each question keep holds of every leaf below a node of which it holds
-module _ (book : Book) (P : (m : Matrix) → (node : ℕ) → Type 0)
-    (sides : (m : Matrix) (node : ℕ) (asked : Asked) (yesNode noNode : ℕ)
+module _ (book : Book) (P : (m : Carrier) → (node : ℕ) → Type 0)
+    (sides : (m : Carrier) (node : ℕ) (asked : Asked) (yesNode noNode : ℕ)
     → nodeAt (book .nodes) node ≡ question asked yesNode noNode → P m node
     → P (onYes (book .classes) asked m) yesNode
     × P (onNo (book .classes) asked m) noNode)
   where
-    pub below-all : (levels : ℕ) (m : Matrix) (node : ℕ) → P m node
+    pub below-all : (levels : ℕ) (m : Carrier) (node : ℕ) → P m node
         → (l : Leaf) → isIn l (leavesBelow levels book m node)
-        → P (l .matrix) (l .node) × IsLeaf (book .nodes) (l .node)
+        → P (l .carried) (l .node) × IsLeaf (book .nodes) (l .node)
     unfolding leavesBelow
     below-all zero m node h l i = absurd i
     below-all (suc levels) m node h l i =
         by-node (book .nodes) node
         (λ model e.
-        let same = of-single (record { node = node; matrix = m }) l
+        let same = of-single (record { node = node; carried = m }) l
         (rw (below-leaf book levels m node model e) at i) in
-        subst (λ k. P (k .matrix) (k .node) × IsLeaf (book .nodes) (k .node)) (sym same) (h, (model, e)))
+        subst (λ k. P (k .carried) (k .node) × IsLeaf (book .nodes) (k .node)) (sym same) (h, (model, e)))
         (λ asked yesNode noNode e.
-        let yesMatrix : Matrix = onYes (book .classes) asked m in
-        let noMatrix : Matrix = onNo (book .classes) asked m in
+        let a : Carrier = onYes (book .classes) asked m in
+        let b : Carrier = onNo (book .classes) asked m in
         let (yesHolds, noHolds) = sides m node asked yesNode noNode e h in
-        ⊎-elim (below-all levels yesMatrix yesNode yesHolds l) (below-all levels noMatrix noNode noHolds l)
-        (of-append l (leavesBelow levels book yesMatrix yesNode) (leavesBelow levels book noMatrix noNode)
+        ⊎-elim (below-all levels a yesNode yesHolds l) (below-all levels b noNode noHolds l)
+        (of-append l (leavesBelow levels book a yesNode) (leavesBelow levels book b noNode)
         (rw (below-question book levels m node asked yesNode noNode e) at i)))
-
-below-inside : (levels : ℕ) (book : Book) (m : Matrix) (node : ℕ) (l : Leaf)
-    → isIn l (leavesBelow levels book m node) → Inside (l .matrix) m
-below-inside levels book m node l i =
-    below-all book (λ a n. Inside a m)
-    (λ a n asked yesNode noNode e h.
-    let column : ℕ = asked .position in
-    let set : ℕ = book .classes ! (asked .class - 1) in (
-      inside-trans (yesSide column set a) a m (yes-inside column set a) h,
-      inside-trans (noSide column set a) a m (no-inside column set a) h,
-    ))
-    levels m node (inside-self m) l i .0
 
 -- ---- ascending leaves are the same leaves
 
@@ -144,12 +80,6 @@ unfolding ascending
 of-ascending x [] h = h
 of-ascending x (l ∷ leaves) h =
     ⊎-elim inl (λ i. inr (of-ascending x leaves i)) (of-insert x l (ascending leaves) h)
-
-pub leaf-inside : (book : Book) (phone state : ℕ) (l : Leaf) → isIn l (leavesOf book phone state)
-    → Inside (l .matrix) (phoneMatrix book phone)
-unfolding leavesOf
-leaf-inside book phone state l i =
-    below-inside (length (book .nodes)) book _ (rootOf book phone state) l (of-ascending l _ i)
 
 -- ---- in ascending order: where at most one leaf passes a test, its place among the others does not matter
 

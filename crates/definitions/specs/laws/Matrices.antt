@@ -234,6 +234,13 @@ append-below n (x ∷ a) b h l (suc c) = append-below n a b (λ c. h (suc c)) l 
 pub meet-below : (phones : ℕ) (a b : Matrix) → Below phones a → Below phones (meet a b)
 meet-below n a b h c = rw meet-column (and-below-left n (a ! c) (b ! c) (h c))
 
+pub yes-below : (phones position s : ℕ) (m : Matrix) → Below phones m → Below phones (yesSide position s m)
+yes-below n i s m h = rw yes-set (set-below n m i (bitAnd (m ! i) s) h (and-below-left n (m ! i) s (h i)))
+
+pub no-below : (phones position s : ℕ) (m : Matrix) → Below phones m → Below phones (noSide position s m)
+unfolding without
+no-below n i s m h = rw no-set (set-below n m i (without (m ! i) s) h (let l = h i in omega arith))
+
 pub shift-below : (phones : ℕ) (m : Matrix) → Below phones m → Below phones (shift phones m)
 unfolding shift
 shift-below n m h =

@@ -9,33 +9,37 @@ use Prim.Native.Nat.{ℕ, zero, suc, _+_, _<_}
 use native.Mathlib.Omega.{arith}
 use lib.Dec.{T, eqb, eqb→eq, eqb-refl}
 use lib.ListN.{length, getD}
-use Rattle.definitions.specs.Lists.{if_then_else_, same}
+use Rattle.definitions.specs.Lists.{if_then_else_}
 use Rattle.definitions.specs.Tables.{Book}
-use Rattle.definitions.specs.Matrices.{Matrix, valid, meet, shift, startCut, endsHere}
 use Rattle.definitions.specs.Combinations.{Combination}
 use Rattle.definitions.specs.Metastates.{Metastate, sameMetastate, noCombination, startsFrom}
 use Rattle.definitions.specs.Metastates.{followersFrom, phoneOf, starts, followers, mayEnd}
-use Rattle.definitions.specs.laws.Tests.{T-and, T-eqb}
-use Rattle.definitions.specs.laws.Lists.{same-lists, same-self}
+use Rattle.definitions.specs.laws.Tests.{T-and, T-eqb, Tells}
 use Rattle.definitions.specs.laws.Members.{isIn, distinct, of-kept, in-kept, in-after, distinct-kept}
+use Rattle.definitions.specs.demand.Carrier.{Carrier, holdsSome, sameCarrier, meetOf, shiftOf, cutOf}
+use Rattle.definitions.specs.demand.Carrier.{endTest, carriers-told}
 
 -- ---- sameness
 
--- metastates that agree in number and matrix are equal
-pub metastates-equal : (x y : Metastate) → x .number ≡ y .number → x .matrix ≡ y .matrix → x ≡ y
-metastates-equal x y e f = λ i. record { number = e i; matrix = f i }
+-- metastates that agree in number and in what they carry are equal
+pub metastates-equal : (x y : Metastate) → x .number ≡ y .number → x .carried ≡ y .carried → x ≡ y
+metastates-equal x y e f = λ i. record { number = e i; carried = f i }
 
 pub same-metastate : (x y : Metastate) → T (sameMetastate x y) → x ≡ y
 unfolding sameMetastate
 same-metastate x y h =
-    let (e, f) = T-and (eqb (x .number) (y .number)) (same (x .matrix) (y .matrix)) .0 h in
-    metastates-equal x y (eqb→eq (x .number) (y .number) e) (same-lists (x .matrix) (y .matrix) f)
+    let (e, f) = T-and (eqb (x .number) (y .number)) (sameCarrier (x .carried) (y .carried)) .0 h in
+    metastates-equal x y (eqb→eq (x .number) (y .number) e)
+    (carriers-told .same-equal (x .carried) (y .carried) f)
 
 pub metastate-self : (x : Metastate) → T (sameMetastate x x)
 unfolding sameMetastate
 metastate-self x =
-    T-and (eqb (x .number) (x .number)) (same (x .matrix) (x .matrix)) .1
-    (eqb-refl (x .number), same-self (x .matrix))
+    T-and (eqb (x .number) (x .number)) (sameCarrier (x .carried) (x .carried)) .1
+    (eqb-refl (x .number), carriers-told .self (x .carried))
+
+pub metastates-told : Tells sameMetastate
+metastates-told = record { same-equal = same-metastate; self = metastate-self }
 
 -- a combination by its number
 abbrev pub numbered : List Combination → ℕ → Combination
@@ -43,12 +47,12 @@ numbered combinations j = getD combinations j noCombination
 
 -- ---- the combinations that pass a test, each with its number and what it carries
 
-module _ (test : Combination → Bool) (carry : Combination → Matrix) where
+module _ (test : Combination → Bool) (carry : Combination → Carrier) where
   unfoldable passing : (number : ℕ) → List Combination → List Metastate
   passing number [] = []
   passing number (c ∷ cs) =
       if test c
-      then record { number = number; matrix = carry c } ∷ passing (suc number) cs
+      then record { number = number; carried = carry c } ∷ passing (suc number) cs
       else passing (suc number) cs
 
   -- x is the metastate of the combination at place i of a list whose first has this number
@@ -56,7 +60,7 @@ module _ (test : Combination → Bool) (carry : Combination → Matrix) where
     listed : i < length cs
     passes : T (test (numbered cs i))
     named : x .number ≡ number + i
-    carries : x .matrix ≡ carry (numbered cs i)
+    carries : x .carried ≡ carry (numbered cs i)
 
   passing-next : (number : ℕ) (c : Combination) (cs : List Combination) (x : Metastate) (i : ℕ)
       → Passing (suc number) cs x i ↔ Passing number (c ∷ cs) x (suc i)
@@ -82,7 +86,7 @@ module _ (test : Combination → Bool) (carry : Combination → Matrix) where
   of-passing number (c ∷ cs) x h =
       go (of-kept _ (passing (suc number) cs) (test c) x h) (λ k. of-passing (suc number) cs x k)
     where
-      go : (T (test c) × (x ≡ record { number = number; matrix = carry c })) ⊎ isIn x (passing (suc number) cs)
+      go : (T (test c) × (x ≡ record { number = number; carried = carry c })) ⊎ isIn x (passing (suc number) cs)
           → (isIn x (passing (suc number) cs) → (i : ℕ) × Passing (suc number) cs x i)
           → (i : ℕ) × Passing number (c ∷ cs) x i
       go (inl (t, e)) rest = (
@@ -91,7 +95,7 @@ module _ (test : Combination → Bool) (carry : Combination → Matrix) where
           listed = omega arith;
           passes = t;
           named = ap (λ (y : Metastate). y .number) e ∙ omega arith;
-          carries = ap (λ (y : Metastate). y .matrix) e;
+          carries = ap (λ (y : Metastate). y .carried) e;
         },
       )
       go (inr k) rest = let (i, p) = rest k in (suc i, passing-next number c cs x i .0 p)
@@ -113,7 +117,7 @@ module _ (test : Combination → Bool) (carry : Combination → Matrix) where
   passing-once number (c ∷ cs) =
       distinct-kept _ (passing (suc number) cs) (test c) (passing-once (suc number) cs) later
     where
-      later : isIn (record { number = number; matrix = carry c }) (passing (suc number) cs) → ⊥
+      later : isIn (record { number = number; carried = carry c }) (passing (suc number) cs) → ⊥
       later h = let (i, p) = of-passing (suc number) cs _ h in omega (arith, p .named)
 
   -- from number 0 on, the place is the number
@@ -127,20 +131,20 @@ module _ (test : Combination → Bool) (carry : Combination → Matrix) where
           subst (Passing 0 cs x) {x = i} {y = x .number} (omega (arith, p .named)) p
 
 module _ (book : Book) (combinations : List Combination) where
-  -- ---- starts: silence, with the start's cut, where that is valid
+  -- ---- starts: silence, with the start's cut, where that leaves some window
 
-  startCarry : Combination → Matrix
-  startCarry c = startCut (book .half) (c .matrix)
+  startCarry : Combination → Carrier
+  startCarry c = cutOf book (c .carried)
 
   startTest : Combination → Bool
-  startTest c = eqb (c .phone) 1 && valid (startCarry c)
+  startTest c = eqb (c .phone) 1 && holdsSome (startCarry c)
 
   starts-pass : (number : ℕ) (cs : List Combination)
       → startsFrom (book .half) number cs ≡ passing startTest startCarry number cs
   unfolding startsFrom passing startTest startCarry
   starts-pass number [] = refl
   starts-pass number (c ∷ cs) =
-      ap (λ rest. if startTest c then record { number = number; matrix = startCarry c } ∷ rest else rest)
+      ap (λ rest. if startTest c then record { number = number; carried = startCarry c } ∷ rest else rest)
       (starts-pass (suc number) cs)
 
   pub starts-once : distinct (starts book combinations)
@@ -150,8 +154,8 @@ module _ (book : Book) (combinations : List Combination) where
   pub record StartOf (x : Metastate) : Type 0 where
     pub listed : x .number < length combinations
     pub silence : numbered combinations (x .number) .phone ≡ 1
-    pub cut : x .matrix ≡ startCut (book .half) (numbered combinations (x .number) .matrix)
-    pub is-valid : T (valid (x .matrix))
+    pub cut : x .carried ≡ cutOf book (numbered combinations (x .number) .carried)
+    pub holds : T (holdsSome (x .carried))
 
   pub start-is : (x : Metastate) → isIn x (starts book combinations) ↔ StartOf x
   unfolding starts startTest startCarry
@@ -163,12 +167,12 @@ module _ (book : Book) (combinations : List Combination) where
       there : isIn x (startsFrom (book .half) 0 combinations) → StartOf x
       there h =
           let p = by-number startTest startCarry combinations x .0 (rw (starts-pass 0 combinations) at h) in
-          let (first, second) = T-and (eqb (c .phone) 1) (valid (startCarry c)) .0 (p .passes) in
+          let (first, second) = T-and (eqb (c .phone) 1) (holdsSome (startCarry c)) .0 (p .passes) in
           record {
             listed = p .listed;
             silence = eqb→eq (c .phone) 1 first;
             cut = p .carries;
-            is-valid = rw (p .carries) second;
+            holds = rw (p .carries) second;
           }
 
       back : StartOf x → isIn x (startsFrom (book .half) 0 combinations)
@@ -177,8 +181,8 @@ module _ (book : Book) (combinations : List Combination) where
           (by-number startTest startCarry combinations x .1 record {
             listed = s .listed;
             passes =
-                T-and (eqb (c .phone) 1) (valid (startCarry c)) .1
-                (rw (s .silence) tt, rw (s .cut) at (s .is-valid));
+                T-and (eqb (c .phone) 1) (holdsSome (startCarry c)) .1
+                (rw (s .silence) tt, rw (s .cut) at (s .holds));
             named = omega arith;
             carries = s .cut;
           })
@@ -186,30 +190,30 @@ module _ (book : Book) (combinations : List Combination) where
   -- ---- ends: silence, with silence to the right
 
   pub may-end : (q : Metastate) → T (mayEnd book combinations q)
-      ↔ ((phoneOf combinations q ≡ 1) × T (endsHere (book .half) (q .matrix)))
+      ↔ ((phoneOf combinations q ≡ 1) × T (endTest book (q .carried)))
   unfolding mayEnd
   may-end q =
-      Iff·trans (T-and (eqb (phoneOf combinations q) 1) (endsHere (book .half) (q .matrix)))
+      Iff·trans (T-and (eqb (phoneOf combinations q) 1) (endTest book (q .carried)))
       (Iff·and (T-eqb (phoneOf combinations q) 1) Iff·rfl)
 
-  -- ---- followers: the meet with what was shifted, where that is valid
+  -- ---- followers: the meet with what was shifted, where that leaves some window
 
   module _ (q : Metastate) where
-    abbrev shifted : Matrix
-    shifted = shift (book .phones) (q .matrix)
+    abbrev shifted : Carrier
+    shifted = shiftOf book (q .carried)
 
-    followCarry : Combination → Matrix
-    followCarry c = meet shifted (c .matrix)
+    followCarry : Combination → Carrier
+    followCarry c = meetOf shifted (c .carried)
 
     followTest : Combination → Bool
-    followTest c = valid (followCarry c)
+    followTest c = holdsSome (followCarry c)
 
     followers-pass : (number : ℕ) (cs : List Combination)
         → followersFrom shifted number cs ≡ passing followTest followCarry number cs
     unfolding followersFrom passing followTest followCarry
     followers-pass number [] = refl
     followers-pass number (c ∷ cs) =
-        ap (λ rest. if followTest c then record { number = number; matrix = followCarry c } ∷ rest else rest)
+        ap (λ rest. if followTest c then record { number = number; carried = followCarry c } ∷ rest else rest)
         (followers-pass (suc number) cs)
 
     pub followers-once : distinct (followers book combinations q)
@@ -218,8 +222,8 @@ module _ (book : Book) (combinations : List Combination) where
 
     pub record FollowerOf (x : Metastate) : Type 0 where
       pub listed : x .number < length combinations
-      pub met : x .matrix ≡ meet shifted (numbered combinations (x .number) .matrix)
-      pub is-valid : T (valid (meet shifted (numbered combinations (x .number) .matrix)))
+      pub met : x .carried ≡ meetOf shifted (numbered combinations (x .number) .carried)
+      pub holds : T (holdsSome (meetOf shifted (numbered combinations (x .number) .carried)))
 
     pub follower-is : (x : Metastate) → isIn x (followers book combinations q) ↔ FollowerOf x
     unfolding followers followTest followCarry
@@ -229,14 +233,14 @@ module _ (book : Book) (combinations : List Combination) where
         there h =
             let p = by-number followTest followCarry combinations x .0
             (rw (followers-pass 0 combinations) at h) in
-            record { listed = p .listed; met = p .carries; is-valid = p .passes }
+            record { listed = p .listed; met = p .carries; holds = p .passes }
 
         back : FollowerOf x → isIn x (followersFrom shifted 0 combinations)
         back f =
             rw (followers-pass 0 combinations)
             (by-number followTest followCarry combinations x .1 record {
               listed = f .listed;
-              passes = f .is-valid;
+              passes = f .holds;
               named = omega arith;
               carries = f .met;
             })

@@ -6,27 +6,27 @@ use mathlib.Core.Logic.{inl, inr, _↔_}
 use mathlib.Core.List.{List, [], _∷_, map}
 use mathlib.Core.Bool.{Bool, true, false}
 use mathlib.Core.Option.{Option, none, some, Option·none-ne-some}
-use Prim.Native.Nat.{ℕ, _+_, _*_, _≤_, _<_}
+use Prim.Native.Nat.{ℕ, _+_, _<_}
 use native.Mathlib.Omega.{arith}
 use lib.Dec.{T}
-use lib.ListN.{length, drop}
+use lib.ListN.{length}
 use Rattle.definitions.specs.Lists.{if_then_else_, every, concatMap, upFrom}
 use Rattle.definitions.specs.Faults.{answered}
 use Rattle.definitions.specs.BookLines.{BookLine, headerOf, isPhone}
 use Rattle.definitions.specs.BookReading.{Lent, readBook}
 use Rattle.definitions.specs.Tables.{Book, bookOf, bookIn, contentsOf}
 use Rattle.definitions.specs.Lookup.{modelAt}
-use Rattle.definitions.specs.TreesGive.{withSilence, contexts, modelGiven, together, modelsAlong}
-use Rattle.definitions.specs.TreesGive.{treesGive}
+use Rattle.definitions.specs.TreesGive.{around, contextsWithin, silences, contexts, modelGiven}
+use Rattle.definitions.specs.TreesGive.{together, modelsAlong, treesGive}
 use Rattle.definitions.specs.Transcription.{modelOf, transcription}
 use Rattle.definitions.specs.laws.Tests.{if-true}
-use Rattle.definitions.specs.laws.Lists.{every-split, map-concatMap}
+use Rattle.definitions.specs.laws.Lists.{map-concatMap}
 use Rattle.definitions.specs.laws.Members.{isIn, concatMap-same, of-upFrom, place-of}
 use Rattle.definitions.specs.laws.Books.{accepted-orderly}
 use Rattle.definitions.specs.laws.Sound.{AllPhones}
 use Rattle.definitions.specs.laws.WalkByLines.{given-by-tables}
-use Rattle.definitions.specs.laws.Contexts.{around-phones, contexts-length, context-window}
-use Rattle.definitions.specs.laws.Contexts.{context-length}
+use Rattle.definitions.specs.laws.Contexts.{contexts-length, context-length, context-phones}
+use Rattle.definitions.specs.laws.Contexts.{silences-length, silent-phones}
 
 -- ---- answers that are all there
 
@@ -46,18 +46,17 @@ concatMap-some f g l h = concatMap-same f (λ x. map some (g x)) l h ∙ sym (ma
 
 -- ---- contexts and states in range
 
--- the contexts of a sequence of phones are contexts of phones
-context-in-range : (phones half : ℕ) (S context : List ℕ) → 1 ≤ phones → T (every (isPhone phones) S)
-    → isIn context (contexts half S)
+-- the contexts of a sequence within phones, as many on each side, are contexts of phones
+context-in-range : (phones half : ℕ) (left S right context : List ℕ)
+    → length left ≡ half → length right ≡ half → T (every (isPhone phones) (around left S right))
+    → isIn context (contextsWithin half left S right)
     → (length context ≡ half + half + 1) × T (every (isPhone phones) context)
-context-in-range phones half S context some-phone h c =
-    let (i, k, e) = place-of context (contexts half S) [] c in
-    let place : i < length S = subst (λ n. i < n) (contexts-length half S) k in
-    let width : length context ≡ half + half + 1 =
-    ap length (sym e) ∙ context-length half S i place ∙ omega arith in
-    let rest = every-split _ i (withSilence half S) (around-phones half S phones some-phone h) .1 in
-    let window = every-split _ (2 * half + 1) (drop i (withSilence half S)) rest .0 in
-    (width, subst (λ l. T (every (isPhone phones) l)) (sym (context-window half S i place) ∙ e) window)
+context-in-range phones half left S right context before after h c =
+    let (i, k, e) = place-of context (contextsWithin half left S right) [] c in
+    let place : i < length S = subst (λ n. i < n) (contexts-length half left S right) k in (
+      ap length (sym e) ∙ context-length half left S right i place before after ∙ omega arith,
+      subst (λ l. T (every (isPhone phones) l)) e (context-phones half left S right i place phones h),
+    )
 
 -- ---- the models along a sequence
 
@@ -80,10 +79,14 @@ models-along lent text lines e S h =
         → map (λ state. modelGiven lines context state) states
         ≡ map some (map (λ state. modelOf (bookOf lines) context state) states)
     each context c = map-some _ _ states (λ state i.
-        let (width, phones) = context-in-range (headerOf lines .phones) (headerOf lines .half) S context
-        (accepted-orderly lent text lines e .in-range .phones-range .low) h c in
+        let n : ℕ = headerOf lines .half in
+        let wide = silences-length n in
+        let some-phone = accepted-orderly lent text lines e .in-range .phones-range .low in
+        let (width, phones) =
+        context-in-range (headerOf lines .phones) n (silences n) S (silences n) context wide wide
+        (silent-phones n S (headerOf lines .phones) some-phone h) c in
         let (low, high) = of-upFrom 1 (headerOf lines .states) state i in
-        given-by-tables lent text lines e context state width phones low (omega arith))
+        given-by-tables lent text lines e context width phones state low (omega arith))
 
 -- a sequence that is given models has phones in range
 treesGive-range : (lines : List BookLine) (S M : List ℕ) → treesGive lines S ≡ some M

@@ -66,7 +66,7 @@ has-without = digitwise without (λ x y. x - min x y) (λ x y. x && not y) refl
 
 -- ---- sets built from nothing
 
-has-none : (p : ℕ) → has p 0 ≡ false
+pub has-none : (p : ℕ) → has p 0 ≡ false
 unfolding has
 has-none zero = refl
 has-none (suc zero) = refl

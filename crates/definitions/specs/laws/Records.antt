@@ -5,7 +5,7 @@ use mathlib.Core.Path.{_≡_, refl, sym, ap, ap₂, _∙_, subst}
 use mathlib.Core.List.{List, [], _∷_, _++_, map, append-assoc, append-nil}
 use mathlib.Core.Bool.{Bool}
 use Prim.Native.Nat.{ℕ, zero, suc, _+_, _-_, _*_, _/_, _≤_, _<_}
-use native.Mathlib.Nat.{mul-zero, mul-suc, mul-div-cancel-left}
+use native.Mathlib.Nat.{le-trans, mul-zero, mul-suc, mul-le-mul-left, mul-div-le, mul-div-cancel-left}
 use native.Mathlib.Omega.{arith}
 use lib.Dec.{T, eqb, eqb→eq, eqb-refl}
 use lib.ListN.{length, take, drop, getD, length-append, length-drop, length-map}
@@ -15,6 +15,16 @@ use Rattle.definitions.specs.Arcs.{Arc, arcSize, arcWords, arcOf, arcsIn
 use Rattle.definitions.specs.laws.Tests.{eq→eqb}
 use Rattle.definitions.specs.laws.Lists.{every-cons, map-at, same-at}
 use Rattle.definitions.specs.laws.Members.{isIn, of-map, every-in, map-back}
+
+-- ---- whole records of space
+
+-- so many records of which there is room stand within the words
+pub records-within : (size count : ℕ) {space : ℕ} → count ≤ space / size → size * count ≤ space
+records-within size count {space} h = le-trans (mul-le-mul-left size h) (mul-div-le space size)
+
+-- and the record at a place before
+pub record-within : (size place : ℕ) {space : ℕ} → place < space / size → size * place + size ≤ space
+record-within size place h = omega (arith, records-within size (suc place) h, mul-suc size place)
 
 -- ---- lists joined, and records of a list
 

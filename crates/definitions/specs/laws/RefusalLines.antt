@@ -23,13 +23,13 @@ use Rattle.definitions.specs.Reading.{Kind, lineTests, lineRead, withLin
 use Rattle.definitions.specs.BookLines.{BookLine, nodesOf, rootsOf, headerOf, rootNames}
 use Rattle.definitions.specs.BookReading.{Lent, orphans, isLineOf, lineWhere, judgeNames, bookKind}
 use Rattle.definitions.specs.BookReading.{readBook}
-use Rattle.definitions.specs.Tables.{Book, Tables, tablesLeft, tablesBook}
-use Rattle.definitions.specs.Combinations.{Combination, combinations, combine}
+use Rattle.definitions.specs.Tables.{Tables, tablesLeft, tablesBook}
+use Rattle.definitions.specs.Combinations.{combinations, combine}
 use Rattle.definitions.specs.Arcs.{Arc}
-use Rattle.definitions.specs.Metastates.{Metastate}
-use Rattle.definitions.specs.Connecting.{Network, Event, plain, enter, placeFrom, arcInto, Room, addArc}
-use Rattle.definitions.specs.Connecting.{addMetastate, addBoth, Built, finished, noNetwork, perform}
-use Rattle.definitions.specs.Connecting.{performAll, startEvents, expand, turnsFrom, connect}
+use Rattle.definitions.specs.Growing.{Grown, Event, plain, enter, Machine, placeFrom, Room, addArc}
+use Rattle.definitions.specs.Growing.{addElement, addBoth, Done, finished, begun, perform, performAll}
+use Rattle.definitions.specs.Growing.{expand, turnsFrom, grow}
+use Rattle.definitions.specs.Connecting.{startEvents, arcInto, Built, machineOf}
 use Rattle.definitions.specs.Building.{Space, roomIn, build}
 use Rattle.definitions.specs.BookBuilding.{buildRead, buildBook}
 use Rattle.definitions.specs.laws.Records.{records-length}
@@ -147,68 +147,63 @@ test-line : {A : Type 0} (b : Bool) (fault : Fault) (a : A)
 test-line true fault a = tt
 test-line false fault a = omega arith
 
-arc-line : (room : Room) (a : Arc) (net : Network) → RefusesUpTo 0 (addArc room a net)
-unfolding addArc
-arc-line room a net = test-line (ltb (length (net .arcs)) (room .arcs)) Tangle _
+module _ {X : Type 0} (room : Room) where
+  arc-line : (a : Arc) (net : Grown X) → RefusesUpTo 0 (addArc room a net)
+  unfolding addArc
+  arc-line a net = test-line (ltb (length (net .arcs)) (room .arcs)) Tangle _
 
-metastate-line : (room : Room) (x : Metastate) (net : Network) → RefusesUpTo 0 (addMetastate room x net)
-unfolding addMetastate
-metastate-line room x net = test-line (ltb (length (net .metastates)) (room .metastates)) Crowd _
+  element-line : (x : X) (net : Grown X) → RefusesUpTo 0 (addElement room x net)
+  unfolding addElement
+  element-line x net = test-line (ltb (length (net .table)) (room .table)) Crowd _
 
-both-line : (room : Room) (x : Metastate) (a : Arc) (net : Network) → RefusesUpTo 0 (addBoth room x a net)
-unfolding addBoth
-both-line room x a net =
-    steps-lines 0 (addMetastate room x net) _ (metastate-line room x net) (λ next. arc-line room a next)
+  both-line : (x : X) (a : Arc) (net : Grown X) → RefusesUpTo 0 (addBoth room x a net)
+  unfolding addBoth
+  both-line x a net = steps-lines 0 (addElement room x net) _ (element-line x net) (λ next. arc-line a next)
 
-module _ (book : Book) (combinations : List Combination) (room : Room) where
-  perform-line : (net : Network) (event : Event) → RefusesUpTo 0 (perform book combinations room net event)
+module _ {X E : Type 0} (m : Machine X E) (room : Room) where
+  perform-line : (net : Grown X) (event : Event E) → RefusesUpTo 0 (perform m room net event)
   unfolding perform
   perform-line net (plain a) = arc-line room a net
-  perform-line net (enter from x) = go (placeFrom 0 x (net .metastates))
+  perform-line net (enter from x) =
+      judge-lines 0 0 (m .tests x) _ (omega arith) (go (placeFrom (m .same) 0 (m .stored x) (net .table)))
     where
       go : (found : Option ℕ)
-          → RefusesUpTo {A = Network} 0 (elim found [
-            | some place ↦ addArc room (arcInto book combinations from place x) net
-            | none ↦ addBoth room x (arcInto book combinations from (length (net .metastates)) x) net
+          → RefusesUpTo {A = Grown X} 0 (elim found [
+            | some place ↦ addArc room (m .arcInto from place x) net
+            | none ↦ addBoth room (m .stored x) (m .arcInto from (length (net .table)) x) net
           ])
       go (some place) = arc-line room _ net
-      go none = both-line room x _ net
+      go none = both-line room (m .stored x) _ net
 
-  all-line : (net : Network) (events : List Event)
-      → RefusesUpTo 0 (performAll book combinations room net events)
+  all-line : (net : Grown X) (events : List (Event E)) → RefusesUpTo 0 (performAll m room net events)
   unfolding performAll
   all-line net [] = tt
   all-line net (event ∷ events) =
-      steps-lines 0 (perform book combinations room net event) _ (perform-line net event)
-      (λ next. all-line next events)
+      steps-lines 0 (perform m room net event) _ (perform-line net event) (λ next. all-line next events)
 
-  pub performs-line : (net : Network) (events : List Event) (r : Refusal)
-      → performAll book combinations room net events ≡ refused r → r .line ≡ 0
+  pub performs-line : (net : Grown X) (events : List (Event E)) (r : Refusal)
+      → performAll m room net events ≡ refused r → r .line ≡ 0
   performs-line net events r e = omega (arith, refused-line 0 _ r (all-line net events) e)
 
-  turns-line : (limit turns : ℕ) (net : Network)
-      → RefusesUpTo 0 (turnsFrom book combinations room limit turns net)
+  turns-line : (limit turns : ℕ) (net : Grown X) → RefusesUpTo 0 (turnsFrom m room limit turns net)
   unfolding turnsFrom expand
   turns-line zero turns net = tt
   turns-line (suc limit) turns net =
-      go (ltb turns (length (net .metastates))) (λ next. turns-line limit (suc turns) next)
+      go (ltb turns (length (net .table))) (λ next. turns-line limit (suc turns) next)
     where
-      go : (b : Bool)
-          → ((next : Network) → RefusesUpTo 0 (turnsFrom book combinations room limit (suc turns) next))
-          → RefusesUpTo {A = Built} 0 (elim b [
+      go : (b : Bool) → ((next : Grown X) → RefusesUpTo 0 (turnsFrom m room limit (suc turns) next))
+          → RefusesUpTo {A = Done X} 0 (elim b [
             | false ↦ answered (finished turns net)
-            | true ↦ andThen (expand book combinations room turns net)
-                (λ next. turnsFrom book combinations room limit (suc turns) next)
+            | true ↦ andThen (expand m room turns net) (λ next. turnsFrom m room limit (suc turns) next)
           ])
       go false rest = tt
-      go true rest =
-          steps-lines 0 (expand book combinations room turns net) _ (all-line net _) rest
+      go true rest = steps-lines 0 (expand m room turns net) _ (all-line net _) rest
 
-  connect-line : (limit : ℕ) → RefusesUpTo 0 (connect book combinations room limit)
-  unfolding connect
-  connect-line limit =
-      steps-lines 0 (performAll book combinations room noNetwork (startEvents book combinations)) _
-      (all-line noNetwork _) (λ net. turns-line limit 0 net)
+  grow-line : (limit : ℕ) → RefusesUpTo 0 (grow m room limit)
+  unfolding grow
+  grow-line limit =
+      steps-lines 0 (performAll m room (begun m) (m .startEvents)) _ (all-line (begun m) _)
+      (λ net. turns-line limit 0 net)
 
 build-line : (header : Header) (tables : Tables) (space : Space) (limit : ℕ)
     → RefusesUpTo 0 (build header tables space limit)
@@ -216,7 +211,7 @@ unfolding build combine
 build-line header tables space limit =
     steps-lines 0 (combine header tables (space .combinations)) _
     (judge-lines 0 0 _ (answered (combinations (tablesBook header tables))) (omega arith) tt)
-    (λ found. connect-line (tablesBook header tables) found (roomIn space) limit)
+    (λ found. grow-line (machineOf (tablesBook header tables) found) (roomIn space) limit)
 
 -- ---- reading and building
 

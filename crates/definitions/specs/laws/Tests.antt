@@ -80,3 +80,8 @@ unfolding every
 every-from test [] h = tt
 every-from test (x ∷ l) h =
     T-and (test x) (every test l) .1 (h 0 (omega arith), every-from test l (λ c k. h (suc c) (omega arith)))
+
+-- a test that tells whether two things are the same
+pub record Tells {X : Type 0} (same : X → X → Bool) : Type 0 where
+  pub same-equal : (x y : X) → T (same x y) → x ≡ y
+  pub self : (x : X) → T (same x x)

@@ -1,4 +1,4 @@
--- The model that the lines give to a context and a state is the one that the walk in the tables reaches.
+-- What the lines give to a context and a state, a leaf and its model, is what the walk in the tables reaches.
 -- Both walks meet the same nodes: a question's class holds the context's phone when a Q line puts it there.
 -- Demand 3 replaces the lines by the tables with it.
 use mathlib.Core.Path.{_≡_, refl, sym, ap, ap₂, _∙_}
@@ -9,20 +9,21 @@ use Prim.Native.Nat.{ℕ, zero, suc, _+_, _-_, _≤_, _<_}
 use native.Mathlib.Omega.{arith}
 use lib.Dec.{T, eqb, eqb→eq}
 use lib.ListN.{length}
-use Rattle.definitions.specs.Lists.{if_then_else_, _!_, every, atLeastOne, select}
+use Rattle.definitions.specs.Lists.{if_then_else_, _!_, every, atLeastOne, select, mapOption}
 use Rattle.definitions.specs.Faults.{answered}
 use Rattle.definitions.specs.BookLines.{BookLine, headerOf, isPhone, Member, membersOf}
-use Rattle.definitions.specs.BookLines.{TreeNode, question, leaf, nodesOf, Asked}
+use Rattle.definitions.specs.BookLines.{TreeNode, question, leaf, nodesOf, Asked, Reached}
 use Rattle.definitions.specs.BookReading.{Lent, readBook}
-use Rattle.definitions.specs.Tables.{Book, phonesOfClass, classSets, bookOf, bookIn, contentsOf}
-use Rattle.definitions.specs.Lookup.{nodeAt, modelAt, walk, leafReached, answers}
+use Rattle.definitions.specs.Tables.{Book, phonesOfClass, classSets, bookOf, bookIn, contentsOf, rootOf}
+use Rattle.definitions.specs.Lookup.{nodeAt, walk, reached, answers}
 use Rattle.definitions.specs.PhoneSets.{has}
-use Rattle.definitions.specs.TreesGive.{nodeLine, putInClass, modelBelow, modelGiven, answersByLines}
+use Rattle.definitions.specs.TreesGive.{nodeLine, putInClass, answersByLines, walkByLines}
+use Rattle.definitions.specs.TreesGive.{reachedByLines, modelGiven}
 use Rattle.definitions.specs.Transcription.{modelOf}
 use Rattle.definitions.specs.laws.Tests.{same-tests, eq→eqb, every-at}
 use Rattle.definitions.specs.laws.Lists.{map-upFrom-at}
 use Rattle.definitions.specs.laws.Ranges.{phone-range}
-use Rattle.definitions.specs.laws.Walks.{walk-leaf, walk-question, by-node, either-node, model-at}
+use Rattle.definitions.specs.laws.Walks.{walk-leaf, walk-question, by-node, either-node}
 use Rattle.definitions.specs.laws.Sound.{Sound}
 use Rattle.definitions.specs.laws.SaidLines.{nodes-few}
 use Rattle.definitions.specs.laws.Accepted.{accepted-question, accepted-sound}
@@ -69,18 +70,19 @@ put-in-class lines class (suc i) c C p =
 -- ---- the walk
 
 -- a step by lines
-model-at-leaf : (lines : List BookLine) (context : List ℕ) (steps node model : ℕ)
-    → nodeLine lines node ≡ some (leaf model) → modelBelow (suc steps) lines context node ≡ some model
-unfolding modelBelow
-model-at-leaf lines context steps node model e = rw (e, modelBelow)
+lines-at-leaf : (lines : List BookLine) (context : List ℕ) (steps node model : ℕ)
+    → nodeLine lines node ≡ some (leaf model)
+    → walkByLines (suc steps) lines context node ≡ some (record { leaf = node; model = model })
+unfolding walkByLines
+lines-at-leaf lines context steps node model e = rw (e, walkByLines)
 
-model-at-question : (lines : List BookLine) (context : List ℕ) (steps node : ℕ) (asked : Asked)
+lines-at-question : (lines : List BookLine) (context : List ℕ) (steps node : ℕ) (asked : Asked)
     (yesNode noNode : ℕ)
     → nodeLine lines node ≡ some (question asked yesNode noNode)
-    → modelBelow (suc steps) lines context node
-    ≡ modelBelow steps lines context (if answersByLines lines context asked then yesNode else noNode)
-unfolding modelBelow
-model-at-question lines context steps node asked yesNode noNode e = rw (e, modelBelow)
+    → walkByLines (suc steps) lines context node
+    ≡ walkByLines steps lines context (if answersByLines lines context asked then yesNode else noNode)
+unfolding walkByLines
+lines-at-question lines context steps node asked yesNode noNode e = rw (e, walkByLines)
 
 module _ (lent : Lent) (text : List ℕ) (lines : List BookLine)
     (accepted : readBook lent text ≡ answered lines)
@@ -111,8 +113,8 @@ module _ (lent : Lent) (text : List ℕ) (lines : List BookLine)
 
     abbrev Alike : (steps levels node : ℕ) → Type 0
     Alike steps levels node =
-        modelBelow steps lines context node
-        ≡ some (modelAt (nodesOf lines) (walk levels (nodesOf lines) (book .classes) context node))
+        walkByLines steps lines context node
+        ≡ some (walk levels (nodesOf lines) (book .classes) context node)
 
     line-says : (node : ℕ) (x : TreeNode) → node < length (nodesOf lines) → nodeAt (nodesOf lines) node ≡ x
         → nodeLine lines node ≡ some x
@@ -122,18 +124,15 @@ module _ (lent : Lent) (text : List ℕ) (lines : List BookLine)
     alike-leaf : (steps levels node model : ℕ) → node < length (nodesOf lines)
         → nodeAt (nodesOf lines) node ≡ leaf model → Alike (suc steps) (suc levels) node
     alike-leaf steps levels node model h e =
-        model-at-leaf lines context steps node model (line-says node (leaf model) h e)
-        ∙ rw (
-          walk-leaf (nodesOf lines) (book .classes) context levels node model e,
-          model-at (nodesOf lines) node model e,
-        )
+        lines-at-leaf lines context steps node model (line-says node (leaf model) h e)
+        ∙ rw (walk-leaf (nodesOf lines) (book .classes) context levels node model e)
 
     alike-question : (steps levels node : ℕ) (asked : Asked) (yesNode noNode : ℕ)
         → node < length (nodesOf lines)
         → nodeAt (nodesOf lines) node ≡ question asked yesNode noNode
         → Alike steps levels yesNode → Alike steps levels noNode → Alike (suc steps) (suc levels) node
     alike-question steps levels node asked yesNode noNode h e yes-side no-side =
-        model-at-question lines context steps node asked yesNode noNode (line-says node _ h e)
+        lines-at-question lines context steps node asked yesNode noNode (line-says node _ h e)
         ∙ rw (
           walk-question (nodesOf lines) (book .classes) context levels node asked yesNode noNode e,
           same-answer node asked yesNode noNode e,
@@ -141,7 +140,7 @@ module _ (lent : Lent) (text : List ℕ) (lines : List BookLine)
         (either-node (Alike steps levels) yesNode noNode yes-side no-side
         (answers (book .classes) context asked))
 
-    -- so enough steps of each end at the same model
+    -- so enough steps of each end at the same leaf
     walks-alike : (steps levels node : ℕ) → node < length (nodesOf lines)
         → length (nodesOf lines) ≤ node + steps → length (nodesOf lines) ≤ node + levels
         → Alike steps levels node
@@ -158,17 +157,22 @@ module _ (lent : Lent) (text : List ℕ) (lines : List BookLine)
         (walks-alike steps levels noNode (noLater .listed) (omega (arith, noLater .greater))
         (omega (arith, noLater .greater))))
 
-pub given-by-tables : (lent : Lent) (text : List ℕ) (lines : List BookLine)
-    → readBook lent text ≡ answered lines
-    → (context : List ℕ) (state : ℕ) → length context ≡ headerOf lines .half + headerOf lines .half + 1
-    → T (every (isPhone (headerOf lines .phones)) context) → 1 ≤ state → state ≤ headerOf lines .states
-    → modelGiven lines context state ≡ some (modelOf (bookOf lines) context state)
-unfolding modelGiven modelOf leafReached bookOf bookIn contentsOf
-given-by-tables lent text lines accepted context state columns phones s S =
-    let half : ℕ = headerOf lines .half in
-    let phone = phone-at lent text lines accepted context columns phones half (omega arith) in
-    let root = accepted-root-line lent text lines accepted _ state (phone .0) (phone .1) s S in
-    let listed = accepted-sound lent text lines accepted .root (context ! half) state in
-    rw (root, modelGiven)
-    (walks-alike lent text lines accepted context columns phones (length lines) (length (nodesOf lines)) _
-    listed (omega (arith, nodes-few lines)) (omega arith))
+    -- from the root that both start at
+    reached-by-tables : (state : ℕ) → 1 ≤ state → state ≤ headerOf lines .states
+        → reachedByLines lines context state
+        ≡ some (reached (book .nodes) (book .classes) context (rootOf book (context ! book .half) state))
+    unfolding reachedByLines reached bookOf bookIn contentsOf
+    reached-by-tables state s S =
+        let half : ℕ = headerOf lines .half in
+        let phone = phone-at half (omega arith) in
+        let root = accepted-root-line lent text lines accepted _ state (phone .0) (phone .1) s S in
+        rw (root, reachedByLines)
+        (walks-alike (length lines) (length (nodesOf lines)) _ (sound .root (context ! half) state)
+        (omega (arith, nodes-few lines)) (omega arith))
+
+    -- so the model is the same too
+    pub given-by-tables : (state : ℕ) → 1 ≤ state → state ≤ headerOf lines .states
+        → modelGiven lines context state ≡ some (modelOf book context state)
+    unfolding modelGiven modelOf mapOption
+    given-by-tables state s S =
+        ap (mapOption (λ (r : Reached). r .model)) (reached-by-tables state s S)

@@ -1,5 +1,6 @@
--- Laws about walks: where each child is a greater node of the list, as many steps as there are nodes are
--- enough. So the number of steps that a walk is given is no rule of its own.
+-- Laws about walks: the model that is reached is the one at the leaf; and where each child is a greater node
+-- of the list, as many steps as there are nodes are enough. So the number of steps that a walk is given is no
+-- rule of its own.
 use mathlib.Core.Path.{_≡_, refl, sym, subst}
 use mathlib.Core.List.{List}
 use mathlib.Core.Bool.{Bool, true, false}
@@ -7,8 +8,8 @@ use Prim.Native.Nat.{ℕ, zero, suc, _+_, _≤_, _<_}
 use native.Mathlib.Omega.{arith}
 use lib.ListN.{length}
 use Rattle.definitions.specs.Lists.{if_then_else_}
-use Rattle.definitions.specs.BookLines.{TreeNode, question, leaf, Asked}
-use Rattle.definitions.specs.Lookup.{nodeAt, modelAt, answers, walk, leafReached}
+use Rattle.definitions.specs.BookLines.{TreeNode, question, leaf, Asked, Reached}
+use Rattle.definitions.specs.Lookup.{nodeAt, modelAt, answers, walk, reached, leafReached}
 
 -- every child is a greater node of the list
 pub record Later (nodes : List TreeNode) (node child : ℕ) : Type 0 where
@@ -48,11 +49,12 @@ either-node P yesNode noNode y n true = y
 either-node P yesNode noNode y n false = n
 
 module _ (nodes : List TreeNode) (classes context : List ℕ) where
-  abbrev walked : (steps node : ℕ) → ℕ
+  abbrev walked : (steps node : ℕ) → Reached
   walked steps node = walk steps nodes classes context node
 
   -- a step of a walk: a leaf stays, a question goes on at its answer
-  pub walk-leaf : (steps node model : ℕ) → nodeAt nodes node ≡ leaf model → walked (suc steps) node ≡ node
+  pub walk-leaf : (steps node model : ℕ) → nodeAt nodes node ≡ leaf model
+      → walked (suc steps) node ≡ record { leaf = node; model = model }
   unfolding walk
   walk-leaf steps node model e = rw (e, walk)
 
@@ -62,24 +64,40 @@ module _ (nodes : List TreeNode) (classes context : List ℕ) where
   unfolding walk
   walk-question steps node asked yesNode noNode e = rw (e, walk)
 
+  -- the model is the one at the leaf, however many steps there are
+  walk-model : (steps node : ℕ) → walked steps node .model ≡ modelAt nodes (walked steps node .leaf)
+  unfolding walk
+  walk-model zero node = refl
+  walk-model (suc steps) node =
+      by-node nodes node
+      (λ model e. rw (walk-leaf steps node model e) (sym (model-at nodes node model e)))
+      (λ asked yesNode noNode e.
+      rw (walk-question steps node asked yesNode noNode e)
+      (walk-model steps (if answers classes context asked then yesNode else noNode)))
+
+  pub reached-model : (root : ℕ)
+      → reached nodes classes context root .model ≡ modelAt nodes (leafReached nodes classes context root)
+  unfolding reached
+  reached-model root = walk-model (length nodes) root
+
   -- enough steps end at a leaf
   walk-ends : Forward nodes → (steps node : ℕ) → node < length nodes → length nodes ≤ node + steps
-      → IsLeaf nodes (walked steps node)
+      → IsLeaf nodes (walked steps node .leaf)
   walk-ends forward zero node h k = absurd (omega arith)
   walk-ends forward (suc steps) node h k =
       by-node nodes node
       (λ model e.
       let stays = sym (walk-leaf steps node model e) in
-      (model, subst (λ (n : ℕ). nodeAt nodes n ≡ leaf model) stays e))
+      (model, subst (λ (r : Reached). nodeAt nodes (r .leaf) ≡ leaf model) stays e))
       (λ asked yesNode noNode e.
       let (yesLater, noLater) = forward node asked yesNode noNode e in
-      subst (IsLeaf nodes) (sym (walk-question steps node asked yesNode noNode e))
-      (either-node (λ child. IsLeaf nodes (walked steps child)) yesNode noNode
+      subst (λ r. IsLeaf nodes (r .leaf)) (sym (walk-question steps node asked yesNode noNode e))
+      (either-node (λ child. IsLeaf nodes (walked steps child .leaf)) yesNode noNode
       (walk-ends forward steps yesNode (yesLater .listed) (omega (arith, yesLater .greater)))
       (walk-ends forward steps noNode (noLater .listed) (omega (arith, noLater .greater)))
       (answers classes context asked)))
 
   pub leaf-reached : Forward nodes → (root : ℕ) → root < length nodes
       → IsLeaf nodes (leafReached nodes classes context root)
-  unfolding leafReached
+  unfolding reached
   leaf-reached forward root h = walk-ends forward (length nodes) root h (omega arith)

@@ -1,16 +1,17 @@
--- Laws about the structs that the code makes: each is the outcome's, answered or refused; and demand 3 of a build's
--- answer is demand 3 of the struct made of it.
+-- Laws about the structs that the code makes: each is the outcome's, answered or refused; and what is claimed of a
+-- finished build's counts holds of the struct made of it.
 use mathlib.Core.Path.{_≡_, refl}
+use mathlib.Core.Bool.{true}
 use mathlib.Core.List.{List}
 use Prim.Native.Nat.{ℕ}
 use native.Mathlib.Omega.{arith}
+use Rattle.definitions.specs.declared.Counts.{Counts}
 use Rattle.definitions.specs.Faults.{Outcome, answered, refused, faultOf, faultLine}
 use Rattle.definitions.specs.BookLines.{BookLine, headerOf}
-use Rattle.definitions.specs.BookReading.{Lent}
 use Rattle.definitions.specs.BookBuilding.{BookBuilt}
 use Rattle.definitions.specs.Combinations.{Combination}
-use Rattle.definitions.specs.Connecting.{Built, finished, stopped}
-use Rattle.definitions.specs.Building.{networkIn}
+use Rattle.definitions.specs.Growing.{finished, stopped, grownIn}
+use Rattle.definitions.specs.Connecting.{Built}
 use Rattle.definitions.specs.Leaving.{Part}
 use Rattle.definitions.specs.NetworkText.{NetworkLine}
 use Rattle.book.specs.Answers.{readingOf as bookReadingOf}
@@ -21,10 +22,10 @@ use Rattle.network.specs.declared.Build.the-variants as build
 use Rattle.network.specs.Answers.{totalsOf, buildOf, standingOf}
 use Rattle.lines.specs.Answers.{writtenOf}
 use Rattle.nettext.specs.Answers.{readingOf}
-use Rattle.builder.specs.Answers.{bookAnswer as bookBuild, MeetsDemand3 as BookMeets}
+use Rattle.builder.specs.Answers.{bookAnswer as bookBuild, WhereFinished}
 use Rattle.fulgwerz.specs.Answers.{saidOf, isFinished, turnsIn}
 use Rattle.fulgwerz.specs.Answers.{readAnswer, leafAnswer, countAnswer, partAnswer, networkAnswer}
-use Rattle.fulgwerz.specs.Answers.{buildAnswer, bookAnswer, MeetsDemand3}
+use Rattle.fulgwerz.specs.Answers.{buildAnswer, bookAnswer}
 use Rattle.fulgwerz.specs.Made.{readMade, leafMade, modelsMade, combinationsMade, bytesMade, partMade}
 use Rattle.fulgwerz.specs.Made.{networkMade, buildMade}
 
@@ -64,7 +65,7 @@ network-made (answered lines) = refl
 network-made (refused r) = refl
 
 pub build-made : (states : ℕ) (o : Outcome Built) → buildMade (buildOf states o) ≡ buildAnswer states o
-unfolding buildOf totalsOf faultOf faultLine saidOf isFinished turnsIn networkIn
+unfolding buildOf totalsOf faultOf faultLine saidOf isFinished turnsIn grownIn
 build-made states (answered (finished turns net)) = refl
 build-made states (answered (stopped turns net)) = refl
 build-made states (refused r) = refl
@@ -74,8 +75,9 @@ unfolding bookBuild bookAnswer faultOf faultLine saidOf
 book-made (answered b) = build-made (headerOf (b .lines) .states) (answered (b .built))
 book-made (refused r) = refl
 
-pub demand-made : (lent : Lent) (text arcs : List ℕ) (answer : Build)
-    → BookMeets lent text answer arcs → MeetsDemand3 lent text (buildMade answer) arcs
-demand-made lent text arcs (build.Finished totals) meets says = meets totals refl
-demand-made lent text arcs (build.Stopped totals) meets says = let z : _≡_ {A = ℕ} 0 1 = cc in absurd (omega arith)
-demand-made lent text arcs (build.Refused r) meets says = let z : _≡_ {A = ℕ} 0 1 = cc in absurd (omega arith)
+pub finished-made : (claim : Counts → Type 0) (answer : Build)
+    → WhereFinished answer (λ totals. claim (totals .counts))
+    → buildMade answer .finished ≡ true → claim (buildMade answer .counts)
+finished-made claim (build.Finished totals) holds says = holds totals refl
+finished-made claim (build.Stopped totals) holds says = let z : _≡_ {A = ℕ} 0 1 = cc in absurd (omega arith)
+finished-made claim (build.Refused r) holds says = let z : _≡_ {A = ℕ} 0 1 = cc in absurd (omega arith)

@@ -2,19 +2,22 @@
 -- of the space, or left out where there is no room.
 use mathlib.Core.Path.{_≡_, refl, sym, ap, ap₂, _∙_}
 use mathlib.Core.List.{List, [], _∷_, _++_, append-assoc, append-nil}
-use Prim.Native.Nat.{ℕ, suc, _+_, _-_, _*_, _≤_, _<_}
+use Prim.Native.Nat.{ℕ, _+_, _-_, _*_, _≤_, _<_}
 use native.Mathlib.Omega.{arith}
 use lib.ListN.{length, take, drop, length-append, List·getD-append}
 use lib.Seq.{length-take-le, drop-at, getD-append-add}
 use borrow.Rule.Slice.PartMut.{putMid}
 use Rattle.definitions.specs.Lists.{_!_, concatMap, cleared, padded}
 use Rattle.definitions.specs.Matrices.{matrixSize}
-use Rattle.definitions.specs.Combinations.{Combination, combinationSize, combinationWords, combinationRoom}
+use Rattle.definitions.specs.declared.Fault.the-variants.{Choices}
+use Rattle.definitions.specs.Combinations.{combinationSize, combinationWords, combinationRoom}
 use Rattle.definitions.specs.laws.Lists.{drop-cleared, padded-length}
 use Rattle.matrix.specs.laws.Words.{after-number}
 use Rattle.metastates.specs.declared.Choice.{Choice}
-use Rattle.metastates.specs.Choices.{Holding, Grown, Chosen, leavesTaken, matrixMet}
-use Rattle.metastates.specs.laws.Grown.{counted-within, counted-over}
+use Rattle.metastates.specs.declared.Adding.the-variants as adding
+use Rattle.metastates.specs.Choices.{Chosen, combinationOf}
+use Rattle.metastates.specs.Space.{Holding, Added}
+use Rattle.metastates.specs.laws.Grown.{grown-counted, grown-stopped}
 
 -- ---- the words of a choice's record
 
@@ -38,22 +41,10 @@ module _ (phone : ℕ) (leaves columns : List ℕ) (three : length leaves ≡ 3)
 
 -- ---- the record in the space
 
--- the combination that a choice is
-abbrev pub combinationOf : (width : ℕ) → Choice → Combination
-combinationOf width choice =
-    record { phone = choice .phone; leaves = leavesTaken choice; matrix = matrixMet width choice }
-
 module _ {space : List ℕ} {count : ℕ} (h : Holding space count) (width : ℕ) (choice : Choice) where
   pub added-none : combinationRoom (length space) ≤ count
-      → Grown space count (combinationOf width choice ∷ []) space (count + 1)
-  added-none full =
-      let room : ℕ = combinationRoom (length space) in
-      let one-more : count + 1 ≡ suc room = omega (arith, h .roomy) in
-      record {
-        sized = refl;
-        counted = one-more ∙ sym (counted-over room (count + 1) (omega arith));
-        held = λ k. absurd (omega arith);
-      }
+      → Added space count (combinationOf width choice ∷ []) (adding.Stop Choices) space
+  added-none full = grown-stopped (combinationOf width choice ∷ []) (omega arith) refl
 
   -- put in its place
   module _ (chosen : Chosen width choice) (three : length (choice .leaves) ≡ 3)
@@ -99,13 +90,12 @@ module _ {space : List ℕ} {count : ℕ} (h : Holding space count) (width : ℕ
         ∙ ap₂ (λ (l m : List ℕ). choice .phone ∷ (l ++ m)) (chosen .leaves) (chosen .matrix)
         ∙ sym (append-nil _)
 
-    pub added-put : Grown space count (combinationOf width choice ∷ [])
-        (putMid at (at + combinationSize - at) space part) (count + 1)
-    added-put = record {
-      sized =
-          ap length after-all
-          ∙ padded-length (length space) (used ++ part)
-          (rw length-append (omega (arith, used-length, part-length, fits)));
-      counted = sym (counted-within _ (count + 1) (omega arith));
-      held = λ k. after-all ∙ ap (λ (l : List ℕ). padded (length space) (used ++ l)) words;
-    }
+    pub added-put : Added space count (combinationOf width choice ∷ [])
+        (adding.Count (count + 1)) (putMid at (at + combinationSize - at) space part)
+    added-put =
+        let sized =
+        ap length after-all
+        ∙ padded-length (length space) (used ++ part)
+        (rw length-append (omega (arith, used-length, part-length, fits))) in
+        grown-counted (combinationOf width choice ∷ []) refl (omega arith)
+        (after-all ∙ ap (λ (l : List ℕ). padded (length space) (used ++ l)) words) sized

@@ -16,19 +16,22 @@ use lib.Seq.{set-split, drop-append-add, append-snoc}
 use borrow.Author.Tests.{eqb-true}
 use Rattle.definitions.specs.Lists.{every, concatMap, cleared, padded}
 use Rattle.definitions.specs.Matrices.{Matrix, valid, meet}
-use Rattle.definitions.specs.Combinations.{Leaf, Combination, choose, combinationRoom}
+use Rattle.definitions.specs.declared.Fault.{Fault}
+use Rattle.definitions.specs.Combinations.{Leaf, Combination, choose}
 use Rattle.definitions.specs.laws.Tests.{by-test, if-true}
 use Rattle.definitions.specs.laws.Lists.{concatMap-append, concatMap-snoc, drop-cleared}
 use Rattle.definitions.specs.laws.Members.{in-at}
 use Rattle.definitions.specs.laws.Matrices.{meet-length}
 use Rattle.matrix.specs.laws.Widths.{width-taken, met-matrix, met-width}
 use Rattle.metastates.specs.declared.Choice.{Choice}
-use Rattle.metastates.specs.Leaves.{leavesIn, IsList}
-use Rattle.metastates.specs.Choices.{Holding, Grown, Chosen, FirstFit, leavesTaken, matrixMet, treesIn}
-use Rattle.metastates.specs.Choices.{chosenFrom, noLeaf, fitsAt, WithLeaf}
+use Rattle.metastates.specs.declared.Adding.{Adding}
+use Rattle.metastates.specs.declared.Adding.the-variants as adding
+use Rattle.metastates.specs.Leaves.{leavesIn}
+use Rattle.metastates.specs.Choices.{Chosen, Choosable, FirstFit, leavesTaken, matrixMet, combinationOf}
+use Rattle.metastates.specs.Choices.{treesIn, chosenFrom, noLeaf, fitsAt, WithLeaf}
+use Rattle.metastates.specs.Space.{Holding, Added}
 use Rattle.metastates.specs.laws.Grown.{Sized, choose-sized, grown-none, grown-over, grown-holding}
 use Rattle.metastates.specs.laws.Grown.{grown-then}
-use Rattle.metastates.specs.laws.Adding.{combinationOf}
 use Rattle.metastates.specs.laws.LeafLists.{leaves-length, leaf-width, Wide, list-wide}
 
 -- ---- a matrix that is not valid gives none
@@ -64,7 +67,7 @@ choose-none : (width phone : ℕ) (leaves : List ℕ) (m : Matrix) (trees : List
 unfolding choose AllWide
 choose-none width phone leaves m [] w e h = rw h
 choose-none width phone leaves m (tree ∷ trees) w e h = none-given _ tree λ i k.
-    let n : Matrix = getD tree i noLeaf .matrix in
+    let n : Matrix = getD tree i noLeaf .carried in
     let same : length m ≡ length n = e ∙ sym (w .0 _ (in-at tree i noLeaf k)) in
     choose-none width phone _ (meet m n) trees (w .1) (meet-length m n same ∙ e) (meet-empty m n same h)
 
@@ -110,11 +113,11 @@ module _ {width : ℕ} {choice : Choice} (chosen : Chosen width choice) (three :
       rw (w .1, w .2, add-one)
       (take-suc-set (choice .leaves) (choice .taken) (leaf .node) (omega arith))
 
-  own-width : length (leaf .matrix) ≡ width
+  own-width : length (leaf .carried) ≡ width
   own-width = leaf-width width words place inside (chosen .narrow)
 
-  next-matrix : matrixMet width next ≡ meet (matrixMet width choice) (leaf .matrix)
-  next-matrix = met-matrix (chosen .narrow) (chosen .matrix) (leaf .matrix) own-width (w .3)
+  next-matrix : matrixMet width next ≡ meet (matrixMet width choice) (leaf .carried)
+  next-matrix = met-matrix (chosen .narrow) (chosen .matrix) (leaf .carried) own-width (w .3)
 
   -- the leaves after it are still 0
   next-padded : next .leaves ≡ padded 3 (leavesTaken next)
@@ -135,32 +138,24 @@ module _ {width : ℕ} {choice : Choice} (chosen : Chosen width choice) (three :
   next-chosen fits = record {
     narrow = chosen .narrow;
     leaves = next-padded;
-    matrix = met-width (chosen .narrow) (chosen .matrix) (leaf .matrix) own-width (w .3);
+    matrix = met-width (chosen .narrow) (chosen .matrix) (leaf .carried) own-width (w .3);
     holds = rw next-matrix (subst T (sym fits) tt);
   }
 
 -- no tree is left: the choice is a combination
-pub choosing-last : {width trees : ℕ} (first second third : List ℕ) {choice : Choice} {before after : List ℕ}
-    {count total : ℕ} → Chosen width choice → trees ≡ 0
-    → Grown before count (combinationOf width choice ∷ []) after total
-    → Grown before count (chosenFrom width trees first second third choice) after total
+pub choosing-last : {width trees : ℕ} (first second third : List ℕ) {choice : Choice} → Chosen width choice
+    → trees ≡ 0 → chosenFrom width trees first second third choice ≡ combinationOf width choice ∷ []
 unfolding choose
-choosing-last {width} {trees} first second third {choice} chosen e g =
-    let one : chosenFrom width trees first second third choice ≡ combinationOf width choice ∷ [] =
-    rw e (if-true (valid (matrixMet width choice)) _ _ (chosen .holds)) in
-    rw one g
+choosing-last {width} first second third {choice} chosen e =
+    rw e (if-true (valid (matrixMet width choice)) _ _ (chosen .holds))
 
 -- ---- the loop over the leaves of the first tree
 
 -- what a choice begins: at least one tree is left
 pub record Beginning (width trees : ℕ) (first second third : List ℕ) (choice : Choice) : Type 0 where
-  pub chosen : Chosen width choice
+  pub asked : Choosable width trees first second third choice
   pub three : length (choice .leaves) ≡ 3
   pub some : trees ≡ 0 → ⊥
-  pub few : choice .taken + trees ≤ 3
-  pub first-is : IsList width first
-  pub second-is : IsList width second
-  pub third-is : IsList width third
 
 -- the trees that are left after the first
 trees-next : (trees : ℕ) (first second third : List Leaf) → (trees ≡ 0 → ⊥) → trees ≤ 3
@@ -175,7 +170,7 @@ trees-next (suc n) first second third some few =
 -- the combinations that a leaf of the first tree gives
 abbrev pub leafGives : (width trees : ℕ) → (second third : List ℕ) → Choice → Leaf → List Combination
 leafGives width trees second third choice l =
-    choose (choice .phone) (leavesTaken choice ++ (l .node ∷ [])) (meet (matrixMet width choice) (l .matrix))
+    choose (choice .phone) (leavesTaken choice ++ (l .node ∷ [])) (meet (matrixMet width choice) (l .carried))
     (treesIn width (trees - 1) second third third)
 
 module _ {width trees : ℕ} {first second third : List ℕ} {choice : Choice}
@@ -190,16 +185,16 @@ module _ {width trees : ℕ} {first second third : List ℕ} {choice : Choice}
   tree = leavesIn width first
 
   taken-length : length (leavesTaken choice) ≡ choice .taken
-  taken-length = length-take-le (choice .taken) (choice .leaves) (omega (arith, b .three, b .few))
+  taken-length = length-take-le (choice .taken) (choice .leaves) (omega (arith, b .three, b .asked .few))
 
   met-length : length (matrixMet width choice) ≡ width
-  met-length = width-taken (b .chosen .narrow) (b .chosen .matrix)
+  met-length = width-taken (b .asked .chosen .narrow) (b .asked .chosen .matrix)
 
   rest-wide : AllWide width rest
   unfolding AllWide
   rest-wide =
-      let second-wide = list-wide width second (b .chosen .narrow) in
-      let third-wide = list-wide width third (b .chosen .narrow) in
+      let second-wide = list-wide width second (b .asked .chosen .narrow) in
+      let third-wide = list-wide width third (b .asked .chosen .narrow) in
       take-wide width (trees - 1) _ (second-wide, (third-wide, (third-wide, tt)))
 
   -- none for a leaf that does not fit
@@ -207,8 +202,9 @@ module _ {width trees : ℕ} {first second third : List ℕ} {choice : Choice}
       → gives (getD tree i noLeaf) ≡ []
   gives-none i h e =
       let m : Matrix = matrixMet width choice in
-      let n : Matrix = getD tree i noLeaf .matrix in
-      let same : length m ≡ length n = met-length ∙ sym (leaf-width width first i h (b .chosen .narrow)) in
+      let n : Matrix = getD tree i noLeaf .carried in
+      let own : length n ≡ width = leaf-width width first i h (b .asked .chosen .narrow) in
+      let same : length m ≡ length n = met-length ∙ sym own in
       choose-none width (choice .phone) _ (meet m n) rest rest-wide (meet-length m n same ∙ met-length) e
 
   gives-sized : (leaves : List Leaf) → Sized (concatMap gives leaves)
@@ -217,28 +213,34 @@ module _ {width trees : ℕ} {first second third : List ℕ} {choice : Choice}
       let last : List Leaf = leavesIn width third in
       let trees-left = length-take (trees - 1) (leavesIn width second ∷ last ∷ last ∷ []) in
       let fits : length (leavesTaken choice) + length (leaves ∷ rest) ≤ 3 =
-      omega (arith, taken-length, trees-left, b .few, b .some) in
+      omega (arith, taken-length, trees-left, b .asked .few, b .some) in
       choose-sized (choice .phone) (leavesTaken choice) (matrixMet width choice) (leaves ∷ rest) fits
-      (omega (arith, met-length, b .chosen .narrow))
+      (omega (arith, met-length, b .asked .chosen .narrow))
 
   -- the whole is what all leaves of the first tree give
   all-given : chosenFrom width trees first second third choice ≡ concatMap gives tree
   unfolding choose
   all-given =
       ap (choose (choice .phone) (leavesTaken choice) (matrixMet width choice))
-      (trees-next trees tree (leavesIn width second) (leavesIn width third) (b .some) (omega (arith, b .few)))
+      (trees-next trees tree (leavesIn width second) (leavesIn width third) (b .some)
+      (omega (arith, b .asked .few)))
 
--- the leaves before a place have given theirs, and there was room for them
-pub record Choosing (width trees : ℕ) (first second third : List ℕ) (choice : Choice) (before : List ℕ) (count : ℕ)
-    (space : List ℕ) (total place : ℕ) : Type 0 where
+-- the combinations that the leaves before a place give
+abbrev pub givenBefore : (width trees : ℕ) → (first second third : List ℕ) → Choice → (place : ℕ)
+    → List Combination
+givenBefore width trees first second third choice place =
+    concatMap (leafGives width trees second third choice) (take place (leavesIn width first))
+
+-- these leaves have given theirs, and there was room for them
+pub record Choosing (width trees : ℕ) (first second third : List ℕ) (choice : Choice) (before : List ℕ)
+    (count : ℕ) (space : List ℕ) (total place : ℕ) : Type 0 where
   pub begins : Beginning width trees first second third choice
   pub holding : Holding before count
   pub within : place ≤ length (leavesIn width first)
   pub found : place < length (leavesIn width first)
       → fitsAt (matrixMet width choice) (leavesIn width first) place ≡ true
-  pub roomy : total ≤ combinationRoom (length before)
-  pub grown : Grown before count
-      (concatMap (leafGives width trees second third choice) (take place (leavesIn width first))) space total
+  pub grown : Added before count (givenBefore width trees first second third choice place)
+      (adding.Count total) space
 
 module _ {width trees : ℕ} {first second third : List ℕ} {choice : Choice} {before : List ℕ} {count : ℕ} where
   pub choosing-start : Beginning width trees first second third choice → Holding before count → {place : ℕ}
@@ -250,7 +252,6 @@ module _ {width trees : ℕ} {first second third : List ℕ} {choice : Choice} {
     holding = h;
     within = fit .none .within;
     found = fit .found;
-    roomy = h .roomy;
     grown =
         rw (passed-over _ _ (leafGives width trees second third choice) (gives-none b) fit) (grown-none h);
   }
@@ -260,8 +261,12 @@ module _ {width trees : ℕ} {first second third : List ℕ} {choice : Choice} {
     abbrev all : List Leaf
     all = leavesIn width first
 
+    abbrev done : (place : ℕ) → List Combination
+    done place = givenBefore width trees first second third choice place
+
     pub choosing-end : length first / 8 ≤ place
-        → Grown before count (chosenFrom width trees first second third choice) space total
+        → Added before count (chosenFrom width trees first second third choice)
+        (adding.Count total) space
     choosing-end h =
         let every-leaf : length all ≤ place = rw leaves-length h in
         rw (all-given (inv .begins)) (rw (take-all place all every-leaf) at (inv .grown))
@@ -272,56 +277,64 @@ module _ {width trees : ℕ} {first second third : List ℕ} {choice : Choice} {
 
     pub choosing-holding : Holding space total
     choosing-holding =
-        grown-holding (inv .holding) (inv .grown) (gives-sized (inv .begins) (take place all)) (inv .roomy)
+        grown-holding (inv .holding) (done place) (inv .grown) refl
+        (gives-sized (inv .begins) (take place all))
 
     module _ (inside : place < length all) {next : Choice} (w : WithLeaf width choice first place next) where
       more : choice .taken < 3
-      more = omega (arith, inv .begins .few, inv .begins .some)
+      more = omega (arith, inv .begins .asked .few, inv .begins .some)
 
-      pub choosing-chosen : Chosen width next
-      choosing-chosen =
+      pub choosing-asked : Choosable width (trees - 1) second third third next
+      choosing-asked =
           let b = inv .begins in
-          next-chosen (b .chosen) (b .three) more first inside w (inv .found inside)
+          record {
+            chosen = next-chosen (b .asked .chosen) (b .three) more first inside w (inv .found inside);
+            few = omega (arith, w .1, b .asked .few, b .some);
+            first-is = b .asked .second-is;
+            second-is = b .asked .third-is;
+            third-is = b .asked .third-is;
+          }
 
       -- what the next choice begins is what the leaf gives
       leaf-given : chosenFrom width (trees - 1) second third third next
           ≡ leafGives width trees second third choice (getD all place noLeaf)
       leaf-given =
           let b = inv .begins in
-          let leaves = next-leaves (b .chosen) (b .three) more first inside w in
-          let matrix = next-matrix (b .chosen) (b .three) more first inside w in
+          let leaves = next-leaves (b .asked .chosen) (b .three) more first inside w in
+          let matrix = next-matrix (b .asked .chosen) (b .three) more first inside w in
           rw (w .0, leaves, matrix)
 
-      module _ {after : List ℕ} {sum : ℕ}
-          (g : Grown space total (chosenFrom width (trees - 1) second third third next) after sum) where
-        one-more : Grown before count
-            (concatMap (leafGives width trees second third choice) (take (place + 1) all)) after sum
+      module _ {after : List ℕ} {answer : Adding}
+          (g : Added space total (chosenFrom width (trees - 1) second third third next) answer after) where
+        one-more : Added before count (done (place + 1)) answer after
         one-more =
             rw (taken-one (leafGives width trees second third choice) all place inside, ← leaf-given)
-            (grown-then (inv .holding) (inv .grown) (gives-sized (inv .begins) (take place all)) (inv .roomy) g)
+            (grown-then (inv .holding) (done place) (inv .grown) refl
+            (gives-sized (inv .begins) (take place all)) _ g)
 
         -- no room
-        pub choosing-over : combinationRoom (length after) < sum
-            → Grown before count (chosenFrom width trees first second third choice) after sum
-        choosing-over over =
+        pub choosing-over : {fault : Fault} → answer ≡ adding.Stop fault
+            → Added before count (chosenFrom width trees first second third choice)
+            (adding.Stop fault) after
+        choosing-over stops =
             let gives = leafGives width trees second third choice in
-            let done : List Leaf = take (place + 1) all in
             let left : List Leaf = drop (place + 1) all in
             let whole : chosenFrom width trees first second third choice
-            ≡ concatMap gives done ++ concatMap gives left =
+            ≡ done (place + 1) ++ concatMap gives left =
             all-given (inv .begins) ∙ ap (concatMap gives) (sym (take-append-drop (place + 1) all))
-            ∙ concatMap-append gives done left in
-            rw whole (grown-over (inv .holding) one-more (concatMap gives left) (rw (← one-more .sized) over))
+            ∙ concatMap-append gives (take (place + 1) all) left in
+            rw whole (grown-over (inv .holding) (done (place + 1)) one-more stops (concatMap gives left))
 
-        pub choosing-again : sum ≤ combinationRoom (length after) → {last : ℕ}
+        pub choosing-again : {sum : ℕ} → answer ≡ adding.Count sum → {last : ℕ}
             → FirstFit (matrixMet width choice) all (place + 1) last
             → Choosing width trees first second third choice before count after sum last
-        choosing-again fits fit = record {
+        choosing-again counts fit = record {
           begins = inv .begins;
           holding = inv .holding;
           within = fit .none .within;
           found = fit .found;
-          roomy = rw (← one-more .sized) fits;
           grown =
-              rw (passed-over _ _ (leafGives width trees second third choice) (gives-none (inv .begins)) fit) one-more;
+              rw (passed-over _ _ (leafGives width trees second third choice) (gives-none (inv .begins)) fit)
+              (subst (λ (a : Adding). Added before count (done (place + 1)) a after)
+              counts one-more);
         }

@@ -1,27 +1,27 @@
 -- Laws about what combining answers and leaves, one for each way that the code returns: 18, then 30, else the
 -- combinations.
-use mathlib.Core.Path.{_≡_, ap, _∙_}
+use mathlib.Core.Path.{_≡_, _∙_}
 use mathlib.Core.List.{List}
 use mathlib.Core.Bool.{true, false}
-use Prim.Native.Nat.{ℕ, _≤_, _<_}
+use Prim.Native.Nat.{ℕ}
+use native.Mathlib.Nat.{zero-add}
 use native.Mathlib.Omega.{arith}
-use lib.Dec.{leb}
 use lib.ListN.{length}
-use borrow.Author.Tests.{le-leb, lt-leb}
 use Rattle.definitions.specs.declared.Header.{Header}
 use Rattle.definitions.specs.declared.Fault.{Fault}
-use Rattle.definitions.specs.declared.Fault.the-variants.{Foreign, Choices}
-use Rattle.definitions.specs.Faults.{refuse, judge}
-use Rattle.definitions.specs.Lists.{cleared, padded}
+use Rattle.definitions.specs.declared.Fault.the-variants.{Foreign}
+use Rattle.definitions.specs.Faults.{answered, refuse, judge}
+use Rattle.definitions.specs.Lists.{cleared}
 use Rattle.definitions.specs.Tables.{Tables, Book, tablesBook}
 use Rattle.definitions.specs.ForeignTables.{tablesKnown}
-use Rattle.definitions.specs.Combinations.{Combination, combinations, combinationRoom, combinationSpace}
-use Rattle.definitions.specs.Combinations.{combine}
+use Rattle.definitions.specs.Combinations.{Combination, combinations, combinationSpace, combine}
+use Rattle.metastates.specs.declared.Adding.{Adding}
+use Rattle.metastates.specs.declared.Adding.the-variants as adding
 use Rattle.metastates.specs.declared.Combined.{Combined}
 use Rattle.metastates.specs.declared.Combined.the-variants as combined
-use Rattle.metastates.specs.Answers.{endsOf, endsLeft, combinedOf}
-use Rattle.metastates.specs.Choices.{Grown}
-use Rattle.metastates.specs.laws.Phones.{counted-all, counted-beyond}
+use Rattle.metastates.specs.Answers.{endsLeft, combinedOf, AllAdded}
+use Rattle.metastates.specs.Space.{Holding, addedIn}
+use Rattle.metastates.specs.laws.Grown.{holding-none, grown-refused, grown-all, grown-answered}
 
 module _ (header : Header) (tables : Tables) (size : ℕ) (answer : Combined) (ends left : List ℕ) where
   -- what the code answers and leaves in the space
@@ -46,29 +46,31 @@ module _ (header : Header) (tables : Tables) (size : ℕ) (answer : Combined) (e
   ends-foreign h a l = ends-refused Foreign (rw h) a l
 
   module _ (h : tablesKnown header tables ≡ true) (book : Book) (own : tablesBook header tables ≡ book)
-      {before after : List ℕ} {total room : ℕ} (s : length before ≡ size)
-      (g : Grown before 0 (combinations book) after total) (r : room ≡ combinationRoom (length after))
+      {before after noted : List ℕ} {adds : Adding} (clear : before ≡ cleared (length before))
+      (s : length before ≡ size) (all : AllAdded book before adds after noted)
     where
       abbrev found : List Combination
       found = combinations book
 
-      room-is : room ≡ combinationRoom (length before)
-      room-is = r ∙ ap combinationRoom (g .sized)
+      -- 18 is passed, so only the room is left to judge
+      combine-is : combine header tables size ≡ addedIn (length before) 0 found
+      unfolding combine judge addedIn
+      combine-is = rw (h, own, s, zero-add (length found))
 
-      pub ends-over : room < total → Refuses Choices → left ≡ cleared size → Ends
-      unfolding combine judge
-      ends-over over a l =
-          let more = counted-beyond g (omega (arith, room-is)) in
-          let full : leb (length found) (combinationRoom size) ≡ false = rw (← s) (lt-leb _ _ more) in
-          ends-refused Choices (rw (h, own, full)) a l
+      none : Holding before 0
+      none = holding-none before clear
 
-      pub ends-combined : total ≤ room → answer ≡ combined.Combinations total
-          → (total ≤ combinationRoom (length before) → ends ≡ padded 65 (endsOf book))
-          → left ≡ after → Ends
-      unfolding combine judge combinedOf endsLeft combinationSpace
-      ends-combined fits a n l =
-          let few : total ≤ combinationRoom (length before) = omega (arith, room-is) in
-          let all : total ≡ length found = counted-all g few in
-          let held : leb (length found) (combinationRoom size) ≡ true =
-          rw (← s) (le-leb (length found) (combinationRoom (length before)) (omega arith)) in
-          rw (h, own, held) (a ∙ rw all, (n few, l ∙ g .held few ∙ rw s))
+      pub ends-stopped : {fault : Fault} → adds ≡ adding.Stop fault → Refuses fault → left ≡ cleared size
+          → Ends
+      ends-stopped {fault} stops a l =
+          ends-refused fault (combine-is ∙ grown-refused none found (all .grown) stops) a l
+
+      pub ends-combined : {total : ℕ} → adds ≡ adding.Count total → answer ≡ combined.Combinations total
+          → ends ≡ noted → left ≡ after → Ends
+      unfolding combinedOf endsLeft combinationSpace
+      ends-combined {total} counts a n l =
+          let is : addedIn (length before) 0 found ≡ answered found =
+          grown-answered none found (all .grown) counts in
+          let same : total ≡ length found = omega (arith, grown-all none found (all .grown) counts) in
+          let words = all .grown .holds found is in
+          rw (combine-is, is, own) (a ∙ rw same, (n ∙ all .noted found is, l ∙ words ∙ rw s))

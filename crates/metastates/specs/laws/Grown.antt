@@ -1,21 +1,30 @@
 -- Laws about combinations added to lent space: none, more after some that had room, and more after some that
 -- had not. The loops that add them use these.
 use mathlib.Core.Path.{_≡_, refl, sym, ap, _∙_}
+use mathlib.Core.Logic.{_⊎_, inl, inr, ⊎-elim}
 use mathlib.Core.List.{List, [], _∷_, _++_, append-assoc, append-nil}
-use Prim.Native.Nat.{ℕ, suc, _+_, _*_, _≤_, _<_}
+use Prim.Native.Nat.{ℕ, _+_, _*_, _≤_, _<_}
+use native.Mathlib.Nat.{sub-zero}
 use native.Mathlib.Omega.{arith}
 use lib.Dec.{leb}
 use lib.ListN.{length, take, length-append}
 use lib.Seq.{length-take-le}
-use borrow.Author.Tests.{leb-false, le-leb, lt-leb}
-use Rattle.definitions.specs.Lists.{concatMap, padded}
+use borrow.Author.Tests.{leb-true, leb-false}
+use Rattle.definitions.specs.declared.Fault.{Fault}
+use Rattle.definitions.specs.declared.Fault.the-variants.{Choices}
+use Rattle.definitions.specs.declared.Refusal.{Refusal}
+use Rattle.definitions.specs.Faults.{Outcome, answered, refused, refuse, judge}
+use Rattle.definitions.specs.Lists.{concatMap, cleared, padded}
 use Rattle.definitions.specs.Matrices.{Matrix, matrixSize, valid, meet}
 use Rattle.definitions.specs.Combinations.{Leaf, Combination, choose, combinationSize, combinationWords}
 use Rattle.definitions.specs.Combinations.{combinationRoom}
+use Rattle.definitions.specs.laws.Judging.{refused-not-answered}
 use Rattle.definitions.specs.laws.Tests.{by-test}
 use Rattle.definitions.specs.laws.Lists.{concatMap-append, padded-length, padded-take}
 use Rattle.definitions.specs.laws.SevenWords.{words-length}
-use Rattle.metastates.specs.Choices.{Holding, Grown, countedIn}
+use Rattle.metastates.specs.declared.Adding.{Adding}
+use Rattle.metastates.specs.declared.Adding.the-variants as adding
+use Rattle.metastates.specs.Space.{Holding, addedIn, addingOf, Added}
 
 -- combinations whose records have eleven words each
 pub record Sized (new : List Combination) : Type 0 where
@@ -39,15 +48,15 @@ sized-each f [] each = sized-none
 sized-each f (x ∷ l) each = sized-append (each x) (sized-each f l each)
 
 -- so have those that are chosen from at most three trees, with matrices of at most seven columns
-combination-length : (c : Combination) → length (c .leaves) ≤ 3 → length (c .matrix) ≤ matrixSize
+combination-length : (c : Combination) → length (c .leaves) ≤ 3 → length (c .carried) ≤ matrixSize
     → length (combinationWords c) ≡ combinationSize
 unfolding combinationWords
 combination-length c h w =
     let nodes = padded-length 3 (c .leaves) h in
-    let columns = words-length (c .matrix) w in
+    let columns = words-length (c .carried) w in
     simp length-append (omega (arith, nodes, columns))
 
-sized-one : (c : Combination) → length (c .leaves) ≤ 3 → length (c .matrix) ≤ matrixSize → Sized (c ∷ [])
+sized-one : (c : Combination) → length (c .leaves) ≤ 3 → length (c .carried) ≤ matrixSize → Sized (c ∷ [])
 unfolding concatMap
 sized-one c h w = record { words = rw append-nil (combination-length c h w) }
 
@@ -62,98 +71,192 @@ pub choose-sized : (phone : ℕ) (leaves : List ℕ) (m : Matrix) (trees : List 
     → length leaves + length trees ≤ 3 → length m ≤ matrixSize → Sized (choose phone leaves m trees)
 unfolding choose
 choose-sized phone leaves m [] h w = by-test (valid m)
-    (λ t. rw t (sized-one (record { phone = phone; leaves = leaves; matrix = m }) (omega arith) w))
+    (λ t. rw t (sized-one (record { phone = phone; leaves = leaves; carried = m }) (omega arith) w))
     (λ t. rw t sized-none)
 choose-sized phone leaves m (tree ∷ trees) h w = sized-each _ tree λ l.
-    choose-sized phone (leaves ++ (l .node ∷ [])) (meet m (l .matrix)) trees
+    choose-sized phone (leaves ++ (l .node ∷ [])) (meet m (l .carried)) trees
     (rw length-append (omega arith))
-    (omega (arith, meet-narrow m (l .matrix)))
+    (omega (arith, meet-narrow m (l .carried)))
 
--- ---- counts
+-- ---- outcomes
 
 -- records that have room lie within the words
 pub room-words : (count space : ℕ) → count ≤ combinationRoom space → combinationSize * count ≤ space
 unfolding combinationRoom
 room-words count space h = omega arith
 
-pub counted-within : (room count : ℕ) → count ≤ room → countedIn room count ≡ count
-unfolding countedIn
-counted-within room count h = rw (le-leb count room h)
+-- an answer stands for its outcome
+adding-count : (count total : ℕ) (outcome : Outcome (List Combination))
+    → adding.Count total ≡ addingOf count outcome
+    → (new : List Combination) × (outcome ≡ answered new) × (total ≡ count + length new)
+unfolding addingOf
+adding-count count total (answered new) e = (new, refl, cc)
+adding-count count total (refused r) e = let z : _≡_ {A = ℕ} 0 1 = cc in absurd (omega arith)
 
-pub counted-over : (room count : ℕ) → room < count → countedIn room count ≡ suc room
-unfolding countedIn
-counted-over room count h = rw (lt-leb count room h)
+adding-stop : (count : ℕ) (fault : Fault) (outcome : Outcome (List Combination))
+    → adding.Stop fault ≡ addingOf count outcome → (r : Refusal) × (outcome ≡ refused r) × (r .fault ≡ fault)
+unfolding addingOf
+adding-stop count fault (refused r) e = (r, refl, cc)
+adding-stop count fault (answered new) e = let z : _≡_ {A = ℕ} 0 1 = cc in absurd (omega arith)
 
--- a count that has room is the whole; one that has none is less than the whole
-counted-whole : (room count total : ℕ) → total ≡ countedIn room count → total ≤ room → total ≡ count
-unfolding countedIn
-counted-whole room count total e h = by-test (leb count room)
-    (λ t. rw t at e)
-    (λ t. let over : total ≡ suc room = rw t at e in absurd (omega arith))
+module _ (space count : ℕ) (new : List Combination) where
+  -- there is room for all, or 30
+  abbrev pub Fits : Type 0
+  Fits = (count + length new ≤ combinationRoom space) × (addedIn space count new ≡ answered new)
 
-counted-part : (room count total : ℕ) → total ≡ countedIn room count → room < total → room < count
-unfolding countedIn
-counted-part room count total e h = by-test (leb count room)
-    (λ t. let same : total ≡ count = rw t at e in omega arith)
-    (λ t. omega (arith, leb-false count room t))
+  abbrev pub Exceeds : Type 0
+  Exceeds = (combinationRoom space < count + length new) × (addedIn space count new ≡ refuse Choices 0)
+
+  judged : Fits ⊎ Exceeds
+  unfolding addedIn judge
+  judged = by-test (leb (count + length new) (combinationRoom space))
+      (λ t. inl (leb-true _ _ t, rw t))
+      (λ t. inr (leb-false _ _ t, rw t))
+
+  pub fits : count + length new ≤ combinationRoom space → Fits
+  fits h = ⊎-elim (λ f. f) (λ o. absurd (omega (arith, o .0))) judged
+
+  pub exceeds : combinationRoom space < count + length new → Exceeds
+  exceeds h = ⊎-elim (λ f. absurd (omega (arith, f .0))) (λ o. o) judged
+
+  pub answered-fits : {found : List Combination} → addedIn space count new ≡ answered found
+      → Fits × (found ≡ new)
+  answered-fits {found} e = ⊎-elim
+      (λ f. (f, let same = f .1 in cc))
+      (λ o. absurd (refused-not-answered _ Choices 0 found (o .1) e)) judged
+
+  pub refused-exceeds : {r : Refusal} → addedIn space count new ≡ refused r → Exceeds × (r .fault ≡ Choices)
+  refused-exceeds {r} e = ⊎-elim
+      (λ f. absurd (refused-not-answered _ (r .fault) (r .line) new e (f .1)))
+      (λ o. (o, let same = o .1 in cc)) judged
 
 -- ---- combinations added
 
--- none
-pub grown-none : {space : List ℕ} {count : ℕ} → Holding space count → Grown space count [] space count
-unfolding concatMap
-grown-none {space} {count} h = record {
-  sized = refl;
-  counted = let whole : count + 0 ≡ count = omega arith in rw (whole, counted-within _ count (h .roomy));
-  held = λ k. h .rest ∙ ap (padded (length space)) (sym (append-nil (take (combinationSize * count) space)));
-}
-
-module _ {before after : List ℕ} {count total : ℕ} {new : List Combination} (h : Holding before count)
-    (g : Grown before count new after total) where
-  -- that had no room, so more have none
-  pub grown-over : (more : List Combination) → combinationRoom (length before) < total
-      → Grown before count (new ++ more) after total
-  grown-over more over =
-      let room : ℕ = combinationRoom (length before) in
-      let part : room < count + length new = counted-part room _ total (g .counted) over in
-      let whole : room < count + length (new ++ more) = rw length-append (omega arith) in
-      record {
-        sized = g .sized;
-        counted = g .counted ∙ counted-over room _ part ∙ sym (counted-over room _ whole);
-        held = λ k. absurd (omega arith);
+module _ {before after : List ℕ} {count : ℕ} (new : List Combination) where
+  pub grown-counted : {total : ℕ} → total ≡ count + length new → total ≤ combinationRoom (length before)
+      → after ≡ padded (length before)
+      (take (combinationSize * count) before ++ concatMap combinationWords new) → length after ≡ length before
+      → Added before count new (adding.Count total) after
+  unfolding addingOf
+  grown-counted {total} all fit words sized =
+      let is = fits (length before) count new (omega arith) .1 in record {
+        answers = rw (is, all);
+        holds = λ found e.
+            words
+            ∙ ap (λ (l : List Combination). padded (length before)
+            (take (combinationSize * count) before ++ concatMap combinationWords l))
+            (sym (answered-fits (length before) count new e .1));
+        sized = sized;
       }
 
-  -- that had room, their records of eleven words each
-  module _ (s : Sized new) (fits : total ≤ combinationRoom (length before)) where
-    abbrev words : List ℕ
-    words = take (combinationSize * count) before ++ concatMap combinationWords new
+  pub grown-stopped : combinationRoom (length before) < count + length new → length after ≡ length before
+      → Added before count new (adding.Stop Choices) after
+  unfolding addingOf
+  grown-stopped over sized =
+      let is = exceeds (length before) count new over .1 in record {
+        answers = rw is;
+        holds = λ found e. absurd (refused-not-answered _ Choices 0 found is e);
+        sized = sized;
+      }
 
-    all : total ≡ count + length new
-    all = counted-whole _ _ total (g .counted) fits
+-- lent space without a record
+pub holding-none : (before : List ℕ) → before ≡ cleared (length before) → Holding before 0
+unfolding padded
+holding-none before e = record { roomy = omega arith; rest = rw sub-zero e }
 
-    ends : combinationSize * total ≡ length words
-    ends =
-        let first = length-take-le (combinationSize * count) before (room-words count _ (h .roomy)) in
-        simp length-append (omega (arith, first, s .words, all))
+-- none
+pub grown-none : {space : List ℕ} {count : ℕ} → Holding space count
+    → Added space count [] (adding.Count count) space
+unfolding concatMap
+grown-none {space} {count} h =
+    grown-counted [] (omega arith) (h .roomy)
+    (h .rest ∙ ap (padded (length space)) (sym (append-nil (take (combinationSize * count) space)))) refl
 
-    kept : take (combinationSize * total) after ≡ words
-    kept = ap (take (combinationSize * total)) (g .held fits) ∙ padded-take _ _ words ends
+module _ {before after : List ℕ} {count : ℕ} {answer : Adding} (h : Holding before count)
+    (new : List Combination) (g : Added before count new answer after) where
+  -- that had no room, so more have none
+  module _ {fault : Fault} (a : answer ≡ adding.Stop fault) where
+    stopped : Exceeds (length before) count new × (fault ≡ Choices)
+    stopped =
+        let (r, is, own) = adding-stop count fault (addedIn (length before) count new) (sym a ∙ g .answers) in
+        let (over, choices) = refused-exceeds (length before) count new is in
+        (over, sym own ∙ choices)
 
-    pub grown-holding : Holding after total
-    grown-holding = record {
-      roomy = rw (g .sized) fits;
-      rest = g .held fits ∙ rw (g .sized, kept);
-    }
+    pub grown-refused : addedIn (length before) count new ≡ refuse fault 0
+    grown-refused = rw (stopped .1) (stopped .0 .1)
 
-    pub grown-then : {last : List ℕ} {sum : ℕ} {more : List Combination} → Grown after total more last sum
-        → Grown before count (new ++ more) last sum
-    grown-then {last} {sum} {more} next = record {
-      sized = next .sized ∙ g .sized;
-      counted =
-          let whole : count + length (new ++ more) ≡ total + length more =
-          rw length-append (omega (arith, all)) in
-          rw (whole, ← g .sized) (next .counted);
-      held = λ k.
-          next .held (rw (g .sized) k)
-          ∙ rw (g .sized, kept, concatMap-append combinationWords new more, ← append-assoc);
-    }
+    pub grown-over : (more : List Combination)
+        → Added before count (new ++ more) (adding.Stop fault) after
+    grown-over more =
+        let longer : combinationRoom (length before) < count + length (new ++ more) =
+        rw length-append (omega (arith, stopped .0 .0)) in
+        rw (stopped .1) (grown-stopped (new ++ more) longer (g .sized))
+
+  -- that had room
+  module _ {total : ℕ} (a : answer ≡ adding.Count total) where
+    counted : (total ≡ count + length new) × (total ≤ combinationRoom (length before))
+        × (addedIn (length before) count new ≡ answered new)
+    counted =
+        let outcome = addedIn (length before) count new in
+        let (found, is, all) = adding-count count total outcome (sym a ∙ g .answers) in
+        let (fit, same) = answered-fits (length before) count new is in
+        let sum : total ≡ count + length new = all ∙ ap (λ (l : List Combination). count + length l) same in
+        (sum, omega (arith, sum, fit .0), fit .1)
+
+    pub grown-all : total ≡ count + length new
+    grown-all = counted .0
+
+    pub grown-within : total ≤ combinationRoom (length before)
+    grown-within = counted .1
+
+    pub grown-answered : addedIn (length before) count new ≡ answered new
+    grown-answered = counted .2
+
+    -- their records of eleven words each
+    module _ (s : Sized new) where
+      abbrev words : List ℕ
+      words = take (combinationSize * count) before ++ concatMap combinationWords new
+
+      held : after ≡ padded (length before) words
+      held = g .holds new grown-answered
+
+      ends : combinationSize * total ≡ length words
+      ends =
+          let first = length-take-le (combinationSize * count) before (room-words count _ (h .roomy)) in
+          simp length-append (omega (arith, first, s .words, grown-all))
+
+      kept : take (combinationSize * total) after ≡ words
+      kept = ap (take (combinationSize * total)) held ∙ padded-take _ _ words ends
+
+      pub grown-holding : Holding after total
+      grown-holding = record {
+        roomy = rw (g .sized) grown-within;
+        rest = held ∙ rw (g .sized, kept);
+      }
+
+      -- and more after them
+      module _ {last : List ℕ} {result : Adding} (more : List Combination)
+          (next : Added after total more result last) where
+        then-stop : Exceeds (length after) total more
+            → Added before count (new ++ more) result last
+        unfolding addingOf
+        then-stop over =
+            let stop : result ≡ adding.Stop Choices = next .answers ∙ rw (over .1) in
+            let longer : combinationRoom (length before) < count + length (new ++ more) =
+            rw (length-append, ← g .sized) (omega (arith, over .0, grown-all)) in
+            rw stop (grown-stopped (new ++ more) longer (next .sized ∙ g .sized))
+
+        then-count : Fits (length after) total more
+            → Added before count (new ++ more) result last
+        unfolding addingOf
+        then-count fit =
+            let sum : total + length more ≡ count + length (new ++ more) =
+            rw length-append (omega (arith, grown-all)) in
+            let stop : result ≡ adding.Count (total + length more) = next .answers ∙ rw (fit .1) in
+            rw stop (grown-counted (new ++ more) sum (rw (← g .sized) (fit .0))
+            (next .holds more (fit .1)
+            ∙ rw (g .sized, kept, concatMap-append combinationWords new more, ← append-assoc))
+            (next .sized ∙ g .sized))
+
+        pub grown-then : Added before count (new ++ more) result last
+        grown-then = ⊎-elim then-count then-stop (judged (length after) total more)

@@ -53,10 +53,10 @@ module _ (width : ℕ) (words : List ℕ) where
         sym (ap (λ (l : Leaf). l .node) leaf-is ∙ getD-take leafSize words-from 0 0 (omega arith)
         ∙ getD-drop (leafSize * place) words 0 0 ∙ rw first)
 
-    pub leaf-width : width ≤ matrixSize → length (leafAt .matrix) ≡ width
+    pub leaf-width : width ≤ matrixSize → length (leafAt .carried) ≡ width
     unfolding leafIn
     leaf-width narrow =
-        ap (λ (l : Leaf). length (l .matrix)) leaf-is
+        ap (λ (l : Leaf). length (l .carried)) leaf-is
         ∙ simp (length-take, length-drop) (omega (arith, leaf-within))
 
     -- where the words are such a list, its matrix stands as seven words
@@ -74,13 +74,13 @@ module _ (width : ℕ) (words : List ℕ) where
       unfolding again leavesIn
       flat = is ∙ concatMap-map leafWords (leafIn width) parts
 
-      pub leaf-columns : take matrixSize (drop (leafSize * place + 1) words) ≡ matrixWords (leafAt .matrix)
+      pub leaf-columns : take matrixSize (drop (leafSize * place + 1) words) ≡ matrixWords (leafAt .carried)
       unfolding again leafWords
       leaf-columns =
           let from : List ℕ = drop (leafSize * place) words in
           ap (take matrixSize) (sym (drop-drop 1 (leafSize * place) words)) ∙ sym (drop-take 1 matrixSize from)
           ∙ ap (drop 1) (sym (record-again again leafSize (lit< tt) again-length words flat place listed))
-          ∙ ap (λ (l : Leaf). matrixWords (l .matrix)) (sym leaf-is)
+          ∙ ap (λ (l : Leaf). matrixWords (l .carried)) (sym leaf-is)
 
       -- the test of what it and seven words of a matrix of that width meet in
       pub met-valid : {columns leaf met : List ℕ} → HasWidth width columns
@@ -88,13 +88,13 @@ module _ (width : ℕ) (words : List ℕ) where
           → valid (take width met) ≡ fitsAt (take width columns) (leavesIn width words) place
       met-valid {columns} w l q =
           ap valid
-          (met-matrix narrow w (leafAt .matrix) (leaf-width narrow) (q ∙ ap (meet columns) (l ∙ leaf-columns)))
+          (met-matrix narrow w (leafAt .carried) (leaf-width narrow) (q ∙ ap (meet columns) (l ∙ leaf-columns)))
 
 -- leaves whose matrices have so many columns
 abbrev pub Wide : (width : ℕ) → List Leaf → Type 0
-Wide width leaves = (l : Leaf) → isIn l leaves → length (l .matrix) ≡ width
+Wide width leaves = (l : Leaf) → isIn l leaves → length (l .carried) ≡ width
 
 pub list-wide : (width : ℕ) (words : List ℕ) → width ≤ matrixSize → Wide width (leavesIn width words)
 list-wide width words narrow l i =
     let (place, h, e) = place-of l (leavesIn width words) noLeaf i in
-    ap (λ (k : Leaf). length (k .matrix)) (sym e) ∙ leaf-width width words place h narrow
+    ap (λ (k : Leaf). length (k .carried)) (sym e) ∙ leaf-width width words place h narrow

@@ -157,7 +157,7 @@ module _ (nodes : ℕ) (leaves : List Leaf) (fit : AllInTable nodes leaves) (apa
     abbrev table : List ℕ
     table = putLeaves empty leaves
 
-    own : (l : Leaf) → isIn l leaves → recordAt table (l .node) ≡ 1 ∷ matrixWords (l .matrix)
+    own : (l : Leaf) → isIn l leaves → recordAt table (l .node) ≡ 1 ∷ matrixWords (l .carried)
     own = all-own nodes empty sized leaves fit apart
 
     marks-leaf : (n : ℕ) → isIn n (leafNodes (ascending leaves)) → T (isMarked table n) × (n < nodes)

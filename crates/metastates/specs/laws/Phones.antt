@@ -1,27 +1,29 @@
 -- Laws about the combinations of phones added one phone after the other, and how many there are after each: the
 -- start, one phone more, no room, and the end. The loop over the phones uses them.
-use mathlib.Core.Path.{_≡_, sym, ap, _∙_, subst}
+use mathlib.Core.Path.{_≡_, refl, sym, ap, _∙_, subst}
 use mathlib.Core.List.{List, [], _∷_, _++_, map, append-assoc, map-append}
 use Prim.Native.Nat.{ℕ, suc, _+_, _-_, _≤_, _<_}
-use native.Mathlib.Nat.{zero-add, sub-zero}
+use native.Mathlib.Nat.{zero-add}
 use native.Mathlib.Omega.{arith}
-use lib.Dec.{ltb}
 use lib.ListN.{length, set}
 use lib.Seq.{set-at}
-use borrow.Author.Tests.{ltb-true, ltb-false}
+use Rattle.definitions.specs.declared.Fault.{Fault}
 use Rattle.definitions.specs.Lists.{concatMap, upFrom, cleared, padded}
 use Rattle.definitions.specs.Matrices.{rootMatrix}
 use Rattle.definitions.specs.Tables.{Book}
 use Rattle.definitions.specs.Combinations.{Combination, combinationsOf, combinations, combinationRoom}
 use Rattle.definitions.specs.Combinations.{leavesOf}
-use Rattle.definitions.specs.laws.Tests.{by-test}
+use Rattle.definitions.specs.laws.Judging.{refused-not-answered}
 use Rattle.definitions.specs.laws.Lists.{concatMap-append, concatMap-snoc, upFrom-parts, upFrom-snoc}
 use Rattle.definitions.specs.laws.Lists.{map-upFrom-length, padded-length}
 use Rattle.definitions.specs.laws.Matrices.{root-length}
-use Rattle.metastates.specs.Answers.{endOf, endsOf}
-use Rattle.metastates.specs.Choices.{Holding, Grown}
-use Rattle.metastates.specs.laws.Grown.{Sized, sized-each, choose-sized, counted-within, counted-over}
-use Rattle.metastates.specs.laws.Grown.{grown-none, grown-over, grown-holding, grown-then}
+use Rattle.metastates.specs.declared.Adding.{Adding}
+use Rattle.metastates.specs.declared.Adding.the-variants as adding
+use Rattle.metastates.specs.Answers.{endOf, endsOf, Clear, AllAdded}
+use Rattle.metastates.specs.Space.{Holding, Added}
+use Rattle.metastates.specs.laws.Grown.{Sized, sized-each, choose-sized, grown-none}
+use Rattle.metastates.specs.laws.Grown.{grown-refused, grown-over, grown-all, grown-within}
+use Rattle.metastates.specs.laws.Grown.{grown-holding, grown-then}
 
 -- ---- the combinations of the first phones
 
@@ -58,47 +60,32 @@ module _ (book : Book) where
       (omega (arith, map-upFrom-length (λ state. leavesOf book p state) 1 (book .states)))
       (omega (arith, root-length (book .half) (book .phones) p))
 
--- ---- counts from none: all combinations where there is room, and more than that where there is none
-
-module _ {before after : List ℕ} {new : List Combination} {total : ℕ} (g : Grown before 0 new after total) where
-  abbrev lent : ℕ
-  lent = combinationRoom (length before)
-
-  pub counted-all : total ≤ combinationRoom (length before) → total ≡ length new
-  counted-all fits = by-test (ltb lent (0 + length new))
-      (λ t. absurd (omega (arith, g .counted, counted-over lent (0 + length new) (ltb-true _ _ t))))
-      (λ t. omega (arith, g .counted, counted-within lent (0 + length new) (ltb-false _ _ t)))
-
-  pub counted-beyond : combinationRoom (length before) < total → combinationRoom (length before) < length new
-  counted-beyond over = by-test (ltb lent (0 + length new))
-      (λ t. omega (arith, ltb-true lent (0 + length new) t))
-      (λ t.
-      let all : 0 + length new ≤ lent = ltb-false lent (0 + length new) t in
-      absurd (omega (arith, g .counted, counted-within lent (0 + length new) all)))
-
 -- ---- the combinations of the phones before one, and how many there were after each of them
 
-pub record Added (book : Book) (before : List ℕ) (phone : ℕ) (space ends : List ℕ) (count : ℕ) : Type 0 where
+-- a book in its ranges, and lent space without a record
+pub record Beginning (book : Book) (before : List ℕ) : Type 0 where
+  pub none : Holding before 0
+  pub narrow : book .half ≤ 3
+  pub few : book .states ≤ 3
+  pub most : book .phones ≤ 64
+
+pub record PhonesAdded (book : Book) (before : List ℕ) (phone : ℕ) (space ends : List ℕ) (count : ℕ)
+    : Type 0 where
+  pub begins : Beginning book before
   pub low : 1 ≤ phone
   pub high : phone ≤ suc (book .phones)
-  pub grown : Grown before 0 (ofPhones book (phone - 1)) space count
-  pub roomy : count ≤ combinationRoom (length before)
+  pub grown : Added before 0 (ofPhones book (phone - 1)) (adding.Count count) space
   pub noted : ends ≡ padded 65 (map (endOf book) (upFrom 0 phone))
 
--- lent space without a record
-holding-none : (before : List ℕ) → before ≡ cleared (length before) → Holding before 0
-unfolding padded
-holding-none before e = record { roomy = omega arith; rest = rw sub-zero e }
-
-pub added-start : (book : Book) (before ends : List ℕ) → before ≡ cleared (length before) → ends ≡ cleared 65
-    → Added book before 1 before ends 0
+pub added-start : {book : Book} {before ends : List ℕ} → Beginning book before → Clear before ends
+    → PhonesAdded book before 1 before ends 0
 unfolding upFrom concatMap endOf padded
-added-start book before ends e l = record {
+added-start b clear = record {
+  begins = b;
   low = omega arith;
   high = omega arith;
-  grown = grown-none (holding-none before e);
-  roomy = omega arith;
-  noted = l;
+  grown = grown-none (b .none);
+  noted = clear .ends-clear;
 }
 
 -- one count more after the others
@@ -115,67 +102,80 @@ noted-more f size phone v h e =
     rw (left, set-at used 0 (cleared (size - (phone + 1))) v phone counted, all, more, e, append-assoc)
 
 -- there is room for at most 65535
-pub room-most : (words : ℕ) {room total : ℕ} → room ≡ combinationRoom words → total ≤ room → total ≤ 65535
+room-most : (words total : ℕ) → total ≤ combinationRoom words → total ≤ 65535
 unfolding combinationRoom
-room-most words e h = omega arith
+room-most words total h = omega arith
 
 module _ {book : Book} {before : List ℕ} {phone : ℕ} {space ends : List ℕ} {count : ℕ}
-    (s : Added book before phone space ends count)
+    (s : PhonesAdded book before phone space ends count)
   where
-    pub noted-length : book .phones ≤ 64 → length ends ≡ 65
-    noted-length most =
+    pub noted-length : length ends ≡ 65
+    noted-length =
         let used : List ℕ = map (endOf book) (upFrom 0 phone) in
-        ap length (s .noted)
-        ∙ padded-length 65 used (omega (arith, map-upFrom-length (endOf book) 0 phone, s .high))
+        let many = map-upFrom-length (endOf book) 0 phone in
+        ap length (s .noted) ∙ padded-length 65 used (omega (arith, many, s .high, s .begins .most))
 
-    pub added-end : book .phones < phone
-        → Grown before 0 (combinations book) space count × (ends ≡ padded 65 (endsOf book))
+    pub added-end : book .phones < phone → AllAdded book before (adding.Count count) space ends
     unfolding combinations endsOf
     added-end h =
         let last : phone - 1 ≡ book .phones = omega (arith, s .high) in
-        let all : phone ≡ suc (book .phones) = omega (arith, s .high) in (
-          subst (λ (n : ℕ). Grown before 0 (ofPhones book n) space count) last (s .grown),
-          s .noted ∙ ap (λ (n : ℕ). padded 65 (map (endOf book) (upFrom 0 n))) all,
-        )
+        let all : phone ≡ suc (book .phones) = omega (arith, s .high) in record {
+          grown =
+              subst (λ (n : ℕ). Added before 0 (ofPhones book n) (adding.Count count) space)
+              last (s .grown);
+          noted = λ found e. s .noted ∙ ap (λ (n : ℕ). padded 65 (map (endOf book) (upFrom 0 n))) all;
+        }
 
-    module _ (e : before ≡ cleared (length before)) (narrow : book .half ≤ 3) (few : book .states ≤ 3) where
-      pub added-holding : Holding space count
-      added-holding =
-          grown-holding (holding-none before e) (s .grown) (of-sized book narrow few (phone - 1)) (s .roomy)
+    so-far-sized : Sized (ofPhones book (phone - 1))
+    so-far-sized = of-sized book (s .begins .narrow) (s .begins .few) (phone - 1)
 
-      module _ {after : List ℕ} {total room : ℕ} (g : Grown space count (combinationsOf book phone) after total)
-          (r : room ≡ combinationRoom (length after))
-        where
-          so-far : Grown before 0 (ofPhones book phone) after total
-          so-far =
-              subst (λ (l : List Combination). Grown before 0 l after total) (of-more book phone (s .low))
-              (grown-then (holding-none before e) (s .grown) (of-sized book narrow few (phone - 1)) (s .roomy)
-              g)
+    pub added-holding : Holding space count
+    added-holding = grown-holding (s .begins .none) (ofPhones book (phone - 1)) (s .grown) refl so-far-sized
 
-          room-is : room ≡ combinationRoom (length before)
-          room-is = r ∙ ap combinationRoom (so-far .sized)
+    -- the combinations of one phone more
+    module _ (within : phone ≤ book .phones) {after : List ℕ} {answer : Adding}
+        (g : Added space count (combinationsOf book phone) answer after)
+      where
+        so-far : Added before 0 (ofPhones book phone) answer after
+        so-far =
+            subst (λ (l : List Combination). Added before 0 l answer after)
+            (of-more book phone (s .low))
+            (grown-then (s .begins .none) (ofPhones book (phone - 1)) (s .grown) refl so-far-sized _ g)
 
-          pub added-over : phone ≤ book .phones → room < total → Grown before 0 (combinations book) after total
-          added-over high over =
-              subst (λ (l : List Combination). Grown before 0 l after total) (of-all book phone high)
-              (grown-over (holding-none before e) so-far _ (omega (arith, room-is)))
+        pub added-over : {fault : Fault} → answer ≡ adding.Stop fault
+            → AllAdded book before (adding.Stop fault) after ends
+        added-over {fault} stops =
+            let all : Added before 0 (combinations book) (adding.Stop fault) after =
+            subst (λ (l : List Combination). Added before 0 l (adding.Stop fault) after)
+            (of-all book phone within) (grown-over (s .begins .none) (ofPhones book phone) so-far stops _) in
+            let refused = grown-refused (s .begins .none) (combinations book) all refl in record {
+              grown = all;
+              noted = λ found k. absurd (refused-not-answered _ fault 0 found refused k);
+            }
 
-          -- with room, all are counted
-          total-is : total ≤ room → total ≡ endOf book phone
+        module _ {total : ℕ} (counts : answer ≡ adding.Count total) where
+          pub added-few : total ≤ 65535
+          added-few =
+              room-most (length before) total
+              (grown-within (s .begins .none) (ofPhones book phone) so-far counts)
+
+          -- all are counted
+          total-is : total ≡ endOf book phone
           unfolding endOf
-          total-is fits = counted-all so-far (omega (arith, room-is))
+          total-is = omega (arith, grown-all (s .begins .none) (ofPhones book phone) so-far counts)
 
-          pub added-more : phone ≤ book .phones → book .phones ≤ 64 → total ≤ room
-              → {at v : ℕ} → at ≡ phone → v ≡ total
-              → Added book before (phone + 1) after (set ends at v) total
-          added-more high most fits {at} {v} p q =
-              let last : phone + 1 - 1 ≡ phone = omega arith in
-              record {
+          pub added-more : {at v : ℕ} → at ≡ phone → v ≡ total
+              → PhonesAdded book before (phone + 1) after (set ends at v) total
+          added-more {at} {v} p q =
+              let last : phone + 1 - 1 ≡ phone = omega arith in record {
+                begins = s .begins;
                 low = omega arith;
                 high = omega arith;
-                grown = rw last so-far;
-                roomy = omega (arith, room-is);
+                grown =
+                    rw last
+                    (subst (λ (a : Adding). Added before 0 (ofPhones book phone) a after)
+                    counts so-far);
                 noted =
                     rw (s .noted, p, q)
-                    (noted-more (endOf book) 65 phone total (omega arith) (total-is fits));
+                    (noted-more (endOf book) 65 phone total (omega (arith, s .begins .most)) total-is);
               }

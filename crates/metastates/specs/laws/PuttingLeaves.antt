@@ -25,7 +25,7 @@ recordAt table node = take leafSize (drop (leafSize * node) table)
 -- a leaf of a table of so many nodes
 pub record InTable (nodes : ℕ) (l : Leaf) : Type 0 where
   pub listed : l .node < nodes
-  pub narrow : length (l .matrix) ≤ 7
+  pub narrow : length (l .carried) ≤ 7
 
 -- a table of so many nodes
 abbrev pub Sized : (nodes : ℕ) → (table : List ℕ) → Type 0
@@ -46,7 +46,7 @@ module _ (nodes : ℕ) (table : List ℕ) (sized : Sized nodes table) (l : Leaf)
   start = leafSize * l .node
 
   abbrev new : List ℕ
-  new = 1 ∷ matrixWords (l .matrix)
+  new = 1 ∷ matrixWords (l .carried)
 
   abbrev before : List ℕ
   before = take start table
@@ -61,7 +61,7 @@ module _ (nodes : ℕ) (table : List ℕ) (sized : Sized nodes table) (l : Leaf)
   before-length = length-take-le start table (omega (arith, inside))
 
   new-length : length new ≡ leafSize
-  new-length = omega (arith, words-length (l .matrix) (f .narrow))
+  new-length = omega (arith, words-length (l .carried) (f .narrow))
 
   both-length : length (before ++ new) ≡ start + leafSize
   both-length = length-append before new ∙ omega (arith, before-length, new-length)
@@ -72,7 +72,7 @@ module _ (nodes : ℕ) (table : List ℕ) (sized : Sized nodes table) (l : Leaf)
       length-append (before ++ new) after
       ∙ omega (arith, both-length, length-drop (start + leafSize) table, inside)
 
-  put-own : recordAt (putLeaf table l) (l .node) ≡ 1 ∷ matrixWords (l .matrix)
+  put-own : recordAt (putLeaf table l) (l .node) ≡ 1 ∷ matrixWords (l .carried)
   unfolding putLeaf
   put-own =
       rw (append-assoc before new after, drop-at before (new ++ after) start before-length)
@@ -141,7 +141,7 @@ module _ (nodes : ℕ) where
   -- the node of one of them
   pub all-own : (table : List ℕ) → Sized nodes table → (leaves : List Leaf) → AllInTable nodes leaves
       → distinct (leafNodes leaves) → (l : Leaf) → isIn l leaves
-      → recordAt (putLeaves table leaves) (l .node) ≡ 1 ∷ matrixWords (l .matrix)
+      → recordAt (putLeaves table leaves) (l .node) ≡ 1 ∷ matrixWords (l .carried)
   unfolding putLeaves
   all-own table s [] f u l i = absurd i
   all-own table s (x ∷ leaves) f u l (inl e) =

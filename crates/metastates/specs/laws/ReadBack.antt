@@ -15,7 +15,7 @@ use Rattle.definitions.specs.laws.Members.{map-back}
 use Rattle.definitions.specs.laws.Matrices.{root-length}
 use Rattle.definitions.specs.laws.SevenWords.{words-length, words-take}
 use Rattle.definitions.specs.laws.Records.{written-all}
-use Rattle.definitions.specs.laws.Leaves.{leaf-inside}
+use Rattle.definitions.specs.laws.LeafMatrices.{leaf-inside}
 use Rattle.matrix.specs.Shapes.{widthOf}
 use Rattle.metastates.specs.Leaves.{leafSize, leafWords, leavesFor, leafIn, leavesIn, IsList}
 use Rattle.metastates.specs.laws.LeafLists.{Wide}
@@ -23,14 +23,14 @@ use Rattle.metastates.specs.laws.LeafLists.{Wide}
 -- ---- leaves of one width
 
 module _ (width : ℕ) where
-  leaf-back : (l : Leaf) → length (l .matrix) ≡ width → leafIn width (leafWords l) ≡ l
+  leaf-back : (l : Leaf) → length (l .carried) ≡ width → leafIn width (leafWords l) ≡ l
   unfolding leafIn leafWords
-  leaf-back l e = rw (words-take (l .matrix) e)
+  leaf-back l e = rw (words-take (l .carried) e)
 
   module _ (narrow : width ≤ 7) where
-    leaf-sized : (l : Leaf) → length (l .matrix) ≡ width → length (leafWords l) ≡ leafSize
+    leaf-sized : (l : Leaf) → length (l .carried) ≡ width → length (leafWords l) ≡ leafSize
     unfolding leafWords
-    leaf-sized l e = ap suc (words-length (l .matrix) (omega (arith, e)))
+    leaf-sized l e = ap suc (words-length (l .carried) (omega (arith, e)))
 
     -- read back they are the leaves
     pub read-back : (leaves : List Leaf) → Wide width leaves

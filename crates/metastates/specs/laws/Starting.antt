@@ -1,6 +1,6 @@
 -- Laws about the choice that a phone starts with: no leaf, and the matrix that its roots carry. It may be made,
 -- and the combinations that begin with it are the phone's.
-use mathlib.Core.Path.{_≡_, refl, subst}
+use mathlib.Core.Path.{_≡_, refl}
 use mathlib.Core.List.{List, [], _∷_}
 use Prim.Native.Nat.{ℕ, _≤_, _<_}
 use native.Mathlib.Omega.{arith}
@@ -11,14 +11,14 @@ use Rattle.definitions.specs.Lists.{_!_, concatMap, padded}
 use Rattle.definitions.specs.PhoneSets.{has}
 use Rattle.definitions.specs.Matrices.{Matrix, matrixWords, rootMatrix, valid}
 use Rattle.definitions.specs.Tables.{Book}
-use Rattle.definitions.specs.Combinations.{Leaf, Combination, combinationsOf}
+use Rattle.definitions.specs.Combinations.{Leaf, combinationsOf}
 use Rattle.definitions.specs.laws.Tests.{by-test}
 use Rattle.definitions.specs.laws.PhoneSets.{has-alone, has-all}
 use Rattle.definitions.specs.laws.Matrices.{root-column, root-other, root-length, valid-columns}
 use Rattle.matrix.specs.laws.Widths.{matrix-back, has-width}
 use Rattle.matrix.specs.declared.Matrix as shaped
 use Rattle.metastates.specs.declared.Choice.{Choice}
-use Rattle.metastates.specs.Choices.{Grown, Chosen, chosenFrom}
+use Rattle.metastates.specs.Choices.{Chosen, chosenFrom}
 use Rattle.matrix.specs.Shapes.{widthOf}
 use Rattle.metastates.specs.Leaves.{leafWords, leavesFor, leavesIn, IsList}
 use Rattle.metastates.specs.laws.ReadBack.{read-back, is-list, for-wide, trees-for}
@@ -83,14 +83,8 @@ module _ (book : Book) (phone width : ℕ) (e : width ≡ widthOf (book .half)) 
           (b : second ≡ concatMap leafWords (leavesFor book phone 2))
           (c : third ≡ concatMap leafWords (leavesFor book phone 3))
         where
-          start-all : chosenFrom width (book .states) first second third (startOf phone top)
+          pub start-all : chosenFrom width (book .states) first second third (startOf phone top)
               ≡ combinationsOf book phone
           unfolding combinationsOf
           start-all =
               rw (top-met, list-leaves 1 a, list-leaves 2 b, list-leaves 3 c, trees-for book phone some few)
-
-          pub start-grown : {before after : List ℕ} {count total : ℕ}
-              → Grown before count (chosenFrom width (book .states) first second third (startOf phone top))
-              after total → Grown before count (combinationsOf book phone) after total
-          start-grown {before} {after} {count} {total} g =
-              subst (λ (l : List Combination). Grown before count l after total) start-all g

@@ -45,7 +45,7 @@ below-in-table book forward zero m node h k l i = absurd i
 below-in-table book forward (suc levels) m node h k l i =
     by-node (book .nodes) node
     (λ model e.
-    let same = of-single (record { node = node; matrix = m }) l
+    let same = of-single (record { node = node; carried = m }) l
     (rw (below-leaf book levels m node model e) at i) in
     subst (λ x. InTable (length (book .nodes)) x) (sym same) (record { listed = h; narrow = k }))
     (λ asked yesNode noNode e.
@@ -68,7 +68,7 @@ below-after book forward zero m node l i = absurd i
 below-after book forward (suc levels) m node l i =
     by-node (book .nodes) node
     (λ model e.
-    let same = of-single (record { node = node; matrix = m }) l
+    let same = of-single (record { node = node; carried = m }) l
     (rw (below-leaf book levels m node model e) at i) in
     rw same (omega arith))
     (λ asked yesNode noNode e.

@@ -94,7 +94,7 @@ module _ (header : Header) (nodes classes : List ℕ) where
       some-level : header .nodes ≡ suc (header .nodes - 1)
       some-level = omega arith
 
-      leaf-below : (m : Matrix) → (x .kind ≡ 1 → ⊥) → leaves m node ≡ record { node = node; matrix = m } ∷ []
+      leaf-below : (m : Matrix) → (x .kind ≡ 1 → ⊥) → leaves m node ≡ record { node = node; carried = m } ∷ []
       unfolding treeNode bookWith
       leaf-below m other =
           ap (λ (n : ℕ). leavesBelow n book m node) some-level

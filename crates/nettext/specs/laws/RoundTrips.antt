@@ -13,7 +13,8 @@ use lib.Seq.{take-append-seam}
 use Rattle.definitions.specs.declared.Counts.{Counts}
 use Rattle.definitions.specs.declared.Header.{Header}
 use Rattle.definitions.specs.Building.{Space, build, networkIn, countsIn, buffersLeft}
-use Rattle.definitions.specs.Connecting.{Built, finished, stopped}
+use Rattle.definitions.specs.Growing.{finished, stopped, grownIn}
+use Rattle.definitions.specs.Connecting.{Built}
 use Rattle.definitions.specs.Faults.{Outcome, answered, refused, answerLeft}
 use Rattle.definitions.specs.Lists.{padded}
 use Rattle.definitions.specs.NetworkText.{NetworkLine, countsOf, readNetwork, arcsLeft, networkKnown}
@@ -128,7 +129,7 @@ module _ (header : Header) (tables : Tables) (space : Space) (limit : ℕ) (buil
 totals-built : (states : ℕ) (o : Outcome Built) (totals : Totals)
     → (buildOf states o ≡ builds.Finished totals) ⊎ (buildOf states o ≡ builds.Stopped totals)
     → (built : Built) × (o ≡ answered built) × (countsIn states (networkIn built) ≡ totals .counts)
-unfolding buildOf totalsOf networkIn
+unfolding buildOf totalsOf grownIn
 totals-built states (answered (finished turns net)) totals (inl e) = (finished turns net, refl, cc)
 totals-built states (answered (finished turns net)) totals (inr e) =
     let z : _≡_ {A = ℕ} 0 1 = cc in absurd (omega arith)

@@ -3,50 +3,56 @@ use mathlib.Core.Path.{_≡_, refl, ap, _∙_}
 use mathlib.Core.List.{List, [], _∷_, _++_}
 use Prim.Native.Nat.{ℕ, _+_, _*_, _<_}
 use native.Mathlib.Omega.{arith}
-use lib.ListN.{length, take, drop}
+use lib.ListN.{take, drop}
 use Rattle.definitions.specs.declared.Header.{Header}
 use Rattle.definitions.specs.Lists.{_!_}
 use Rattle.definitions.specs.BookReading.{nodeSize}
 use Rattle.definitions.specs.Tables.{nodeOf}
-use Rattle.definitions.specs.Combinations.{combinationSize}
 use Rattle.definitions.specs.Metastates.{Metastate, phoneOf, combinationOf, modelsOf}
 use Rattle.definitions.specs.Arcs.{arcSize, arcWords, firstState}
 use Rattle.definitions.specs.Connecting.{arcInto}
 use Rattle.definitions.specs.laws.Known.{header-ranges}
 use Rattle.tables.specs.Usable.{bookWith}
 use Rattle.lines.specs.Putting.{putAt}
-use Rattle.network.specs.Combinations.{combinationsIn, nodesBook, Usable, Modelled}
+use Rattle.network.specs.Combinations.{combinationsIn, nodesBook, Usable}
+use Rattle.network.specs.RecordWords.{phoneWord, modelWord}
+use Rattle.network.specs.Underway.{Placed}
 use Rattle.network.specs.Steps.{intoArc}
 use Rattle.network.specs.laws.RecordWords.{phone-word, leaf-word, model-word}
 
-module _ (header : Header) (words : List ℕ) (usable : Usable header words) (number : ℕ)
-    (h : number < length (combinationsIn header words)) (nodes : List ℕ)
-    (modelled : Modelled header nodes words) where
-  abbrev itself : Metastate
-  itself = record { number = number; matrix = [] }
+module _ {header : Header} {nodes words : List ℕ} {number place : ℕ}
+    (p : Placed header nodes words number place)
+  where
+    usable : Usable header words
+    usable = p .connectable .usable
 
-  pub first-state : 0 < header .states
-  first-state = omega (arith, header-ranges header (usable .header-known) .states-range .low)
+    abbrev itself : Metastate
+    itself = record { number = number; carried = [] }
 
-  module _ (from place : ℕ) {states model phone : ℕ} (e : states ≡ header .states)
-      (f : model ≡ nodeOf (drop (nodeSize * (words ! (combinationSize * number + 1 + 0))) nodes) .value)
-      (g : phone ≡ words ! (combinationSize * number)) where
-    into-words : from ∷ (2 + place * states) ∷ model ∷ phone ∷ []
-        ≡ arcWords (intoArc header nodes words from number place)
-    unfolding arcInto arcWords firstState bookWith phoneOf combinationOf
-    into-words =
-        let first : model ≡ modelsOf (nodesBook header nodes) (combinationsIn header words) itself ! 0 =
-        f
-        ∙ ap (λ (k : ℕ). nodeOf (drop (nodeSize * k) nodes) .value)
-        (leaf-word header words usable number h 0 (omega arith))
-        ∙ model-word header words usable number h nodes modelled itself refl 0 first-state in
-        let own = g ∙ phone-word header words usable number h in
-        rw (e, first, own)
+    pub first-state : 0 < header .states
+    first-state = omega (arith, header-ranges header (usable .header-known) .states-range .low)
 
-    pub into-put : (n : ℕ) (arcs : List ℕ) {arcs′ : List ℕ}
-        → arcs′ ≡ putAt (arcSize * n) (from ∷ (2 + place * states) ∷ model ∷ phone ∷ []) arcs
-        → arcs′ ≡ take (arcSize * n) arcs ++ arcWords (intoArc header nodes words from number place)
-        ++ drop (arcSize * n + arcSize) arcs
-    unfolding putAt
-    into-put n arcs p =
-        p ∙ ap (λ (l : List ℕ). take (arcSize * n) arcs ++ l ++ drop (arcSize * n + arcSize) arcs) into-words
+    module _ (from : ℕ) {states model phone : ℕ} (e : states ≡ header .states)
+        (f : model ≡ modelWord nodes words number 0)
+        (g : phone ≡ phoneWord words number) where
+      into-words : from ∷ (2 + place * states) ∷ model ∷ phone ∷ []
+          ≡ arcWords (intoArc header nodes words from number place)
+      unfolding arcInto arcWords firstState bookWith phoneOf combinationOf
+      into-words =
+          let first : model ≡ modelsOf (nodesBook header nodes) (combinationsIn header words) itself ! 0 =
+          f
+          ∙ ap (λ (k : ℕ). nodeOf (drop (nodeSize * k) nodes) .value)
+          (leaf-word header words usable number (p .listed) 0 (omega arith))
+          ∙ model-word header words usable number (p .listed) nodes (p .connectable .modelled) itself refl 0
+          first-state in
+          let own = g ∙ phone-word header words usable number (p .listed) in
+          rw (e, first, own)
+
+      pub into-put : (n : ℕ) (arcs : List ℕ) {arcs′ : List ℕ}
+          → arcs′ ≡ putAt (arcSize * n) (from ∷ (2 + place * states) ∷ model ∷ phone ∷ []) arcs
+          → arcs′ ≡ take (arcSize * n) arcs ++ arcWords (intoArc header nodes words from number place)
+          ++ drop (arcSize * n + arcSize) arcs
+      unfolding putAt
+      into-put n arcs e =
+          e ∙ ap (λ (l : List ℕ). take (arcSize * n) arcs ++ l ++ drop (arcSize * n + arcSize) arcs)
+          into-words

@@ -12,7 +12,7 @@ use Rattle.definitions.specs.Arcs.{arcsIn}
 use Rattle.definitions.specs.Matrices.{Matrix, matrixSize, matrixWords}
 use Rattle.definitions.specs.Combinations.{Combination}
 use Rattle.definitions.specs.Metastates.{Metastate, starts, followersFrom}
-use Rattle.definitions.specs.Connecting.{Network, startEvents, noNetwork, performAll}
+use Rattle.definitions.specs.Connecting.{startEvents, Network, noNetwork}
 use Rattle.definitions.specs.laws.Known.{header-ranges}
 use Rattle.tables.specs.Usable.{bookWith}
 use Rattle.matrix.specs.laws.Shapes.{around-length, around-words}
@@ -20,9 +20,10 @@ use Rattle.network.specs.declared.Sizes.{Sizes}
 use Rattle.network.specs.declared.Step.{Step}
 use Rattle.matrix.specs.Shapes.{widthOf, matrixIn, HasWidth, columnsAround}
 use Rattle.matrix.specs.laws.Widths.{matrix-back, has-width}
-use Rattle.network.specs.Combinations.{combinationsIn, nodesBook, Usable}
-use Rattle.network.specs.Networks.{metastatesIn, networkHeld, roomOf, Holds}
-use Rattle.network.specs.Steps.{AfterStep, enteringAll}
+use Rattle.network.specs.Combinations.{combinationsIn, Usable}
+use Rattle.network.specs.Networks.{networkHeld, Holds}
+use Rattle.network.specs.Outcomes.{enteringAll, followedFrom, startedIn}
+use Rattle.network.specs.Steps.{StepLeft}
 use Rattle.network.specs.laws.Starting.{beforeStart, starts-follow}
 
 -- no records hold no network
@@ -30,7 +31,7 @@ abbrev none : Sizes
 none = record { metastates = 0; arcs = 0 }
 
 none-held : (half : ℕ) (metastates arcs : List ℕ) → networkHeld half none metastates arcs ≡ noNetwork
-unfolding metastatesIn arcsIn records
+unfolding arcsIn records
 none-held half metastates arcs = refl
 
 pub holds-none : {half count : ℕ} {metastates arcs chains : List ℕ}
@@ -63,19 +64,17 @@ module _ {header : Header} {combinations : List ℕ} (usable : Usable header com
     abbrev cs : List Combination
     cs = combinationsIn header combinations
 
-    pub started : (nodes : List ℕ) {metastates arcs metastates′ arcs′ chains′ : List ℕ} {answer : Step}
-        → AfterStep (header .half) (length cs) metastates arcs
-        (enteringAll header nodes combinations 0 metastates arcs (networkHeld (header .half) none metastates arcs)
-        (followersFrom (matrixIn (header .half) columns) 0 cs))
+    pub started : (nodes : List ℕ) {metastates arcs chains metastates′ arcs′ chains′ : List ℕ} {answer : Step}
+        → StepLeft header combinations metastates arcs chains
+        (followedFrom header nodes combinations metastates arcs none 0 columns)
         answer metastates′ arcs′ chains′
-        → AfterStep (header .half) (length cs) metastates arcs
-        (performAll (nodesBook header nodes) cs (roomOf metastates arcs) noNetwork
-        (startEvents (nodesBook header nodes) cs))
-        answer metastates′ arcs′ chains′
-    unfolding startEvents starts bookWith metastatesIn arcsIn records
-    started nodes {metastates} {arcs} {metastates′} {arcs′} {chains′} {answer} left =
+        → StepLeft header combinations metastates arcs chains
+        (startedIn header nodes combinations metastates arcs) answer metastates′ arcs′ chains′
+    unfolding startEvents starts bookWith arcsIn records
+    started nodes {metastates} {arcs} {chains} {metastates′} {arcs′} {chains′} {answer} left =
         subst (λ (l : List Metastate).
-        AfterStep (header .half) (length cs) metastates arcs
-        (enteringAll header nodes combinations 0 metastates arcs noNetwork l) answer metastates′ arcs′ chains′)
+        StepLeft header combinations metastates arcs chains
+        (enteringAll header nodes combinations 0 metastates arcs noNetwork l)
+        answer metastates′ arcs′ chains′)
         (ap (λ (m : Matrix). followersFrom m 0 cs) columns-is
         ∙ sym (starts-follow header cs (usable .each))) left

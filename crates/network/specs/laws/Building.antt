@@ -1,5 +1,6 @@
--- Laws about the build as a whole, one for each answer of the code: combinations connected in lent space, which
--- is cleared where there is no room, and the build from tables, refused by combining or left to connecting.
+-- Laws about the build as a whole, one for each answer of the code: combinations connected in lent space,
+-- which is cleared where there is no room, and the build from tables, refused by combining or left to
+-- connecting.
 use mathlib.Core.Path.{_≡_, refl, sym, ap, ap₂, _∙_, subst}
 use mathlib.Core.List.{List, [], _∷_}
 use Prim.Native.Nat.{ℕ, _*_, _≤_}
@@ -17,7 +18,8 @@ use Rattle.definitions.specs.Combinations.{Combination, combinations, combinati
 use Rattle.definitions.specs.Combinations.{combinationRoom, combine, combinationSpace}
 use Rattle.definitions.specs.Arcs.{arcWords}
 use Rattle.definitions.specs.Metastates.{metastateWords}
-use Rattle.definitions.specs.Connecting.{Network, Built, finished, stopped, connect}
+use Rattle.definitions.specs.Growing.{finished, stopped}
+use Rattle.definitions.specs.Connecting.{rulesOf, Network, Built, connect}
 use Rattle.definitions.specs.Building.{Space, roomIn, build, networkIn, buffersOf, noBuffers, buffersLeft}
 use Rattle.definitions.specs.laws.Judging.{passes-at, judge-answered}
 use Rattle.definitions.specs.laws.Lists.{padded-length, padded-take, clear-length, clear-itself}
@@ -29,8 +31,10 @@ use Rattle.network.specs.declared.Totals.{Totals}
 use Rattle.network.specs.declared.Build.{Build}
 use Rattle.network.specs.declared.Build.the-variants as build
 use Rattle.network.specs.Answers.{buildOf, lentSpace, lentBuffers}
-use Rattle.network.specs.Combinations.{combinationsIn, nodesBook, Usable, Modelled, Ending}
+use Rattle.network.specs.Combinations.{combinationsIn, nodesBook, Modelled}
 use Rattle.network.specs.Networks.{roomOf}
+use Rattle.network.specs.Workspace.{Ready}
+use Rattle.network.specs.Outcomes.{connectedIn}
 use Rattle.network.specs.Steps.{Connected, BuiltIn}
 use Rattle.network.specs.laws.Nodes.{connect-nodes}
 use Rattle.network.specs.laws.UsableCombinations.{combinations-length, combinations-back}
@@ -227,18 +231,20 @@ module _ (header : Header) (nodes classes roots space : List ℕ) where
 
         -- so connecting may go on
         pub connect-ready : (combinationSize * count ≤ length space₁)
-            × Usable header (take (combinationSize * count) space₁)
-            × Modelled header nodes (take (combinationSize * count) space₁)
-            × Ending header (take (combinationSize * count) space₁) ends
-            × (metastates₁ ≡ cleared (length metastates₁)) × (arcs₁ ≡ cleared (length arcs₁))
+            × Ready header nodes (take (combinationSize * count) space₁) ends metastates₁ arcs₁
         connect-ready = (
           omega (arith, space-length, words-length, within),
-          rw used (combinations-usable header nodes classes roots (c .known) few),
-          subst (Modelled header nodes) (sym used)
-              (combinations-modelled header nodes classes roots (c .known)),
-          rw (used, ends-are) (combinations-ending header nodes classes roots (c .known)),
-          clear-itself metastates metastates₁ m,
-          clear-itself arcs arcs₁ a,
+          record {
+            connectable = record {
+              usable = rw used (combinations-usable header nodes classes roots (c .known) few);
+              modelled =
+                  subst (Modelled header nodes) (sym used)
+                  (combinations-modelled header nodes classes roots (c .known));
+            };
+            ending = rw (used, ends-are) (combinations-ending header nodes classes roots (c .known));
+            metastates-clear = clear-itself metastates metastates₁ m;
+            arcs-clear = clear-itself arcs arcs₁ a;
+          },
         )
 
         room-is : roomOf metastates₁ arcs₁ ≡ roomIn lent
@@ -253,15 +259,15 @@ module _ (header : Header) (nodes classes roots space : List ℕ) where
         module _ (limit : ℕ) where
           abbrev connected : Outcome Built
           connected =
-              connect (nodesBook header nodes) (combinationsIn header (take (combinationSize * count) space₁))
-              (roomOf metastates₁ arcs₁) limit
+              connectedIn header nodes (take (combinationSize * count) space₁) metastates₁ arcs₁ limit
 
           built-is : building limit ≡ connected
           unfolding build andThen
           built-is =
-              ap (λ o. andThen o (λ cs. connect book cs (roomIn lent) limit)) (c .found-is)
+              ap (λ o. andThen o (λ cs. connect (rulesOf book cs) (roomIn lent) limit)) (c .found-is)
               ∙ connect-nodes header nodes classes roots found (roomIn lent) limit
-              ∙ sym (ap₂ (λ cs room. connect (nodesBook header nodes) cs room limit) found-back room-is)
+              ∙ sym
+              (ap₂ (λ cs room. connect (rulesOf (nodesBook header nodes) cs) room limit) found-back room-is)
 
           module _ {own : Build} {space₂ metastates₂ arcs₂ : List ℕ}
               (b : BuiltIn (header .states) space₁ metastates₁ arcs₁ connected own space₂ metastates₂ arcs₂)
@@ -273,7 +279,7 @@ module _ (header : Header) (nodes classes roots space : List ℕ) where
                   let net : Network = networkIn built in
                   buffers-equal (b .kept built q ∙ space-is)
                   (b .metastate-words built q
-                  ∙ ap (λ (n : ℕ). padded n (concatMap metastateWords (net .metastates)))
+                  ∙ ap (λ (n : ℕ). padded n (concatMap metastateWords (net .table)))
                   (clear-length metastates metastates₁ m))
                   (b .arc-words built q
                   ∙ ap (λ (n : ℕ). padded n (concatMap arcWords (net .arcs))) (clear-length arcs arcs₁ a))
@@ -297,7 +303,7 @@ module _ (header : Header) (nodes classes roots space : List ℕ) where
       combine-returns limit r k =
           let refuses : combining ≡ refused r = turned-down e r k in
           let none : building limit ≡ refused r =
-          ap (λ o. andThen o (λ cs. connect book cs (roomIn lent) limit)) refuses in (
+          ap (λ o. andThen o (λ cs. connect (rulesOf book cs) (roomIn lent) limit)) refuses in (
             sym (ap (buildOf (header .states)) none),
             buffers-equal (g ∙ ap (combinationSpace (length space)) refuses) m a
                 ∙ sym (ap (buffersLeft book lent) none),

@@ -1,7 +1,9 @@
--- Laws about connecting: cleared words hold no network; then the start and the turns, or a refused start.
+-- Laws about connecting: cleared words hold no network and are words to work with; then the start and the
+-- turns, or a refused start.
 use mathlib.Core.Path.{_≡_, sym, ap, _∙_, subst}
 use mathlib.Core.List.{List}
 use Prim.Native.Nat.{ℕ, _/_, _≤_, _<_}
+use native.Mathlib.Omega.{arith}
 use lib.ListN.{length, length-replicate}
 use Rattle.definitions.specs.declared.Header.{Header}
 use Rattle.definitions.specs.declared.Fault.{Fault}
@@ -12,8 +14,8 @@ use Rattle.definitions.specs.Combinations.{Combination}
 use Rattle.definitions.specs.Arcs.{arcWords}
 use Rattle.definitions.specs.Metastates.{metastateWords}
 use Rattle.definitions.specs.Building.{roomIn, networkIn}
-use Rattle.definitions.specs.Connecting.{Network, Room, startEvents, noNetwork, performAll, turnsFrom}
-use Rattle.definitions.specs.Connecting.{connect}
+use Rattle.definitions.specs.Growing.{Room, turnsFrom, grow}
+use Rattle.definitions.specs.Connecting.{rulesOf, startEvents, Network, noNetwork, machineOf}
 use Rattle.definitions.specs.laws.RefusalLines.{performs-line}
 use Rattle.network.specs.declared.Sizes.{Sizes}
 use Rattle.network.specs.declared.Step.{Step}
@@ -24,20 +26,39 @@ use Rattle.network.specs.Answers.{buildOf}
 use Rattle.network.specs.Chains.{headsIn}
 use Rattle.network.specs.Combinations.{combinationsIn, nodesBook}
 use Rattle.network.specs.Networks.{networkHeld, metastateRoom, roomOf, Holds}
-use Rattle.network.specs.Steps.{AfterStep, Connected}
+use Rattle.network.specs.Indexing.{endsSize, farthest}
+use Rattle.network.specs.Filling.{Fillable, Filled}
+use Rattle.network.specs.Spans.{spanSize}
+use Rattle.network.specs.Underway.{Startable, BetweenTurns}
+use Rattle.network.specs.Workspace.{Ready, Workspace}
+use Rattle.network.specs.Outcomes.{startedIn, turnedFrom, connectedIn}
+use Rattle.network.specs.Steps.{AfterStep, StepLeft, Connected}
+use Rattle.network.specs.laws.RecordWords.{combinations-length}
 use Rattle.network.specs.laws.Steps.{step-stop}
 use Rattle.network.specs.laws.HeldBack.{held-empty}
+use Rattle.network.specs.laws.Followers.{narrow}
+use Rattle.network.specs.laws.Filling.{indexed}
+use Rattle.network.specs.laws.Spans.{no-spans-in}
 use Rattle.network.specs.laws.Outcomes.{next-answered, refused-left}
 
--- cleared words are words for chains
-pub cleared-chains : (size : ℕ) (metastates : List ℕ) → metastateRoom metastates < size / 2
-    → (cleared size ≡ cleared (length (cleared size))) × (metastateRoom metastates < headsIn (cleared size))
-cleared-chains size metastates h =
-    let e : length (cleared size) ≡ size = length-replicate {A = ℕ} size 0 in
-    (ap (λ (n : ℕ). cleared n) (sym e), subst (λ (n : ℕ). metastateRoom metastates < n / 2) (sym e) h)
+-- cleared words are words to work with
+pub cleared-workspace : {metastates : List ℕ} (chains spans index : ℕ) → metastateRoom metastates < chains / 2
+    → spanSize ≤ spans → endsSize ≤ index → index ≤ farthest
+    → Workspace metastates (cleared chains) (cleared spans) (cleared index)
+cleared-workspace {metastates} chains spans index heads slots room small =
+    let sized : (size : ℕ) → length (cleared size) ≡ size = λ size. length-replicate {A = ℕ} size 0 in
+    record {
+      chains-clear = ap (λ (n : ℕ). cleared n) (sym (sized chains));
+      heads = subst (λ (n : ℕ). metastateRoom metastates < n / 2) (sym (sized chains)) heads;
+      slots = subst (λ (n : ℕ). spanSize ≤ n) (sym (sized spans)) slots;
+      spans-clear = ap (λ (n : ℕ). cleared n) (sym (sized spans));
+      ends-room = omega (arith, sized index, room);
+      index-small = omega (arith, sized index, small);
+    }
 
-pub cleared-hold : {half count : ℕ} {metastates arcs chains : List ℕ} → metastates ≡ cleared (length metastates)
-    → arcs ≡ cleared (length arcs) → chains ≡ cleared (length chains) → metastateRoom metastates < headsIn chains
+cleared-hold : {half count : ℕ} {metastates arcs chains : List ℕ} → metastates ≡ cleared (length metastates)
+    → arcs ≡ cleared (length arcs) → chains ≡ cleared (length chains)
+    → metastateRoom metastates < headsIn chains
     → Holds half count noNetwork metastates arcs chains
 cleared-hold {half} {count} {metastates} {arcs} {chains} e f g h =
     let room : metastateRoom (cleared (length metastates)) < headsIn chains =
@@ -46,13 +67,43 @@ cleared-hold {half} {count} {metastates} {arcs} {chains} e f g h =
     (subst (λ (l : List ℕ). Holds half count noNetwork (cleared (length metastates)) l chains)
     (sym f) (held-empty half count (length metastates) (length arcs) g room))
 
-module _ (header : Header) (nodes combinations : List ℕ) (few : header .half ≤ 3)
-    {metastates arcs metastates′ arcs′ chains′ : List ℕ} {answer : Step}
-    (left : AfterStep (header .half) (length (combinationsIn header combinations)) metastates arcs
-    (performAll (nodesBook header nodes) (combinationsIn header combinations) (roomOf metastates arcs)
-    noNetwork (startEvents (nodesBook header nodes) (combinationsIn header combinations)))
-    answer metastates′ arcs′ chains′)
+-- ---- the index is filled
+
+module _ {header : Header} {nodes combinations ends metastates arcs chains spans index : List ℕ}
+    (r : Ready header nodes combinations ends metastates arcs) (w : Workspace metastates chains spans index)
   where
+    pub fillable : Fillable header combinations ends index
+    fillable =
+        record {
+          header-known = r .connectable .usable .header-known;
+          few = omega (arith, r .connectable .usable .few, combinations-length header combinations);
+          ends-sized = r .ending .sized;
+          room = w .ends-room;
+        }
+
+    pub startable : {index′ : List ℕ} → Filled header combinations ends index index′
+        → Startable header nodes combinations index′ metastates arcs chains
+    startable full =
+        record {
+          searchable = record {
+            connectable = r .connectable;
+            indexed = indexed (r .connectable .usable) (r .ending) (w .ends-room) (w .index-small) full;
+          };
+          empty = cleared-hold (r .metastates-clear) (r .arcs-clear) (w .chains-clear) (w .heads);
+        }
+
+-- ---- the start, and what it answers and leaves
+
+module _ {header : Header} {nodes combinations index metastates arcs chains : List ℕ}
+    (s : Startable header nodes combinations index metastates arcs chains)
+    {metastates′ arcs′ chains′ : List ℕ} {answer : Step}
+    (after : StepLeft header combinations metastates arcs chains
+    (startedIn header nodes combinations metastates arcs) answer metastates′ arcs′ chains′)
+  where
+    left : AfterStep (header .half) (length (combinationsIn header combinations)) metastates arcs
+        (startedIn header nodes combinations metastates arcs) answer metastates′ arcs′ chains′
+    left = after .step
+
     abbrev book : Book
     book = nodesBook header nodes
 
@@ -63,7 +114,7 @@ module _ (header : Header) (nodes combinations : List ℕ) (few : header .half �
     room = roomOf metastates arcs
 
     abbrev first : Outcome Network
-    first = performAll book cs room noNetwork (startEvents book cs)
+    first = startedIn header nodes combinations metastates arcs
 
     same-room : roomOf metastates′ arcs′ ≡ room
     unfolding roomIn
@@ -76,28 +127,38 @@ module _ (header : Header) (nodes combinations : List ℕ) (few : header .half �
       begun = networkHeld (header .half) sizes metastates′ arcs′
 
       is-begun : first ≡ answered begun
-      is-begun = next-answered few left a
+      is-begun = next-answered (narrow (s .searchable .connectable .usable)) left a
 
-      pub start-holds : Holds (header .half) (length cs) begun metastates′ arcs′ chains′
-      start-holds = left .holds begun is-begun
+      -- the first turn may be taken, and no spans are noted yet
+      pub start-between : {index₀ spans : List ℕ} → Workspace metastates chains spans index₀
+          → BetweenTurns header nodes combinations index metastates′ arcs′ chains′ spans sizes
+      start-between w =
+          record {
+            searchable = s .searchable;
+            underway = left .holds begun is-begun;
+            slots = w .slots;
+            spanned = no-spans-in book cs begun (w .spans-clear);
+          }
 
       turns-are : (limit : ℕ)
-          → turnsFrom book cs (roomOf metastates′ arcs′) limit 0 begun ≡ connect book cs room limit
-      unfolding connect andThen
+          → turnedFrom header nodes combinations metastates′ arcs′ sizes limit
+          ≡ connectedIn header nodes combinations metastates arcs limit
+      unfolding grow andThen
       turns-are limit =
-          ap (λ (r : Room). turnsFrom book cs r limit 0 begun) same-room
-          ∙ ap (λ (o : Outcome Network). andThen o (λ next. turnsFrom book cs room limit 0 next))
+          ap (λ (r : Room). turnsFrom (machineOf book cs) r limit 0 begun) same-room
+          ∙ ap (λ (o : Outcome Network). andThen o (λ next. turnsFrom (machineOf book cs) room limit 0 next))
           (sym is-begun)
 
       pub connected : (limit : ℕ) {built : Build} {metastates″ arcs″ : List ℕ}
           → Connected (header .states) metastates′ arcs′
-          (turnsFrom book cs (roomOf metastates′ arcs′) limit 0 begun) built metastates″ arcs″
-          → Connected (header .states) metastates arcs (connect book cs room limit) built metastates″ arcs″
+          (turnedFrom header nodes combinations metastates′ arcs′ sizes limit) built metastates″ arcs″
+          → Connected (header .states) metastates arcs
+          (connectedIn header nodes combinations metastates arcs limit) built metastates″ arcs″
       connected limit c =
           record {
             answers = c .answers ∙ ap (buildOf (header .states)) (turns-are limit);
             metastate-words = λ built k. c .metastate-words built (turns-are limit ∙ k)
-                ∙ ap (λ (n : ℕ). padded n (concatMap metastateWords (networkIn built .metastates)))
+                ∙ ap (λ (n : ℕ). padded n (concatMap metastateWords (networkIn built .table)))
                 (left .metastates-sized);
             arc-words = λ built k. c .arc-words built (turns-are limit ∙ k)
                 ∙ ap (λ (n : ℕ). padded n (concatMap arcWords (networkIn built .arcs))) (left .arcs-sized);
@@ -108,12 +169,14 @@ module _ (header : Header) (nodes combinations : List ℕ) (few : header .half �
     -- ---- the start is refused
 
     pub start-refused : (limit : ℕ) {fault : Fault} → answer ≡ step.Stop fault
-        → Connected (header .states) metastates arcs (connect book cs room limit)
+        → Connected (header .states) metastates arcs
+        (connectedIn header nodes combinations metastates arcs limit)
         (build.Refused (record { fault = fault; line = 0 })) metastates′ arcs′
-    unfolding connect andThen
+    unfolding grow andThen
     start-refused limit {fault} a =
         let (r, is, same) = step-stop first fault (sym a ∙ left .answers) in
         refused-left (header .states) r
-        (ap (λ (o : Outcome Network). andThen o (λ next. turnsFrom book cs room limit 0 next)) is) same
-        (performs-line book cs room noNetwork (startEvents book cs) r is)
+        (ap (λ (o : Outcome Network). andThen o (λ next. turnsFrom (machineOf book cs) room limit 0 next)) is)
+        same
+        (performs-line (machineOf book cs) room noNetwork (startEvents (rulesOf book cs)) r is)
         (left .metastates-sized) (left .arcs-sized)

@@ -1,124 +1,47 @@
--- Laws about the arc from a state into a metastate: what the definition performs where the search along the
--- chain finds it and where it does not, and what each answer of the code leaves.
+-- Laws about the arc from a state into a metastate: what each answer of the code leaves, by what the definition
+-- performs.
 use mathlib.Core.Path.{_≡_, refl, sym, ap, _∙_, subst}
-use mathlib.Core.List.{List, [], _∷_, _++_, map}
+use mathlib.Core.List.{List, [], _∷_, _++_}
 use mathlib.Core.Bool.{true, false}
-use mathlib.Core.Option.{Option, none, some}
 use Prim.Native.Nat.{ℕ, _+_, _-_, _*_, _≤_, _<_}
 use native.Mathlib.Omega.{arith}
-use lib.Dec.{ltb}
-use lib.ListN.{length, take, drop, getD, length-append, length-map}
-use borrow.Author.Tests.{ltb-true, lt-ltb}
+use lib.Dec.{ltb, lit<}
+use lib.ListN.{length, take, drop, length-append, length-set}
+use borrow.Author.Tests.{ltb-true}
 use Rattle.definitions.specs.declared.Fault.{Fault}
 use Rattle.definitions.specs.declared.Fault.the-variants.{Crowd, Tangle}
 use Rattle.definitions.specs.declared.Header.{Header}
-use Rattle.definitions.specs.Faults.{Outcome, answered, refuse, andThen}
-use Rattle.definitions.specs.Lists.{_!_}
+use Rattle.definitions.specs.Faults.{Outcome, answered, refuse}
 use Rattle.definitions.specs.Tables.{Book}
 use Rattle.definitions.specs.Combinations.{Combination}
 use Rattle.definitions.specs.Metastates.{Metastate, metastateSize, metastateWords}
 use Rattle.definitions.specs.Metastates.{phoneOf, combinationOf, modelsOf}
 use Rattle.definitions.specs.Arcs.{Arc}
 use Rattle.definitions.specs.Building.{roomIn}
-use Rattle.definitions.specs.Connecting.{Network, Room, enter, perform, placeFrom, arcInto, noMetastate}
-use Rattle.definitions.specs.Connecting.{addArc, addMetastate, addBoth}
-use Rattle.definitions.specs.construction.Table.{placeOf, place-at, place-found, place-new}
+use Rattle.definitions.specs.Growing.{Machine, Room, addArc}
+use Rattle.definitions.specs.Connecting.{rulesOf, arcInto, Network, machineOf}
 use Rattle.definitions.specs.laws.Tests.{by-test}
-use Rattle.definitions.specs.laws.Judging.{refused-not-answered}
-use Rattle.definitions.specs.laws.Members.{isIn, in-at, place-of}
-use Rattle.definitions.specs.laws.Metastates.{metastates-equal}
-use Rattle.definitions.specs.laws.SevenWords.{words-same}
-use Rattle.definitions.specs.laws.Limits.{withArc, withMetastate, metastate-first}
-use Rattle.definitions.specs.laws.Lists.{map-at}
+use Rattle.definitions.specs.laws.Judging.{pass-none, refused-not-answered}
+use Rattle.definitions.specs.laws.Metastates.{metastates-told}
+use Rattle.definitions.specs.laws.Limits.{withArc, withElement}
 use Rattle.definitions.specs.laws.Known.{header-ranges}
 use Rattle.network.specs.declared.Sizes.{Sizes}
+use Rattle.network.specs.declared.Follower.{Follower}
 use Rattle.network.specs.declared.Step.{Step}
 use Rattle.network.specs.declared.Step.the-variants as step
-use Rattle.network.specs.Chains.{rowsIn, headsIn, Linked, linkedTo, Found}
-use Rattle.matrix.specs.Shapes.{widthOf, matrixIn, HasWidth}
+use Rattle.network.specs.Chains.{elementsIn, Flat, keyOf, headsIn, linkedTo, Linked, Searchable, Found}
+use Rattle.matrix.specs.Shapes.{widthOf}
 use Rattle.matrix.specs.laws.Widths.{width-taken}
-use Rattle.network.specs.Combinations.{combinationsIn, nodesBook, Usable, Modelled}
-use Rattle.network.specs.Networks.{networkHeld, sizesOf, arcRoom, metastateRoom, roomOf, Holds}
-use Rattle.network.specs.Steps.{stepOf, AfterStep, ArcAppended, ArcAnswered, intoArc, entered}
-use Rattle.network.specs.laws.HoldsMore.{held-sizes, arc-within, holds-arc, used-within, used-rows}
-use Rattle.network.specs.laws.HoldsMore.{holds-metastate}
-
--- ---- the place in the table
-
-search-known : (x : Metastate) (table : List Metastate) → isIn x table
-    → placeFrom 0 x table ≡ some (placeOf table x)
-search-known x table h = go (placeFrom 0 x table) refl
-  where
-    go : (o : Option ℕ) → placeFrom 0 x table ≡ o → o ≡ some (placeOf table x)
-    go (some place) e =
-        let found : place ≡ placeOf table x = omega (arith, place-found 0 place x table e .1) in ap some found
-    go none e = absurd (place-new 0 x table e .0 h)
-
-search-new : (x : Metastate) (table : List Metastate) → (isIn x table → ⊥) → placeFrom 0 x table ≡ none
-search-new x table n = go (placeFrom 0 x table) refl
-  where
-    go : (o : Option ℕ) → placeFrom 0 x table ≡ o → o ≡ none
-    go (some place) e = absurd (n (place-found 0 place x table e .0))
-    go none e = refl
-
--- ---- what is performed
-
-module _ (book : Book) (combinations : List Combination) (room : Room) (net : Network) (from : ℕ)
-    (x : Metastate) where
-  perform-known : (place : ℕ) → placeFrom 0 x (net .metastates) ≡ some place
-      → perform book combinations room net (enter from x)
-      ≡ addArc room (arcInto book combinations from place x) net
-  unfolding perform
-  perform-known place e = rw (perform, e)
-
-  perform-new : placeFrom 0 x (net .metastates) ≡ none
-      → perform book combinations room net (enter from x)
-      ≡ addBoth room x (arcInto book combinations from (length (net .metastates)) x) net
-  unfolding perform
-  perform-new e = rw (perform, e)
-
--- with room for the metastate, the arc is what is left to add
-then-arc : (room : Room) (net : Network) (x : Metastate) (a : Arc) → length (net .metastates) < room .metastates
-    → addBoth room x a net ≡ addArc room a (withMetastate net x)
-unfolding addBoth addMetastate andThen
-then-arc room net x a h = rw (lt-ltb (length (net .metastates)) (room .metastates) h)
-
--- ---- by what the search along the chain found
-
-module _ {half count : ℕ} {net : Network} {metastates arcs chains : List ℕ}
-    (held : Holds half count net metastates arcs chains) (x : Metastate)
-    (width : length (x .matrix) ≡ widthOf half) where
-  abbrev xs : List Metastate
-  xs = net .metastates
-
-  -- a row tells its metastate
-  same-row : (y : Metastate) → length (y .matrix) ≡ widthOf half → metastateWords y ≡ metastateWords x → y ≡ x
-  unfolding metastateWords
-  same-row y w e =
-      metastates-equal y x (ap (λ (l : List ℕ). l ! 0) e)
-      (words-same (y .matrix) (x .matrix) (w ∙ sym width) (ap (drop 1) e))
-
-  row-at : (i : ℕ) → i < length xs
-      → getD (map metastateWords xs) i [] ≡ metastateWords (getD xs i noMetastate)
-  row-at i h = map-at metastateWords xs noMetastate [] i h
-
-  found-known : {found : ℕ} → Found (map metastateWords xs) (metastateWords x) found → (found ≡ 0 → ⊥)
-      → placeFrom 0 x xs ≡ some (found - 1)
-  found-known {found} f n =
-      let (listed, row) = f .some (found - 1) (omega (arith, n)) in
-      let inside : found - 1 < length xs = omega (arith, listed, length-map xs metastateWords) in
-      let y : Metastate = getD xs (found - 1) noMetastate in
-      let member : isIn y xs = in-at xs (found - 1) noMetastate inside in
-      let same : y ≡ x = same-row y (held .widths y member) (sym (row-at (found - 1) inside) ∙ row) in
-      search-known x xs (subst (λ z. isIn z xs) same member)
-      ∙ ap some (ap (placeOf xs) (sym same) ∙ place-at xs (held .once) (found - 1) inside)
-
-  pub found-new : {found : ℕ} → Found (map metastateWords xs) (metastateWords x) found → found ≡ 0
-      → isIn x xs → ⊥
-  found-new f e member =
-      let (i, inside, same) = place-of x xs noMetastate member in
-      f .none e i (omega (arith, inside, length-map xs metastateWords))
-      (row-at i inside ∙ ap metastateWords same)
+use Rattle.network.specs.Combinations.{combinationsIn, nodesBook}
+use Rattle.network.specs.Networks.{metastateCode, networkHeld, sizesOf, arcRoom, metastateRoom}
+use Rattle.network.specs.Networks.{roomOf, Holds}
+use Rattle.network.specs.Underway.{Placed, Entering}
+use Rattle.network.specs.Outcomes.{metastateOf, entered}
+use Rattle.network.specs.Steps.{stepOf, AfterStep, StepLeft, ArcAppended, ArcAnswered, ArcAdded, intoArc}
+use Rattle.network.specs.laws.KeptBack.{used-within, used-flat, used-elements}
+use Rattle.network.specs.laws.Entered.{entered-known, entered-crowded, entered-new}
+use Rattle.network.specs.laws.HeldBack.{metastate-row}
+use Rattle.network.specs.laws.HoldsMore.{held-sizes, arc-within, holds-arc, holds-metastate}
 
 -- ---- what a step leaves
 
@@ -180,28 +103,14 @@ module _ (metastates₀ : List ℕ) {half count : ℕ} {net : Network} {metastat
 abbrev pub withOne : Sizes → Sizes
 withOne sizes = record { metastates = sizes .metastates + 1; arcs = sizes .arcs }
 
--- what is known before
-pub record Entering (header : Header) (words : List ℕ) (sizes : Sizes) (number : ℕ)
-    (columns metastates arcs chains : List ℕ) : Type 0 where
-  pub usable : Usable header words
-  pub listed : number < length (combinationsIn header words)
-  pub shaped : HasWidth (widthOf (header .half)) columns
-  pub held : Holds (header .half) (length (combinationsIn header words))
-      (networkHeld (header .half) sizes metastates arcs) metastates arcs chains
+module _ {header : Header} {nodes words metastates arcs chains : List ℕ} {sizes : Sizes} {follower : Follower}
+    (s : Entering header nodes words metastates arcs chains sizes follower) where
+  abbrev number : ℕ
+  number = follower .number
 
-pub entering : {header : Header} (nodes : List ℕ) {words : List ℕ} (sizes : Sizes) (number : ℕ)
-    {columns metastates arcs chains : List ℕ}
-    → Usable header words × Modelled header nodes words × (number < length (combinationsIn header words))
-    × HasWidth (widthOf (header .half)) columns
-    × Holds (header .half) (length (combinationsIn header words))
-    (networkHeld (header .half) sizes metastates arcs) metastates arcs chains
-    → Entering header words sizes number columns metastates arcs chains
-entering nodes sizes number (usable, modelled, listed, shaped, held) =
-    record { usable = usable; listed = listed; shaped = shaped; held = held }
+  abbrev columns : List ℕ
+  columns = follower .met .columns
 
-module _ {header : Header} {words : List ℕ} {sizes : Sizes} {number : ℕ}
-    {columns metastates arcs chains : List ℕ}
-    (s : Entering header words sizes number columns metastates arcs chains) where
   abbrev half : ℕ
   half = header .half
 
@@ -212,113 +121,148 @@ module _ {header : Header} {words : List ℕ} {sizes : Sizes} {number : ℕ}
   net = networkHeld half sizes metastates arcs
 
   abbrev x : Metastate
-  x = record { number = number; matrix = matrixIn half columns }
+  x = metastateOf half follower
 
   few : half ≤ 3
-  few = header-ranges header (s .usable .header-known) .half-range .high
+  few = header-ranges header (s .connectable .usable .header-known) .half-range .high
 
-  width : length (x .matrix) ≡ widthOf half
+  width : length (x .carried) ≡ widthOf half
   width = width-taken (omega (arith, few)) (s .shaped)
 
   row : number ∷ columns ≡ metastateWords x
-  unfolding metastateWords
-  row = ap (λ (l : List ℕ). number ∷ l) (s .shaped)
+  row = metastate-row half number columns (s .shaped)
 
   same-sizes : sizes ≡ sizesOf net
   same-sizes = sym (held-sizes half sizes metastates arcs)
 
-  places : sizes .metastates ≡ length (net .metastates)
+  places : sizes .metastates ≡ length (net .table)
   places = ap (λ (k : Sizes). k .metastates) same-sizes
 
   -- ---- what the calls ask
 
   pub enter-used : metastateSize * sizes .metastates ≤ length metastates
-  enter-used = used-within (s .held) few places
+  enter-used =
+      subst (λ (n : ℕ). metastateSize * n ≤ length metastates) (sym places) (used-within (s .underway .kept))
 
-  rows : rowsIn (take (metastateSize * sizes .metastates) metastates) ≡ map metastateWords (net .metastates)
-  rows = used-rows (s .held) few places
+  elements : elementsIn (metastateCode half) (take (metastateSize * sizes .metastates) metastates) ≡ net .table
+  elements =
+      ap (λ (n : ℕ). elementsIn (metastateCode half) (take (metastateSize * n) metastates)) places
+      ∙ used-elements (s .underway .kept) (lit< tt)
 
-  pub enter-linked : Linked (headsIn chains) chains (rowsIn (take (metastateSize * sizes .metastates) metastates))
-  enter-linked = subst (Linked (headsIn chains) chains) (sym rows) (s .held .linked)
+  pub enter-searchable
+      : Searchable (metastateCode half) (take (metastateSize * sizes .metastates) metastates) chains
+  enter-searchable =
+      record {
+        flat =
+            subst (λ l. Flat (metastateCode half) l (take (metastateSize * sizes .metastates) metastates))
+            (sym elements)
+            (subst (λ (n : ℕ). Flat (metastateCode half) (net .table) (take (metastateSize * n) metastates))
+            (sym places) (used-flat (s .underway .kept)));
+        linked =
+            subst (Linked (metastateCode half) (headsIn chains) chains) (sym elements)
+            (s .underway .kept .linked);
+      }
+
+  -- the record and the link of a new one
+  pub enter-room : sizes .metastates < metastateRoom metastates
+      → (metastateSize * sizes .metastates + metastateSize ≤ length metastates)
+      × (sizes .metastates < headsIn chains) × (sizes .metastates < 65535)
+  unfolding roomIn
+  enter-room h = omega (arith, h, s .underway .kept .link-room)
 
   pub enter-arcs : sizes .arcs ≤ arcRoom arcs
-  enter-arcs = arc-within (s .held) (ap (λ (k : Sizes). k .arcs) same-sizes)
+  enter-arcs = arc-within (s .underway) (ap (λ (k : Sizes). k .arcs) same-sizes)
 
   module _ {found : ℕ}
-      (f : Found (rowsIn (take (metastateSize * sizes .metastates) metastates)) (number ∷ columns) found) where
-    looked : Found (map metastateWords (net .metastates)) (metastateWords x) found
-    looked =
-        subst (λ r. Found (map metastateWords (net .metastates)) r found) row
-        (subst (λ t. Found t (number ∷ columns) found) rows f)
+      (f : Found (metastateCode half)
+      (elementsIn (metastateCode half) (take (metastateSize * sizes .metastates) metastates)) x found) where
+    looked : Found (metastateCode half) (net .table) x found
+    looked = subst (λ l. Found (metastateCode half) l x found) elements f
 
-    pub enter-place : (found ≡ 0 → ⊥) → found - 1 < 65535
+    enter-place : (found ≡ 0 → ⊥) → found - 1 < 65535
     unfolding roomIn
     enter-place n =
         let listed = looked .some (found - 1) (omega (arith, n)) .0 in
-        omega (arith, listed, length-map (net .metastates) metastateWords, s .held .metastate-room)
+        omega (arith, listed, s .underway .kept .table-room)
 
-    module _ (nodes : List ℕ) (from : ℕ) where
+    pub enter-placed : (found ≡ 0 → ⊥) → Placed header nodes words number (found - 1)
+    enter-placed n = record { connectable = s .connectable; listed = s .listed; few = enter-place n }
+
+    module _ (from : ℕ) where
       abbrev book : Book
       book = nodesBook header nodes
 
       abbrev combinations : List Combination
       combinations = combinationsIn header words
 
+      abbrev machine : Machine Metastate Metastate
+      machine = machineOf book combinations
+
+      abbrev room : Room
+      room = roomOf metastates arcs
+
+      abbrev Left : Step → (metastates′ arcs′ chains′ : List ℕ) → Type 0
+      Left answer metastates′ arcs′ chains′ =
+          StepLeft header words metastates arcs chains
+          (entered header nodes words metastates arcs sizes from follower) answer metastates′ arcs′ chains′
+
       -- it stands in the table
       pub enter-known : (found ≡ 0 → ⊥) → {answer : Step} {arcs′ : List ℕ}
-          → ArcAnswered sizes arcs answer
-          → ArcAppended sizes (intoArc header nodes words from number (found - 1)) arcs arcs′
-          → AfterStep (header .half) (length (combinationsIn header words)) metastates arcs
-          (entered header nodes words metastates arcs sizes from number columns)
-          answer metastates arcs′ chains
+          → ArcAdded sizes (intoArc header nodes words from number (found - 1)) arcs answer arcs′
+          → Left answer metastates arcs′ chains
       unfolding arcInto modelsOf phoneOf combinationOf
-      enter-known n g h =
-          arc-entered metastates (s .held) refl (arcInto book combinations from (found - 1) x) sizes same-sizes
-          (perform-known book combinations (roomOf metastates arcs) net from x (found - 1)
-          (found-known (s .held) x width looked n))
-          g h
+      enter-known n added =
+          record {
+            step =
+                arc-entered metastates (s .underway) refl
+                (arcInto (rulesOf book combinations) from (found - 1) x) sizes same-sizes
+                (entered-known (metastateCode half) machine metastates-told room net from x pass-none looked
+                (s .underway .kept .once) n)
+                (added .answers) (added .words);
+            chains-sized = refl;
+          }
 
       -- there is no room for it
       pub enter-crowded : found ≡ 0 → metastateRoom metastates ≤ sizes .metastates
-          → AfterStep (header .half) (length (combinationsIn header words)) metastates arcs
-          (entered header nodes words metastates arcs sizes from number columns)
-          (step.Stop Crowd) metastates arcs chains
+          → Left (step.Stop Crowd) metastates arcs chains
       unfolding roomIn
       enter-crowded e h =
-          let new = search-new x (net .metastates) (found-new (s .held) x width looked e) in
-          let a : Arc = arcInto book combinations from (length (net .metastates)) x in
-          leaves-refused refl refl Crowd
-          (perform-new book combinations (roomOf metastates arcs) net from x new
-          ∙ metastate-first (roomOf metastates arcs) net x a (omega (arith, h, places)))
-          refl
+          record {
+            step =
+                leaves-refused refl refl Crowd
+                (entered-crowded (metastateCode half) machine metastates-told room net from x pass-none looked e
+                (omega (arith, h, places)))
+                refl;
+            chains-sized = refl;
+          }
 
       -- it is added, and the arc into it
       pub enter-new : found ≡ 0 → sizes .metastates < metastateRoom metastates
           → {answer : Step} {metastates′ arcs′ chains′ : List ℕ}
           → metastates′ ≡ take (metastateSize * sizes .metastates) metastates ++ (number ∷ columns)
           ++ drop (metastateSize * sizes .metastates + metastateSize) metastates
-          → chains′ ≡ linkedTo (headsIn chains) chains (sizes .metastates) (number ∷ columns)
-          → ArcAnswered (withOne sizes) arcs answer
-          → ArcAppended (withOne sizes) (intoArc header nodes words from number (sizes .metastates)) arcs arcs′
-          → AfterStep (header .half) (length (combinationsIn header words)) metastates arcs
-          (entered header nodes words metastates arcs sizes from number columns)
-          answer metastates′ arcs′ chains′
+          → chains′ ≡ linkedTo (headsIn chains) chains (sizes .metastates) (keyOf (number ∷ columns))
+          → ArcAdded (withOne sizes) (intoArc header nodes words from number (sizes .metastates)) arcs answer arcs′
+          → Left answer metastates′ arcs′ chains′
       unfolding roomIn arcInto modelsOf phoneOf combinationOf
-      enter-new e h {answer} {metastates′} {arcs′} {chains′} p q g k =
-          let fresh = found-new (s .held) x width looked e in
-          let new = search-new x (net .metastates) fresh in
+      enter-new e h {answer} {metastates′} {arcs′} {chains′} p q added =
           let (size, held) =
-          holds-metastate (s .held) few x places h fresh (s .listed) width (rw row at p) (rw row at q) in
-          let a : Arc = arcInto book combinations from (length (net .metastates)) x in
-          let inside : length (net .metastates) < metastateRoom metastates =
+          holds-metastate (s .underway) few x places h (looked .none e) (s .listed) width (rw row at p)
+          (rw row at q) in
+          let a : Arc = arcInto (rulesOf book combinations) from (length (net .table)) x in
+          let inside : length (net .table) < metastateRoom metastates =
           omega (arith, h, places) in
-          arc-entered metastates held size a (withOne sizes) grown
-          (perform-new book combinations (roomOf metastates arcs) net from x new
-          ∙ then-arc (roomOf metastates arcs) net x a inside)
-          g (rw places at k)
+          record {
+            step =
+                arc-entered metastates held size a (withOne sizes) grown
+                (entered-new (metastateCode half) machine metastates-told room net from x pass-none looked e
+                inside)
+                (added .answers) (rw places at added .words);
+            chains-sized = ap length q ∙ simp length-set refl;
+          }
         where
-          more : sizes .metastates + 1 ≡ length (net .metastates ++ (x ∷ []))
-          more = ap (λ (n : ℕ). n + 1) places ∙ sym (length-append (net .metastates) (x ∷ []))
+          more : sizes .metastates + 1 ≡ length (net .table ++ (x ∷ []))
+          more = ap (λ (n : ℕ). n + 1) places ∙ sym (length-append (net .table) (x ∷ []))
 
-          grown : withOne sizes ≡ sizesOf (withMetastate net x)
+          grown : withOne sizes ≡ sizesOf (withElement net x)
           grown = λ i. record { metastates = more i; arcs = same-sizes i .arcs }

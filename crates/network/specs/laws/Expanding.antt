@@ -19,8 +19,8 @@ use Rattle.definitions.specs.Tables.{Book}
 use Rattle.definitions.specs.Combinations.{Combination}
 use Rattle.definitions.specs.Metastates.{Metastate, metastateSize, followersFrom, followers}
 use Rattle.definitions.specs.Building.{roomIn}
-use Rattle.definitions.specs.Connecting.{Network, Room, Event, plain, enter, noMetastate, turnEvents}
-use Rattle.definitions.specs.Connecting.{finalArcs, performAll, expand}
+use Rattle.definitions.specs.Growing.{Event, plain, enter, Room, performAll, expand}
+use Rattle.definitions.specs.Connecting.{rulesOf, finalArcs, turnEvents, Network, noMetastate, machineOf}
 use Rattle.definitions.specs.laws.Tests.{held, failed}
 use Rattle.definitions.specs.laws.Judging.{refused-not-answered}
 use Rattle.definitions.specs.laws.Books.{InRange}
@@ -36,32 +36,31 @@ use Rattle.network.specs.declared.Sizes.{Sizes}
 use Rattle.network.specs.declared.Arcs.{Arcs}
 use Rattle.network.specs.declared.Step.{Step}
 use Rattle.network.specs.declared.Step.the-variants as step
-use Rattle.network.specs.Combinations.{combinationsIn, nodesBook, Usable, Modelled}
+use Rattle.network.specs.Combinations.{combinationsIn, nodesBook, Connectable}
 use Rattle.network.specs.Networks.{networkHeld, arcRoom, roomOf, sizesOf, Holds}
-use Rattle.network.specs.Steps.{AreArcs, AfterStep, stepOf, ArcsAppended, ownOf, plainOf}
+use Rattle.network.specs.Steps.{AreArcs, TurnLeft, stepOf, ArcsAppended, ownOf, plainOf}
 use Rattle.network.specs.Spans.{Spanned}
-use Rattle.network.specs.Repeating.{Onward, followedFrom, SpannedAfter}
+use Rattle.network.specs.Underway.{Placed, Underway, Expandable, Onward}
+use Rattle.network.specs.Outcomes.{followedOn, expandedAt}
 use Rattle.network.specs.laws.Spans.{spans-stay}
 use Rattle.network.specs.laws.HeldBack.{held-back}
 use Rattle.network.specs.laws.HoldsMore.{held-sizes}
 use Rattle.network.specs.laws.PlainArcs.{plain-count-few}
-use Rattle.network.specs.laws.PerformedArcs.{withArcs, performs-append, performs-arcs, performs-over}
+use Rattle.network.specs.laws.PerformedArcs.{performs-append, performs-arcs, performs-over}
+use Rattle.network.specs.laws.KeptMore.{withArcs}
 use Rattle.network.specs.laws.HeldRows.{metastates-few, metastates-within}
 use Rattle.network.specs.laws.HeldRows.{arcs-within, held-in, held-number, held-matrix}
 use Rattle.network.specs.laws.HeldRows.{appended-length, holds-appended}
 
--- what a turn starts from
-pub record Expandable (header : Header) (nodes combinations metastates arcs chains : List ℕ) (sizes : Sizes)
-    (place : ℕ) : Type 0 where
-  pub usable : Usable header combinations
-  pub modelled : Modelled header nodes combinations
-  pub listed : place < sizes .metastates
-  pub holds : Holds (header .half) (length (combinationsIn header combinations))
-      (networkHeld (header .half) sizes metastates arcs) metastates arcs chains
-
-module _ {header : Header} {nodes combinations metastates arcs chains : List ℕ} {sizes : Sizes} {place : ℕ}
-    (s : Expandable header nodes combinations metastates arcs chains sizes place)
+module _ {header : Header} {nodes combinations index metastates arcs chains spans : List ℕ} {sizes : Sizes}
+    {place : ℕ} (s : Expandable header nodes combinations index metastates arcs chains spans sizes place)
   where
+    connectable : Connectable header nodes combinations
+    connectable = s .between .searchable .connectable
+
+    underway : Underway header combinations sizes metastates arcs chains
+    underway = s .between .underway
+
     abbrev book : Book
     book = nodesBook header nodes
 
@@ -72,10 +71,10 @@ module _ {header : Header} {nodes combinations metastates arcs chains : List ℕ
     net = networkHeld (header .half) sizes metastates arcs
 
     abbrev x : Metastate
-    x = getD (net .metastates) place noMetastate
+    x = getD (net .table) place noMetastate
 
     ranges : InRange header
-    ranges = header-ranges header (s .usable .header-known)
+    ranges = header-ranges header (connectable .usable .header-known)
 
     thin : header .half ≤ 3
     thin = ranges .half-range .high
@@ -86,73 +85,79 @@ module _ {header : Header} {nodes combinations metastates arcs chains : List ℕ
     arcs-asked : length (net .arcs) ≡ sizes .arcs
     arcs-asked = ap (λ (z : Sizes). z .arcs) asked
 
-    inside : place < length (net .metastates)
+    inside : place < length (net .table)
     inside = omega (arith, s .listed, ap (λ (z : Sizes). z .metastates) asked)
 
     -- ---- the record of the metastate
 
     pub place-few : place < 65535
-    place-few = omega (arith, inside, metastates-few thin (s .holds))
+    place-few = omega (arith, inside, metastates-few underway)
 
     pub place-within : metastateSize * place + metastateSize ≤ length metastates
-    place-within = omega (arith, inside, metastates-within thin (s .holds))
+    place-within = omega (arith, inside, metastates-within underway)
 
     number-known : x .number < length cs
-    number-known = s .holds .numbers x (held-in thin (s .holds) place inside)
+    number-known = underway .numbers x (held-in underway place inside)
 
-    x-width : length (x .matrix) ≡ widthOf (header .half)
-    x-width = s .holds .widths x (held-in thin (s .holds) place inside)
+    x-width : length (x .carried) ≡ widthOf (header .half)
+    x-width = underway .widths x (held-in underway place inside)
 
-    pub number-listed : (metastates ! (metastateSize * place)) < length cs
-    number-listed = rw (held-number thin (s .holds) place inside) number-known
+    pub expand-placed : Placed header nodes combinations (metastates ! (metastateSize * place)) place
+    expand-placed =
+        record {
+          connectable = connectable;
+          listed = rw (held-number underway place inside) number-known;
+          few = place-few;
+        }
 
     pub arcs-fit : sizes .arcs ≤ arcRoom arcs
-    arcs-fit = omega (arith, arcs-asked, arcs-within thin (s .holds))
+    arcs-fit = omega (arith, arcs-asked, arcs-within underway)
 
     -- ---- its matrix
 
     module _ {columns : List ℕ}
         (c : columns ≡ firstSeven (drop (metastateSize * place + 1) metastates))
       where
-        columns-are : columns ≡ matrixWords (x .matrix)
+        columns-are : columns ≡ matrixWords (x .carried)
         columns-are =
             c ∙ seven-there metastates (metastateSize * place + 1) (omega (arith, place-within))
-            ∙ held-matrix thin (s .holds) place inside
+            ∙ held-matrix underway place inside
 
-        matrix-is : matrixIn (header .half) columns ≡ x .matrix
-        matrix-is = matrix-back (x .matrix) x-width columns-are
+        matrix-is : matrixIn (header .half) columns ≡ x .carried
+        matrix-is = matrix-back (x .carried) x-width columns-are
 
         pub columns-wide : HasWidth (widthOf (header .half)) columns
-        columns-wide = has-width (x .matrix) x-width columns-are
+        columns-wide = has-width (x .carried) x-width columns-are
 
         -- ---- and shifted
 
         module _ {half all : ℕ} {shifted : List ℕ} (l : half ≡ header .half)
-            (a : all ≡ allPhones (min (header .phones) 64)) (f : shifted ≡ shiftedWords (2 * half) all columns)
+            (a : all ≡ allPhones (min (header .phones) 64))
+            (f : shifted ≡ shiftedWords (2 * half) all columns)
           where
-            shifted-are : shifted ≡ matrixWords (shift (header .phones) (x .matrix))
+            shifted-are : shifted ≡ matrixWords (shift (header .phones) (x .carried))
             shifted-are =
                 let phones : min (header .phones) 64 ≡ header .phones =
                 omega (arith, ranges .phones-range .high) in
                 f ∙ rw (l, a, phones, columns-are)
-                (shift-words (header .phones) (2 * header .half) (x .matrix) (omega (arith, thin))
+                (shift-words (header .phones) (2 * header .half) (x .carried) (omega (arith, thin))
                 (omega (arith, x-width)))
 
-            shifted-length : length (shift (header .phones) (x .matrix)) ≡ widthOf (header .half)
-            shifted-length = shift-length (header .phones) (x .matrix) (omega (arith, x-width)) ∙ x-width
+            shifted-length : length (shift (header .phones) (x .carried)) ≡ widthOf (header .half)
+            shifted-length = shift-length (header .phones) (x .carried) (omega (arith, x-width)) ∙ x-width
 
-            pub shifted-is : matrixIn (header .half) shifted ≡ shift (header .phones) (x .matrix)
-            shifted-is = matrix-back (shift (header .phones) (x .matrix)) shifted-length shifted-are
+            pub shifted-is : matrixIn (header .half) shifted ≡ shift (header .phones) (x .carried)
+            shifted-is = matrix-back (shift (header .phones) (x .carried)) shifted-length shifted-are
 
-            pub shifted-wide : HasWidth (widthOf (header .half)) shifted
-            shifted-wide = has-width (shift (header .phones) (x .matrix)) shifted-length shifted-are
+            shifted-wide : HasWidth (widthOf (header .half)) shifted
+            shifted-wide = has-width (shift (header .phones) (x .carried)) shifted-length shifted-are
 
         -- ---- its arcs
 
         abbrev read : Metastate
         read = record {
           number = metastates ! (metastateSize * place);
-          matrix = matrixIn (header .half) columns;
+          carried = matrixIn (header .half) columns;
         }
 
         module _ {new : Arcs} (n : AreArcs new (plainOf header nodes combinations place read)) where
@@ -162,30 +167,35 @@ module _ {header : Header} {nodes combinations metastates arcs chains : List ℕ
           are : AreArcs new added
           are =
               subst (λ (y : Metastate). AreArcs new (plainOf header nodes combinations place y))
-              (metastates-equal read x (held-number thin (s .holds) place inside) matrix-is) n
+              (metastates-equal read x (held-number underway place inside) matrix-is) n
 
           pub new-few : new .count ≤ 3
           new-few =
-              plain-count-few header nodes combinations (s .usable) place x number-known (s .modelled) are
+              plain-count-few x
+              (record { connectable = connectable; listed = number-known; few = place-few }) are
 
           -- a turn is its arcs, then the arcs to its followers
-          abbrev onward : List Event
+          abbrev onward : List (Event Metastate)
           onward =
               map (enter (lastState (header .states) place))
-              (followersFrom (shift (header .phones) (x .matrix)) 0 cs)
+              (followersFrom (shift (header .phones) (x .carried)) 0 cs)
 
           turn-is : (room : Room)
-              → expand book cs room place net
-              ≡ andThen (performAll book cs room net (map plain added))
-              (λ next. performAll book cs room next onward)
+              → expand (machineOf book cs) room place net
+              ≡ andThen (performAll (machineOf book cs) room net (map plain added))
+              (λ next. performAll (machineOf book cs) room next onward)
           unfolding expand turnEvents followers bookWith
           turn-is room =
-              ap (λ (l : List Event). performAll book cs room net (l ++ onward))
-              (sym (map-append plain (ownOf header nodes combinations place x) (finalArcs book cs place x)))
+              ap (λ (l : List (Event Metastate)). performAll (machineOf book cs) room net (l ++ onward))
+              (sym (map-append plain (ownOf header nodes combinations place x)
+              (finalArcs (rulesOf book cs) place x)))
               ∙ performs-append book cs room net (map plain added) onward
 
           abbrev room : Room
           room = roomOf metastates arcs
+
+          abbrev outcome : Outcome Network
+          outcome = expandedAt header nodes combinations metastates arcs sizes place
 
           module _ {roomy : Bool} {arcs′ : List ℕ}
               (r : roomy ≡ leb (sizes .arcs + new .count) (arcRoom arcs))
@@ -193,33 +203,36 @@ module _ {header : Header} {nodes combinations metastates arcs chains : List ℕ
             where
               -- ---- no room for all of them
 
-              no-turn : not roomy ≡ true → expand book cs room place net ≡ refuse Tangle 0
+              no-turn : not roomy ≡ true → outcome ≡ refuse Tangle 0
               unfolding roomIn andThen
               no-turn t =
                   let over : arcRoom arcs < sizes .arcs + new .count =
                   leb-false (sizes .arcs + new .count) (arcRoom arcs) (failed r t) in
                   turn-is room
-                  ∙ ap (λ (o : Outcome Network). andThen o (λ next. performAll book cs room next onward))
-                  (performs-over book cs room net added (s .holds .arc-room)
+                  ∙ ap (λ (o : Outcome Network).
+                  andThen o (λ next. performAll (machineOf book cs) room next onward))
+                  (performs-over book cs room net added (underway .kept .arc-room)
                   (omega (arith, over, arcs-asked, are .counted)))
 
               pub turn-stops : not roomy ≡ true
-                  → AfterStep (header .half) (length cs) metastates arcs (expand book cs room place net)
-                  (step.Stop Tangle) metastates arcs′ chains
+                  → TurnLeft header nodes combinations metastates arcs chains spans outcome (step.Stop Tangle)
+                  metastates arcs′ chains spans
               unfolding stepOf
               turn-stops t =
                   let same : arcs′ ≡ arcs = w ∙ rw (not-true roomy t) in
                   record {
-                    answers = sym (ap stepOf (no-turn t));
-                    holds = λ next e. absurd
-                        (refused-not-answered (expand book cs room place net) Tangle 0 next (no-turn t) e);
-                    metastates-sized = refl;
-                    arcs-sized = ap length same;
+                    left = record {
+                      step = record {
+                        answers = sym (ap stepOf (no-turn t));
+                        holds = λ next e. absurd (refused-not-answered outcome Tangle 0 next (no-turn t) e);
+                        metastates-sized = refl;
+                        arcs-sized = ap length same;
+                      };
+                      chains-sized = refl;
+                    };
+                    spans-sized = refl;
+                    spanned = λ next e. absurd (refused-not-answered outcome Tangle 0 next (no-turn t) e);
                   }
-
-              pub turn-stops-spans : not roomy ≡ true → {spans : List ℕ}
-                  → SpannedAfter header nodes combinations (expand book cs room place net) spans
-              turn-stops-spans t n k = absurd (refused-not-answered (expand book cs room place net) Tangle 0 n (no-turn t) k)
 
               -- ---- room
 
@@ -245,10 +258,10 @@ module _ {header : Header} {nodes combinations metastates arcs chains : List ℕ
                 held-next =
                     subst (λ (l : List ℕ).
                     Holds (header .half) (length cs) (withArcs net added) metastates l chains)
-                    (sym arcs-are) (holds-appended thin (s .holds) new added are fits)
+                    (sym arcs-are) (holds-appended underway new added are fits)
 
                 as-long : length arcs′ ≡ length arcs
-                as-long = ap length arcs-are ∙ appended-length thin (s .holds) new added are fits
+                as-long = ap length arcs-are ∙ appended-length underway new added are fits
 
                 sizes-are : next ≡ sizesOf (withArcs net added)
                 sizes-are =
@@ -259,7 +272,7 @@ module _ {header : Header} {nodes combinations metastates arcs chains : List ℕ
                 net-is : networkHeld (header .half) next metastates arcs′ ≡ withArcs net added
                 net-is =
                     ap (λ (z : Sizes). networkHeld (header .half) z metastates arcs′) sizes-are
-                    ∙ held-back thin held-next
+                    ∙ held-back held-next
 
                 next-holds : Holds (header .half) (length cs)
                     (networkHeld (header .half) next metastates arcs′) metastates arcs′ chains
@@ -270,54 +283,66 @@ module _ {header : Header} {nodes combinations metastates arcs chains : List ℕ
                 -- ---- the followers
 
                 -- what they start from
-                pub next-onward : {half all : ℕ} {shifted spans : List ℕ} → half ≡ header .half
-                    → all ≡ allPhones (min (header .phones) 64) → shifted ≡ shiftedWords (2 * half) all columns
-                    → Spanned book cs net spans
-                    → Onward header nodes combinations metastates arcs′ chains spans next place shifted
-                next-onward {spans = spans} l a f spanned =
+                pub next-onward : {half all : ℕ} {shifted : List ℕ} → half ≡ header .half
+                    → all ≡ allPhones (min (header .phones) 64)
+                    → shifted ≡ shiftedWords (2 * half) all columns
+                    → Onward header nodes combinations index metastates arcs′ chains spans next place shifted
+                next-onward l a f =
                     record {
-                      listed = s .listed;
-                      holds = next-holds;
+                      expandable = record {
+                        between = record {
+                          searchable = s .between .searchable;
+                          underway = next-holds;
+                          slots = s .between .slots;
+                          spanned =
+                              subst (λ (z : Network). Spanned book cs z spans) (sym net-is)
+                              (spans-stay book cs [] added (sym (append-nil (net .table))) refl
+                              (s .between .spanned));
+                        };
+                        listed = s .listed;
+                      };
+                      shaped = shifted-wide l a f;
                       shifted = shifted-is l a f;
-                      spanned =
-                          subst (λ (z : Network). Spanned book cs z spans) (sym net-is)
-                          (spans-stay book cs [] added (sym (append-nil (net .metastates))) refl spanned);
                     }
 
                 abbrev following : (shifted : List ℕ) → Outcome Network
-                following shifted = followedFrom header nodes combinations metastates arcs′ next place shifted
+                following shifted = followedOn header nodes combinations metastates arcs′ next place shifted
 
                 followed : (shifted : List ℕ)
-                    → matrixIn (header .half) shifted ≡ shift (header .phones) (x .matrix)
-                    → following shifted ≡ expand book cs room place net
+                    → matrixIn (header .half) shifted ≡ shift (header .phones) (x .carried)
+                    → following shifted ≡ outcome
                 unfolding andThen roomIn
                 followed shifted is =
                     rw (as-long, net-is, is)
                     (sym (turn-is room
-                    ∙ ap (λ (o : Outcome Network). andThen o (λ next. performAll book cs room next onward))
+                    ∙ ap (λ (o : Outcome Network).
+                    andThen o (λ next. performAll (machineOf book cs) room next onward))
                     (performs-arcs book cs room net added fits)))
 
                 module _ {half all : ℕ} {shifted : List ℕ} (l : half ≡ header .half)
                     (a : all ≡ allPhones (min (header .phones) 64))
                     (f : shifted ≡ shiftedWords (2 * half) all columns)
                   where
-                    same : following shifted ≡ expand book cs room place net
+                    same : following shifted ≡ outcome
                     same = followed shifted (shifted-is l a f)
 
-                    pub turn-goes : {answer : Step} {metastates″ arcs″ chains″ : List ℕ}
-                        → AfterStep (header .half) (length cs) metastates arcs′ (following shifted)
-                        answer metastates″ arcs″ chains″
-                        → AfterStep (header .half) (length cs) metastates arcs (expand book cs room place net)
-                        answer metastates″ arcs″ chains″
-                    turn-goes left =
+                    pub turn-goes : {answer : Step} {metastates″ arcs″ chains″ spans″ : List ℕ}
+                        → TurnLeft header nodes combinations metastates arcs′ chains spans
+                        (following shifted) answer metastates″ arcs″ chains″ spans″
+                        → TurnLeft header nodes combinations metastates arcs chains spans outcome answer
+                        metastates″ arcs″ chains″ spans″
+                    turn-goes turn =
+                        let after = turn .left .step in
                         record {
-                          answers = left .answers ∙ ap stepOf same;
-                          holds = λ n k. left .holds n (same ∙ k);
-                          metastates-sized = left .metastates-sized;
-                          arcs-sized = left .arcs-sized ∙ as-long;
+                          left = record {
+                            step = record {
+                              answers = after .answers ∙ ap stepOf same;
+                              holds = λ n k. after .holds n (same ∙ k);
+                              metastates-sized = after .metastates-sized;
+                              arcs-sized = after .arcs-sized ∙ as-long;
+                            };
+                            chains-sized = turn .left .chains-sized;
+                          };
+                          spans-sized = turn .spans-sized;
+                          spanned = λ n k. turn .spanned n (same ∙ k);
                         }
-
-                    pub turn-spans : {spans″ : List ℕ}
-                        → SpannedAfter header nodes combinations (following shifted) spans″
-                        → SpannedAfter header nodes combinations (expand book cs room place net) spans″
-                    turn-spans left n k = left n (same ∙ k)

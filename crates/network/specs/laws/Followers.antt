@@ -1,20 +1,20 @@
 -- Laws about the followers from a combination on: those that the search passes give none, and the one that it
--- finds gives the first. And about each step of the search, over the words of the combinations and of a matrix:
--- where the matrix's centre lacks the phone of a combination, the two do not meet validly.
+-- finds gives the first. And about each step of the search, over the words of the combinations and of a
+-- matrix: where the matrix's centre lacks the phone of a combination, the two do not meet validly.
 use mathlib.Core.Path.{_≡_, sym, ap, _∙_, subst}
 use mathlib.Core.List.{List, [], _∷_}
 use mathlib.Core.Bool.{Bool, true, false}
-use Prim.Native.Nat.{ℕ, zero, suc, _+_, _-_, _*_, _≤_, _<_}
+use Prim.Native.Nat.{ℕ, zero, suc, _+_, _-_, _≤_, _<_}
 use native.Mathlib.Omega.{arith}
 use lib.Dec.{T, ltb, eqb}
-use lib.ListN.{length, take, drop, drop-of-length-le}
+use lib.ListN.{length, drop, drop-of-length-le}
 use lib.Seq.{drop-cons, getD-take}
 use borrow.Author.Tests.{ltb-true, ltb-false, eqb-true, eqb-false}
 use Rattle.definitions.specs.declared.Header.{Header}
 use Rattle.definitions.specs.Lists.{_!_}
 use Rattle.definitions.specs.PhoneSets.{has}
 use Rattle.definitions.specs.Matrices.{Matrix, matrixSize, matrixWords, valid, meet}
-use Rattle.definitions.specs.Combinations.{Combination, combinationSize}
+use Rattle.definitions.specs.Combinations.{Combination}
 use Rattle.definitions.specs.Metastates.{Metastate, noCombination, followersFrom}
 use Rattle.definitions.specs.laws.Tests.{T-and, by-test}
 use Rattle.definitions.specs.laws.Matrices.{meet-has, meet-length, valid-columns}
@@ -24,6 +24,7 @@ use Rattle.matrix.specs.Shapes.{widthOf, matrixIn, HasWidth}
 use Rattle.matrix.specs.laws.Widths.{width-taken, met-matrix, met-width}
 use Rattle.definitions.specs.laws.Metastates.{numbered}
 use Rattle.network.specs.Combinations.{combinationsIn, IsCombination, Usable, EndsAt}
+use Rattle.network.specs.RecordWords.{phoneWord, ownColumns}
 use Rattle.network.specs.Indexing.{Indexed, NextMember}
 use Rattle.network.specs.Following.{followsAt, Beyond, NextFollower}
 use Rattle.network.specs.laws.RecordWords.{phone-word, matrix-word}
@@ -36,7 +37,7 @@ module _ (shifted : Matrix) (cs : List Combination) where
 
   -- the metastate that a combination gives
   abbrev pub metAt : (number : ℕ) → Metastate
-  metAt number = record { number = number; matrix = meet shifted (numbered cs number .matrix) }
+  metAt number = record { number = number; carried = meet shifted (numbered cs number .carried) }
 
   follower-passed : (number : ℕ) → number < length cs
       → followsAt shifted cs number ≡ false → followersAt number ≡ followersAt (suc number)
@@ -71,25 +72,28 @@ module _ (shifted : Matrix) (cs : List Combination) where
 -- ---- one step of the search
 
 -- a combination whose phone the centre lacks
-lacks : (header : Header) (c : Combination) (m : Matrix) → IsCombination header c → length m ≡ widthOf (header .half)
-    → has (c .phone) (m ! header .half) ≡ false → valid (meet m (c .matrix)) ≡ false
-lacks header c m choice e missing = by-test (valid (meet m (c .matrix))) (λ t. absurd (never (rw t tt))) (λ t. t)
+lacks : (header : Header) (c : Combination) (m : Matrix) → IsCombination header c
+    → length m ≡ widthOf (header .half) → has (c .phone) (m ! header .half) ≡ false
+    → valid (meet m (c .carried)) ≡ false
+lacks header c m choice e missing =
+    by-test (valid (meet m (c .carried))) (λ t. absurd (never (rw t tt))) (λ t. t)
   where
-    never : T (valid (meet m (c .matrix))) → ⊥
+    never : T (valid (meet m (c .carried))) → ⊥
     never v =
-        let wide : length (meet m (c .matrix)) ≡ length m = meet-length m (c .matrix) (e ∙ sym (choice .width)) in
-        let (p, t) = valid-columns (meet m (c .matrix)) .0 v (header .half) (omega arith) in
+        let wide : length (meet m (c .carried)) ≡ length m =
+        meet-length m (c .carried) (e ∙ sym (choice .width)) in
+        let (p, t) = valid-columns (meet m (c .carried)) .0 v (header .half) (omega arith) in
         let (there, own) =
-        T-and (has p (m ! header .half)) (has p (c .matrix ! header .half)) .0
-        (subst T (meet-has p m (c .matrix) (header .half)) t) in
+        T-and (has p (m ! header .half)) (has p (c .carried ! header .half)) .0
+        (subst T (meet-has p m (c .carried) (header .half)) t) in
         let same : p ≡ c .phone = choice .centre p own in
         subst T (ap (λ (q : ℕ). has q (m ! header .half)) same ∙ missing) there
 
-pub narrow : (header : Header) (words : List ℕ) → Usable header words → header .half ≤ 3
-narrow header words usable = header-ranges header (usable .header-known) .half-range .high
+pub narrow : {header : Header} {words : List ℕ} → Usable header words → header .half ≤ 3
+narrow {header} usable = header-ranges header (usable .header-known) .half-range .high
 
 -- seven words of a matrix, and combinations in words
-module _ (header : Header) (words : List ℕ) (usable : Usable header words) (columns : List ℕ)
+module _ {header : Header} {words columns : List ℕ} (usable : Usable header words)
     (e : HasWidth (widthOf (header .half)) columns) where
   abbrev shifted : Matrix
   shifted = matrixIn (header .half) columns
@@ -98,15 +102,15 @@ module _ (header : Header) (words : List ℕ) (usable : Usable header words) (co
   cs = combinationsIn header words
 
   thin : widthOf (header .half) ≤ matrixSize
-  thin = omega (arith, narrow header words usable)
+  thin = omega (arith, narrow usable)
 
   -- ---- one combination
 
-  module _ (number : ℕ) (h : number < length cs) where
+  module _ {number : ℕ} (h : number < length cs) where
     abbrev own : Matrix
-    own = numbered cs number .matrix
+    own = numbered cs number .carried
 
-    pub not-following : {phone place : ℕ} → phone ≡ words ! (combinationSize * number) → place ≡ header .half
+    pub not-following : {phone place : ℕ} → phone ≡ phoneWord words number → place ≡ header .half
         → has phone (columns ! place) ≡ false → followsAt shifted cs number ≡ false
     not-following p q missing =
         let centre : shifted ! header .half ≡ columns ! header .half =
@@ -116,7 +120,7 @@ module _ (header : Header) (words : List ℕ) (usable : Usable header words) (co
 
     -- the meet in seven words
     module _ {record-columns met : List ℕ}
-        (r : record-columns ≡ take matrixSize (drop (combinationSize * number + 4) words))
+        (r : record-columns ≡ ownColumns words number)
         (m : met ≡ meet columns record-columns) where
       met-own : met ≡ meet columns (matrixWords own)
       met-own = m ∙ ap (meet columns) (r ∙ matrix-word header words usable number h)
@@ -133,14 +137,14 @@ module _ (header : Header) (words : List ℕ) (usable : Usable header words) (co
 
   -- ---- where to look next
 
-  pub beyond-one : (number : ℕ) → number < length cs → followsAt shifted cs number ≡ false
+  pub beyond-one : {number : ℕ} → number < length cs → followsAt shifted cs number ≡ false
       → Beyond shifted cs number (number + 1)
-  beyond-one number h invalid = (omega arith, none-one h invalid)
+  beyond-one h invalid = (omega arith, none-one h invalid)
 
-  -- where the centre lacks the phone of a combination and those after it, up to one: none follows before that one's
-  -- combinations
-  module _ (index : List ℕ) (ix : Indexed header words index) (number : ℕ) (h : number < length cs)
-      {phone place next : ℕ} (p : phone ≡ words ! (combinationSize * number)) (q : place ≡ header .half)
+  -- where the centre lacks the phone of a combination and those after it, up to one: none follows before that
+  -- one's combinations
+  module _ {index : List ℕ} (ix : Indexed header words index) {number : ℕ} (h : number < length cs)
+      {phone place next : ℕ} (p : phone ≡ phoneWord words number) (q : place ≡ header .half)
       (missing : has phone (columns ! place) ≡ false) (n : NextMember (columns ! place) (phone + 1) next)
     where
       its-phone : phone ≡ numbered cs number .phone
@@ -153,7 +157,9 @@ module _ (header : Header) (words : List ℕ) (usable : Usable header words) (co
           let few : phone - 1 ≤ header .phones = omega (arith, its-phone, usable .each number h .phones) in
           let at : EndsAt cs index (phone - 1) = ix .ends-at (phone - 1) few in
           by-test (ltb number (index ! (phone - 1)))
-          (λ t. absurd (omega (arith, at .before number (ltb-true number (index ! (phone - 1)) t), its-phone, least)))
+          (λ t.
+          let low = at .before number (ltb-true number (index ! (phone - 1)) t) in
+          absurd (omega (arith, low, its-phone, least)))
           (λ t.
           omega (
             arith,
@@ -172,7 +178,7 @@ module _ (header : Header) (words : List ℕ) (usable : Usable header words) (co
           (λ t.
           n .passed (numbered cs i .phone)
           (omega (arith, from, eqb-false (numbered cs i .phone) phone t)) below) in
-          not-following i l (sym (phone-word header words usable i l)) q lacked
+          not-following l (sym (phone-word header words usable i l)) q lacked
 
       -- no phone is left
       pub beyond-all : header .phones < next → Beyond shifted cs number (length cs)

@@ -11,7 +11,8 @@ use Rattle.definitions.specs.declared.Header.{Header}
 use Rattle.definitions.specs.Faults.{Outcome, answered, refused, andThen}
 use Rattle.definitions.specs.Matrices.{Matrix, meet}
 use Rattle.definitions.specs.Combinations.{Combination}
-use Rattle.definitions.specs.Connecting.{Network, enter, perform, performAll}
+use Rattle.definitions.specs.Growing.{enter, perform, performAll}
+use Rattle.definitions.specs.Connecting.{Network, machineOf}
 use Rattle.definitions.specs.laws.Judging.{refused-not-answered}
 use Rattle.network.specs.declared.Sizes.{Sizes}
 use Rattle.network.specs.declared.Step.{Step}
@@ -21,9 +22,13 @@ use Rattle.definitions.specs.laws.Metastates.{numbered}
 use Rattle.network.specs.Combinations.{combinationsIn, nodesBook}
 use Rattle.network.specs.Networks.{networkHeld, roomOf, Holds}
 use Rattle.network.specs.Following.{followsAt, NextFollower}
-use Rattle.network.specs.Steps.{stepOf, AfterStep, enteringAll}
+use Rattle.network.specs.Seeking.{Seeking}
+use Rattle.network.specs.Underway.{Underway, Following}
+use Rattle.network.specs.Steps.{stepOf, AfterStep, StepLeft}
+use Rattle.network.specs.Outcomes.{enteringAll}
 use Rattle.network.specs.laws.HoldsMore.{held-sizes}
-use Rattle.network.specs.laws.Followers.{followersAt, metAt, followers-skip, followers-found, followers-out}
+use Rattle.network.specs.laws.Followers.{followersAt, metAt, followers-skip, followers-found}
+use Rattle.network.specs.laws.Followers.{followers-out}
 use Rattle.network.specs.laws.HeldBack.{held-back}
 use Rattle.network.specs.laws.Steps.{step-next, step-stop}
 
@@ -41,8 +46,7 @@ pub record Followed (header : Header) (nodes words columns : List ℕ) (from : �
     (number : ℕ) : Type 0 where
   pub found : number < length (combinationsIn header words)
       → followsAt (matrixIn (header .half) columns) (combinationsIn header words) number ≡ true
-  pub holds : Holds (header .half) (length (combinationsIn header words))
-      (networkHeld (header .half) sizes metastates arcs) metastates arcs chains
+  pub underway : Underway header words sizes metastates arcs chains
   pub metastates-sized : length metastates ≡ length metastates₀
   pub arcs-sized : length arcs ≡ length arcs₀
   pub chains-sized : length chains ≡ length chains₀
@@ -53,27 +57,38 @@ pub record Followed (header : Header) (nodes words columns : List ℕ) (from : �
 
 -- ---- before the first
 
+-- what the search for them asks
+pub seeks : {header : Header} {nodes words index metastates arcs chains columns : List ℕ} {sizes : Sizes}
+    → Following header nodes words index metastates arcs chains sizes columns
+    → Seeking header words index columns
+seeks s =
+    record {
+      usable = s .searchable .connectable .usable;
+      indexed = s .searchable .indexed;
+      shaped = s .shaped;
+    }
+
 pub followed-start : {header : Header} {words columns metastates arcs chains : List ℕ} {sizes : Sizes}
-    {number : ℕ} (nodes : List ℕ) (from : ℕ)
-    → Holds (header .half) (length (combinationsIn header words))
-    (networkHeld (header .half) sizes metastates arcs) metastates arcs chains
+    {number : ℕ} (nodes : List ℕ) (from : ℕ) → Underway header words sizes metastates arcs chains
     → NextFollower (matrixIn (header .half) columns) (combinationsIn header words) 0 number
-    → Followed header nodes words columns from metastates arcs chains sizes metastates arcs chains sizes number
+    → Followed header nodes words columns from
+    metastates arcs chains sizes metastates arcs chains sizes number
 followed-start {header} {words} {columns} {metastates} {arcs} {chains} {sizes} nodes from h next = record {
   found = next .found;
-  holds = h;
+  underway = h;
   metastates-sized = refl;
   arcs-sized = refl;
   chains-sized = refl;
   rest =
-      ap (enteringAll header nodes words from metastates arcs (networkHeld (header .half) sizes metastates arcs))
+      ap (enteringAll header nodes words from metastates arcs
+      (networkHeld (header .half) sizes metastates arcs))
       (followers-skip (matrixIn (header .half) columns) (combinationsIn header words) next);
 }
 
 module _ {header : Header} {nodes words columns : List ℕ} {from : ℕ} {metastates₀ arcs₀ chains₀ : List ℕ}
     {sizes₀ : Sizes} {metastates arcs chains : List ℕ} {sizes : Sizes} {number : ℕ}
-    (t : Followed header nodes words columns from metastates₀ arcs₀ chains₀ sizes₀ metastates arcs chains sizes
-    number)
+    (t : Followed header nodes words columns from metastates₀ arcs₀ chains₀ sizes₀
+    metastates arcs chains sizes number)
   where
     abbrev cs : List Combination
     cs = combinationsIn header words
@@ -96,15 +111,18 @@ module _ {header : Header} {nodes words columns : List ℕ} {from : ℕ} {metast
     answers-same e = cc
 
     pub followed-end : length cs ≤ number
-        → AfterStep (header .half) (length cs) metastates₀ arcs₀ all (step.Next sizes) metastates arcs chains
+        → StepLeft header words metastates₀ arcs₀ chains₀ all (step.Next sizes) metastates arcs chains
     unfolding performAll stepOf
     followed-end h = record {
-      answers = sym (ap stepOf done ∙ ap step.Next (held-sizes (header .half) sizes metastates arcs));
-      holds = λ net e.
-          subst (λ (n : Network). Holds (header .half) (length cs) n metastates arcs chains)
-          (answers-same (sym done ∙ e)) (t .holds);
-      metastates-sized = t .metastates-sized;
-      arcs-sized = t .arcs-sized;
+      step = record {
+        answers = sym (ap stepOf done ∙ ap step.Next (held-sizes (header .half) sizes metastates arcs));
+        holds = λ net e.
+            subst (λ (n : Network). Holds (header .half) (length cs) n metastates arcs chains)
+            (answers-same (sym done ∙ e)) (t .underway);
+        metastates-sized = t .metastates-sized;
+        arcs-sized = t .arcs-sized;
+      };
+      chains-sized = t .chains-sized;
     }
       where
         done : all ≡ answered now
@@ -116,11 +134,11 @@ module _ {header : Header} {nodes words columns : List ℕ} {from : ℕ} {metast
     -- ---- a follower, and what entering it answers and leaves
 
     module _ (h : number < length cs) {met : Matrix}
-        (m : met ≡ meet (matrixIn (header .half) columns) (numbered cs number .matrix)) where
+        (m : met ≡ meet (matrixIn (header .half) columns) (numbered cs number .carried)) where
       abbrev entered : Outcome Network
       entered =
-          perform (nodesBook header nodes) cs (roomOf metastates arcs) now
-          (enter from (record { number = number; matrix = met }))
+          perform (machineOf (nodesBook header nodes) cs) (roomOf metastates arcs) now
+          (enter from (record { number = number; carried = met }))
 
       -- its arc first, then the others
       first-then : all ≡ andThen entered (onward (suc number))
@@ -134,26 +152,33 @@ module _ {header : Header} {nodes words columns : List ℕ} {from : ℕ} {metast
           same-room : roomOf metastates₀ arcs₀ ≡ roomOf metastates arcs
           same-room = rw (← t .metastates-sized, ← t .arcs-sized)
 
-          same : perform (nodesBook header nodes) cs (roomOf metastates₀ arcs₀) now
+          same : perform (machineOf (nodesBook header nodes) cs) (roomOf metastates₀ arcs₀) now
               (enter from (metAt (matrixIn (header .half) columns) cs number)) ≡ entered
           same = rw (same-room, ← m)
 
       module _ {answer : Step} {metastates′ arcs′ chains′ : List ℕ}
-          (leaves : AfterStep (header .half) (length cs) metastates arcs entered answer metastates′ arcs′ chains′
-          × (length chains′ ≡ length chains))
+          (left : StepLeft header words metastates arcs chains entered answer metastates′ arcs′ chains′)
         where
+          leaves : AfterStep (header .half) (length cs) metastates arcs entered answer
+              metastates′ arcs′ chains′
+          leaves = left .step
+
           -- it is refused
           pub followed-stop : {fault : Fault} → answer ≡ step.Stop fault
-              → AfterStep (header .half) (length cs) metastates₀ arcs₀ all (step.Stop fault) metastates′ arcs′ chains′
+              → StepLeft header words metastates₀ arcs₀ chains₀ all (step.Stop fault)
+              metastates′ arcs′ chains′
           unfolding andThen stepOf
           followed-stop {fault} stops =
-              let (r, o, f) = step-stop entered fault (sym stops ∙ leaves .0 .answers) in
+              let (r, o, f) = step-stop entered fault (sym stops ∙ leaves .answers) in
               let over : all ≡ refused r =
               first-then ∙ ap (λ (o : Outcome Network). andThen o (onward (suc number))) o in record {
-                answers = sym (ap stepOf over ∙ ap step.Stop f);
-                holds = λ net e. absurd (refused-not-answered all (r .fault) (r .line) net over e);
-                metastates-sized = leaves .0 .metastates-sized ∙ t .metastates-sized;
-                arcs-sized = leaves .0 .arcs-sized ∙ t .arcs-sized;
+                step = record {
+                  answers = sym (ap stepOf over ∙ ap step.Stop f);
+                  holds = λ net e. absurd (refused-not-answered all (r .fault) (r .line) net over e);
+                  metastates-sized = leaves .metastates-sized ∙ t .metastates-sized;
+                  arcs-sized = leaves .arcs-sized ∙ t .arcs-sized;
+                };
+                chains-sized = left .chains-sized ∙ t .chains-sized;
               }
 
           -- it is entered, and the next is looked for
@@ -163,19 +188,21 @@ module _ {header : Header} {nodes words columns : List ℕ} {from : ℕ} {metast
               metastates′ arcs′ chains′ next number′
           unfolding andThen
           followed-next {next} {number′} few goes further =
-              let (net, o, s) = step-next entered next (sym goes ∙ leaves .0 .answers) in
-              let held = leaves .0 .holds net o in
+              let (net, o, s) = step-next entered next (sym goes ∙ leaves .answers) in
+              let held = leaves .holds net o in
               let same : networkHeld (header .half) next metastates′ arcs′ ≡ net =
-              ap (λ (k : Sizes). networkHeld (header .half) k metastates′ arcs′) (sym s) ∙ held-back few held in
+              ap (λ (k : Sizes). networkHeld (header .half) k metastates′ arcs′) (sym s)
+              ∙ held-back held in
               let after : NextFollower (matrixIn (header .half) columns) cs (suc number) number′ =
-              subst (λ (k : ℕ). NextFollower (matrixIn (header .half) columns) cs k number′) (add-one number) further in record {
+              subst (λ (k : ℕ). NextFollower (matrixIn (header .half) columns) cs k number′) (add-one number)
+              further in record {
                 found = further .found;
-                holds =
+                underway =
                     subst (λ (n : Network). Holds (header .half) (length cs) n metastates′ arcs′ chains′)
                     (sym same) held;
-                metastates-sized = leaves .0 .metastates-sized ∙ t .metastates-sized;
-                arcs-sized = leaves .0 .arcs-sized ∙ t .arcs-sized;
-                chains-sized = leaves .1 ∙ t .chains-sized;
+                metastates-sized = leaves .metastates-sized ∙ t .metastates-sized;
+                arcs-sized = leaves .arcs-sized ∙ t .arcs-sized;
+                chains-sized = left .chains-sized ∙ t .chains-sized;
                 rest =
                     first-then
                     ∙ ap (λ (o : Outcome Network). andThen o (onward (suc number))) o

@@ -1,4 +1,4 @@
--- Laws about a metastate's key: a loop over its columns takes them in one by one. And its head is one of the heads.
+-- Laws about keys: a loop over columns takes them in one by one. And the head of a key is one of the heads.
 use mathlib.Core.Path.{_≡_, refl, sym, _∙_}
 use mathlib.Core.List.{List, _∷_}
 use Prim.Native.Nat.{ℕ, _+_, _-_, _%_, _≤_, _<_}
@@ -10,9 +10,9 @@ use lib.Seq.{drop-cons}
 use Rattle.definitions.specs.Lists.{_!_}
 use Rattle.network.specs.Chains.{turned, keyFrom, keyOf, headOf}
 
-pub head-below : {heads : ℕ} (row : List ℕ) → 0 < heads → headOf heads row < heads
+pub head-below : {heads : ℕ} (key : ℕ) → 0 < heads → headOf heads key < heads
 unfolding headOf
-head-below {heads} row h = omega (arith, and-le-r (keyOf row) (heads - 1))
+head-below {heads} key h = omega (arith, and-le-r key (heads - 1))
 
 -- the columns before c are taken in, the others are left
 pub record Keyed (number : ℕ) (columns : List ℕ) (c key : ℕ) : Type 0 where

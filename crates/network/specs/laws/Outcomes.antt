@@ -27,7 +27,7 @@ next-answered {half} {metastates′ = metastates′} {arcs′ = arcs′} {outcom
     let (net, is, sized) = step-next outcome next (sym a ∙ left .answers) in
     let back : networkHeld half next metastates′ arcs′ ≡ net =
     ap (λ (z : Sizes). networkHeld half z metastates′ arcs′) (sym sized)
-    ∙ held-back few (left .holds net is) in
+    ∙ held-back (left .holds net is) in
     is ∙ ap answered (sym back)
 
 pub refused-left : (states : ℕ) {metastates arcs metastates′ arcs′ : List ℕ} {outcome : Outcome Built}

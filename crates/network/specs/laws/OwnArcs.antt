@@ -12,7 +12,6 @@ use Rattle.definitions.specs.declared.Header.{Header}
 use Rattle.definitions.specs.Lists.{_!_, concatMap, upFrom}
 use Rattle.definitions.specs.Arcs.{Arc, arc, arcWords, firstState, lastState}
 use Rattle.definitions.specs.BookReading.{nodeSize}
-use Rattle.definitions.specs.Combinations.{combinationSize}
 use Rattle.definitions.specs.Connecting.{ownArcs}
 use Rattle.definitions.specs.ForeignTables.{headerKnown}
 use Rattle.definitions.specs.Metastates.{Metastate, modelsOf}
@@ -20,7 +19,9 @@ use Rattle.definitions.specs.Tables.{nodeOf}
 use Rattle.definitions.specs.laws.Lists.{concatMap-snoc, upFrom-snoc, map-upFrom-length, map-upFrom-at}
 use Rattle.definitions.specs.laws.Known.{header-ranges}
 use Rattle.network.specs.declared.Arcs.{Arcs}
-use Rattle.network.specs.Combinations.{combinationsIn, nodesBook, Usable, Modelled}
+use Rattle.network.specs.Combinations.{combinationsIn, nodesBook, Usable}
+use Rattle.network.specs.RecordWords.{modelWord}
+use Rattle.network.specs.Underway.{Placed}
 use Rattle.network.specs.Steps.{AreArcs}
 use Rattle.network.specs.laws.RecordWords.{leaf-word, models-length, model-word}
 
@@ -61,7 +62,10 @@ storedArc words at from to model =
 
 pub arc-stored : (new : Arcs) (arcs : List Arc) (from to model : ℕ)
     → length (new .words) ≡ 12 → new .count < 3 → AreArcs new arcs
-    → AreArcs (record { count = new .count + 1; words = storedArc (new .words) (4 * new .count) from to model })
+    → AreArcs (record {
+      count = new .count + 1;
+      words = storedArc (new .words) (4 * new .count) from to model;
+    })
     (arcs ++ (arc from to model 0 ∷ []))
 unfolding arcWords
 arc-stored new arcs from to model sized few are =
@@ -161,15 +165,12 @@ module _ (model : ℕ → ℕ) (first states : ℕ) where
 
 -- ---- the models of a metastate's states, as words say them
 
--- the model in the table of nodes, by the word of a combination's leaf
-abbrev pub modelWord : (nodes combinations : List ℕ) → (number state : ℕ) → ℕ
-modelWord nodes combinations number state =
-    nodeOf (drop (nodeSize * (combinations ! (combinationSize * number + 1 + state))) nodes) .value
-
-module _ (header : Header) (nodes combinations : List ℕ) (usable : Usable header combinations)
-    (modelled : Modelled header nodes combinations) (x : Metastate)
-    (h : x .number < length (combinationsIn header combinations))
+module _ {header : Header} {nodes combinations : List ℕ} {place : ℕ} (x : Metastate)
+    (p : Placed header nodes combinations (x .number) place)
   where
+    usable : Usable header combinations
+    usable = p .connectable .usable
+
     model-at : (state : ℕ) → state < header .states
         → modelWord nodes combinations (x .number) state
         ≡ modelsOf (nodesBook header nodes) (combinationsIn header combinations) x ! state
@@ -177,19 +178,21 @@ module _ (header : Header) (nodes combinations : List ℕ) (usable : Usable head
         let ranges = header-ranges header (usable .header-known) in
         let held : state < 3 = omega (arith, ranges .states-range .high) in
         ap (λ (word : ℕ). nodeOf (drop (nodeSize * word) nodes) .value)
-        (leaf-word header combinations usable (x .number) h state held)
-        ∙ (model-word header combinations usable (x .number) h nodes modelled x refl state k)
+        (leaf-word header combinations usable (x .number) (p .listed) state held)
+        ∙ model-word header combinations usable (x .number) (p .listed) nodes
+        (p .connectable .modelled) x refl state k
 
-    pub own-are : (place : ℕ) {states state : ℕ} {new : Arcs} → states ≡ header .states
+    pub own-are : {states state : ℕ} {new : Arcs} → states ≡ header .states
         → OwnArcs (modelWord nodes combinations (x .number)) (2 + place * states) states state new
         → states ≤ state
         → AreArcs new (ownArcs (firstState (header .states) place)
         (drop 1 (modelsOf (nodesBook header nodes) (combinationsIn header combinations) x)))
     unfolding firstState
-    own-are place {states} {state} {new} e o end =
+    own-are {states} {state} {new} e o end =
         let model : (ℕ → ℕ) = modelWord nodes combinations (x .number) in
         let all : List ℕ = modelsOf (nodesBook header nodes) (combinationsIn header combinations) x in
         own-all model (2 + place * header .states) (header .states)
         (subst (λ (n : ℕ). OwnArcs model (2 + place * n) n state new) e o) all
-        (models-length header combinations usable (x .number) h nodes modelled x refl) model-at
-        (omega (arith, e, end))
+        (models-length header combinations usable (x .number) (p .listed) nodes
+        (p .connectable .modelled) x refl)
+        model-at (omega (arith, e, end))

@@ -12,26 +12,25 @@ use Rattle.definitions.specs.Faults.{Outcome, answered, refused, refuse, andThe
 use Rattle.definitions.specs.Arcs.{Arc}
 use Rattle.definitions.specs.Tables.{Book}
 use Rattle.definitions.specs.Combinations.{Combination}
-use Rattle.definitions.specs.Connecting.{Network, Room, Event, plain, addArc, perform, performAll}
+use Rattle.definitions.specs.Metastates.{Metastate}
+use Rattle.definitions.specs.Growing.{Event, plain, Room, addArc, perform, performAll}
+use Rattle.definitions.specs.Connecting.{Network, machineOf}
 use Rattle.definitions.specs.laws.Tests.{by-test}
 use Rattle.definitions.specs.laws.Limits.{withArc, no-room-arc}
-
--- a network with arcs more
-abbrev pub withArcs : Network → List Arc → Network
-withArcs net arcs = record { metastates = net .metastates; arcs = net .arcs ++ arcs }
+use Rattle.network.specs.laws.KeptMore.{withArcs}
 
 module _ (book : Book) (combinations : List Combination) (room : Room) where
-  abbrev all : List Event → Network → Outcome Network
-  all events next = performAll book combinations room next events
+  abbrev all : List (Event Metastate) → Network → Outcome Network
+  all events next = performAll (machineOf book combinations) room next events
 
-  pub performs-append : (net : Network) (events later : List Event)
-      → performAll book combinations room net (events ++ later)
-      ≡ andThen (performAll book combinations room net events)
-      (λ next. performAll book combinations room next later)
+  pub performs-append : (net : Network) (events later : List (Event Metastate))
+      → performAll (machineOf book combinations) room net (events ++ later)
+      ≡ andThen (performAll (machineOf book combinations) room net events)
+      (λ next. performAll (machineOf book combinations) room next later)
   unfolding performAll andThen
   performs-append net [] later = refl
   performs-append net (event ∷ events) later =
-      go (perform book combinations room net event) (λ next. performs-append next events later)
+      go (perform (machineOf book combinations) room net event) (λ next. performs-append next events later)
     where
       go : (o : Outcome Network)
           → ((next : Network) → all (events ++ later) next ≡ andThen (all events next) (all later))
@@ -45,20 +44,20 @@ module _ (book : Book) (combinations : List Combination) (room : Room) where
   arc-fits net a h = rw (lt-ltb (length (net .arcs)) (room .arcs) h)
 
   pub performs-arcs : (net : Network) (arcs : List Arc) → length (net .arcs) + length arcs ≤ room .arcs
-      → performAll book combinations room net (map plain arcs) ≡ answered (withArcs net arcs)
+      → performAll (machineOf book combinations) room net (map plain arcs) ≡ answered (withArcs net arcs)
   unfolding performAll perform andThen
   performs-arcs net [] h =
-      ap (λ (l : List Arc). answered (record { metastates = net .metastates; arcs = l }))
+      ap (λ (l : List Arc). answered (record { table = net .table; arcs = l }))
       (sym (append-nil (net .arcs)))
   performs-arcs net (a ∷ arcs) h =
       ap (λ (o : Outcome Network). andThen o (all (map plain arcs))) (arc-fits net a (omega arith))
       ∙ performs-arcs (withArc net a) arcs (omega (arith, length-append (net .arcs) (a ∷ [])))
-      ∙ ap (λ (l : List Arc). answered (record { metastates = net .metastates; arcs = l }))
+      ∙ ap (λ (l : List Arc). answered (record { table = net .table; arcs = l }))
       (append-assoc (net .arcs) (a ∷ []) arcs)
 
   pub performs-over : (net : Network) (arcs : List Arc) → length (net .arcs) ≤ room .arcs
       → room .arcs < length (net .arcs) + length arcs
-      → performAll book combinations room net (map plain arcs) ≡ refuse Tangle 0
+      → performAll (machineOf book combinations) room net (map plain arcs) ≡ refuse Tangle 0
   unfolding performAll perform andThen
   performs-over net [] h k = absurd (omega arith)
   performs-over net (a ∷ arcs) h k =

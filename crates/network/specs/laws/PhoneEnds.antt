@@ -1,6 +1,6 @@
 -- Where the combinations of each phone end. Those of phones up to one stand before all others, so a number
 -- below the end of a phone has a phone up to it, and a number from there on a greater one.
-use mathlib.Core.Path.{_≡_, refl, ap, ap₂, _∙_, subst}
+use mathlib.Core.Path.{_≡_, ap, ap₂, _∙_, subst}
 use mathlib.Core.List.{List, [], _++_}
 use Prim.Native.Nat.{ℕ, suc, _+_, _-_, _≤_, _<_}
 use native.Mathlib.Omega.{arith}
@@ -10,11 +10,12 @@ use Rattle.definitions.specs.Lists.{_!_, concatMap, upFrom, padded}
 use Rattle.definitions.specs.Tables.{Book}
 use Rattle.definitions.specs.Combinations.{Combination, combinationsOf, combinations}
 use Rattle.definitions.specs.Metastates.{noCombination}
-use Rattle.definitions.specs.laws.Lists.{concatMap-append, map-upFrom-length, map-upFrom-at, padded-length, upFrom-parts}
+use Rattle.definitions.specs.laws.Lists.{concatMap-append, map-upFrom-length, map-upFrom-at, padded-length}
+use Rattle.definitions.specs.laws.Lists.{upFrom-parts}
 use Rattle.definitions.specs.laws.Members.{isIn, in-at, of-concatMap, of-upFrom}
 use Rattle.definitions.specs.laws.SevenWords.{padded-column}
-use Rattle.definitions.specs.laws.Leaves.{phoneMatrix}
 use Rattle.definitions.specs.laws.Sound.{Sound}
+use Rattle.definitions.specs.demand.Carrier.{topOf, top-wide}
 use Rattle.definitions.specs.demand.Chosen.{choose-begins}
 use Rattle.metastates.specs.Answers.{endOf, endsOf}
 use Rattle.definitions.specs.laws.Metastates.{numbered}
@@ -24,14 +25,17 @@ module _ (book : Book) (sound : Sound book) where
   abbrev ofPhones : (first count : ℕ) → List Combination
   ofPhones first count = concatMap (λ p. combinationsOf book p) (upFrom first count)
 
-  phone-range : (first count : ℕ) (c : Combination) → isIn c (ofPhones first count)
-      → (first ≤ c .phone) × (c .phone < first + count)
+  phone-range : (first count : ℕ) → first + count ≤ suc (book .phones) → (c : Combination)
+      → isIn c (ofPhones first count) → (first ≤ c .phone) × (c .phone < first + count)
   unfolding combinationsOf
-  phone-range first count c i =
+  phone-range first count few c i =
       let (p, j, k) = of-concatMap (combinationsOf book) c (upFrom first count) i in
+      let range = of-upFrom first count p j in
+      let here : p ≤ book .phones = omega (arith, range) in
+      let top = top-wide book p here in
       let trees : List ℕ = upFrom 1 (book .states) in
-      let own = choose-begins book sound p trees [] (phoneMatrix book p) refl c k .phone-is in
-      omega (arith, of-upFrom first count p j, own)
+      let own = choose-begins book sound p here trees [] (topOf book p) top c k .phone-is in
+      omega (arith, range, own)
 
   -- the combinations of phones up to one, and the others
   module _ (q : ℕ) (h : q ≤ book .phones) where
@@ -56,7 +60,7 @@ module _ (book : Book) (sound : Sound book) where
         let c : Combination = numbered (ofPhones 1 q) i in
         let same : numbered (combinations book) i ≡ c =
         ap (λ cs. numbered cs i) parts ∙ List·getD-append (ofPhones 1 q) others noCombination i k in
-        rw same (omega (arith, phone-range 1 q c (in-at (ofPhones 1 q) i noCombination k)))
+        rw same (omega (arith, phone-range 1 q (omega arith) c (in-at (ofPhones 1 q) i noCombination k)))
 
     from-end : (i : ℕ) → endOf book q ≤ i → i < length (combinations book)
         → q < numbered (combinations book) i .phone
@@ -70,7 +74,7 @@ module _ (book : Book) (sound : Sound book) where
         let same : numbered (combinations book) i ≡ c =
         ap₂ numbered parts place ∙ getD-append-add (ofPhones 1 q) others j noCombination in
         let listed : isIn c others = in-at others j noCombination (omega arith) in
-        rw same (omega (arith, phone-range (1 + q) (book .phones - q) c listed))
+        rw same (omega (arith, phone-range (1 + q) (book .phones - q) (omega arith) c listed))
 
   -- ---- the table of ends
 

@@ -3,15 +3,13 @@
 use mathlib.Core.Path.{_≡_, refl, sym, _∙_, subst}
 use mathlib.Core.List.{List, [], _∷_, _++_, append-nil}
 use mathlib.Core.Bool.{Bool, true, false, not, and-false}
-use Prim.Native.Nat.{ℕ, _+_, _*_, _≤_, _<_}
+use Prim.Native.Nat.{ℕ, _+_, _≤_, _<_}
 use native.Mathlib.Omega.{arith}
 use lib.Dec.{eqb}
 use lib.ListN.{length, drop, length-append, length-drop}
 use borrow.Author.Tests.{eq-eqb, ne-eqb}
 use Rattle.definitions.specs.declared.Header.{Header}
-use Rattle.definitions.specs.Lists.{_!_}
 use Rattle.definitions.specs.Arcs.{Arc, arc, firstState, lastState}
-use Rattle.definitions.specs.Combinations.{combinationSize}
 use Rattle.definitions.specs.Matrices.{endsHere}
 use Rattle.definitions.specs.Metastates.{Metastate, combinationOf, phoneOf, modelsOf, mayEnd}
 use Rattle.definitions.specs.Connecting.{finalArcs}
@@ -19,25 +17,31 @@ use Rattle.definitions.specs.laws.Tests.{by-test, held, failed}
 use Rattle.definitions.specs.laws.Known.{header-ranges}
 use Rattle.tables.specs.Usable.{bookWith}
 use Rattle.network.specs.declared.Arcs.{Arcs}
-use Rattle.network.specs.Combinations.{combinationsIn, nodesBook, Usable, Modelled}
+use Rattle.network.specs.Combinations.{combinationsIn, nodesBook, Usable, rulesIn}
+use Rattle.network.specs.RecordWords.{phoneWord}
+use Rattle.network.specs.Underway.{Placed}
 use Rattle.network.specs.Steps.{AreArcs, ownOf, plainOf}
 use Rattle.network.specs.laws.RecordWords.{phone-word, models-length}
 use Rattle.network.specs.laws.OwnArcs.{own-length}
 
-module _ (header : Header) (nodes combinations : List ℕ) (usable : Usable header combinations) (place : ℕ)
-    (x : Metastate) (h : x .number < length (combinationsIn header combinations))
+module _ {header : Header} {nodes combinations : List ℕ} {place : ℕ} (x : Metastate)
+    (p : Placed header nodes combinations (x .number) place)
   where
+    usable : Usable header combinations
+    usable = p .connectable .usable
+
     abbrev Plain : Arcs → Type 0
     Plain new = AreArcs new (plainOf header nodes combinations place x)
 
     -- a metastate's own arcs are those of its number
     abbrev Own : Arcs → Type 0
-    Own new = AreArcs new (ownOf header nodes combinations place (record { number = x .number; matrix = [] }))
+    Own new =
+        AreArcs new (ownOf header nodes combinations place (record { number = x .number; carried = [] }))
 
-    phone-is : {phone : ℕ} → phone ≡ combinations ! (combinationSize * x .number)
+    phone-is : {phone : ℕ} → phone ≡ phoneWord combinations (x .number)
         → phone ≡ phoneOf (combinationsIn header combinations) x
     unfolding phoneOf combinationOf
-    phone-is e = e ∙ phone-word header combinations usable (x .number) h
+    phone-is e = e ∙ phone-word header combinations usable (x .number) (p .listed)
 
     no-final : {new : Arcs} → mayEnd (nodesBook header nodes) (combinationsIn header combinations) x ≡ false
         → Own new → Plain new
@@ -45,13 +49,13 @@ module _ (header : Header) (nodes combinations : List ℕ) (usable : Usable head
     no-final {new} e own = subst (AreArcs new) (rw (e, append-nil)) own
 
     -- another phone than silence
-    pub plain-other : {phone : ℕ} {new : Arcs} → phone ≡ combinations ! (combinationSize * x .number)
+    pub plain-other : {phone : ℕ} {new : Arcs} → phone ≡ phoneWord combinations (x .number)
         → (phone ≡ 1 → ⊥) → Own new → Plain new
     unfolding mayEnd
     plain-other e n own = no-final (rw (ne-eqb _ 1 (λ k. n (phone-is e ∙ k)))) own
 
     -- silence that may not stand to the right
-    pub plain-inside : {answer : Bool} {new : Arcs} → answer ≡ endsHere (header .half) (x .matrix)
+    pub plain-inside : {answer : Bool} {new : Arcs} → answer ≡ endsHere (header .half) (x .carried)
         → not answer ≡ true → Own new → Plain new
     unfolding mayEnd bookWith
     plain-inside e n own =
@@ -60,8 +64,8 @@ module _ (header : Header) (nodes combinations : List ℕ) (usable : Usable head
 
     -- the arc to FINAL
     pub plain-final : {phone last : ℕ} {answer : Bool} {new more : Arcs}
-        → phone ≡ combinations ! (combinationSize * x .number) → phone ≡ 1
-        → answer ≡ endsHere (header .half) (x .matrix) → not answer ≡ false
+        → phone ≡ phoneWord combinations (x .number) → phone ≡ 1
+        → answer ≡ endsHere (header .half) (x .carried) → not answer ≡ false
         → last ≡ lastState (header .states) place → Own new
         → ((arcs : List Arc) → AreArcs new arcs → AreArcs more (arcs ++ (arc last 1 0 0 ∷ []))) → Plain more
     unfolding mayEnd bookWith finalArcs modelsOf combinationOf
@@ -73,39 +77,40 @@ module _ (header : Header) (nodes combinations : List ℕ) (usable : Usable head
 
     -- ---- there are few
 
-    module _ (modelled : Modelled header nodes combinations) where
-      own-few : (y : Metastate) → y .number ≡ x .number
-          → length (ownOf header nodes combinations place y) < 3
-      own-few y e =
-          let models : List ℕ = modelsOf (nodesBook header nodes) (combinationsIn header combinations) y in
-          let states = models-length header combinations usable (x .number) h nodes modelled y e in
-          omega (
-            arith,
-            own-length (firstState (header .states) place) (drop 1 models),
-            length-drop 1 models,
-            states,
-            header-ranges header (usable .header-known) .states-range .high,
-          )
+    own-few : (y : Metastate) → y .number ≡ x .number
+        → length (ownOf header nodes combinations place y) < 3
+    own-few y e =
+        let models : List ℕ = modelsOf (nodesBook header nodes) (combinationsIn header combinations) y in
+        let states =
+        models-length header combinations usable (x .number) (p .listed) nodes
+        (p .connectable .modelled) y e in
+        omega (
+          arith,
+          own-length (firstState (header .states) place) (drop 1 models),
+          length-drop 1 models,
+          states,
+          header-ranges header (usable .header-known) .states-range .high,
+        )
 
-      pub own-count-few : {new : Arcs} → Own new → new .count < 3
-      own-count-few own =
-          omega (arith, own .counted, own-few (record { number = x .number; matrix = [] }) refl)
+    pub own-count-few : {new : Arcs} → Own new → new .count < 3
+    own-count-few own =
+        omega (arith, own .counted, own-few (record { number = x .number; carried = [] }) refl)
 
-      abbrev final : List Arc
-      final = finalArcs (nodesBook header nodes) (combinationsIn header combinations) place x
+    abbrev final : List Arc
+    final = finalArcs (rulesIn header nodes combinations) place x
 
-      final-few : length final ≤ 1
-      unfolding finalArcs
-      final-few =
-          by-test (mayEnd (nodesBook header nodes) (combinationsIn header combinations) x)
-          (λ e. rw e (omega arith)) (λ e. rw e (omega arith))
+    final-few : length final ≤ 1
+    unfolding finalArcs
+    final-few =
+        by-test (mayEnd (nodesBook header nodes) (combinationsIn header combinations) x)
+        (λ e. rw e (omega arith)) (λ e. rw e (omega arith))
 
-      pub plain-count-few : {new : Arcs} → Plain new → new .count ≤ 3
-      plain-count-few plain =
-          omega (
-            arith,
-            plain .counted,
-            own-few x refl,
-            final-few,
-            length-append (ownOf header nodes combinations place x) final,
-          )
+    pub plain-count-few : {new : Arcs} → Plain new → new .count ≤ 3
+    plain-count-few plain =
+        omega (
+          arith,
+          plain .counted,
+          own-few x refl,
+          final-few,
+          length-append (ownOf header nodes combinations place x) final,
+        )

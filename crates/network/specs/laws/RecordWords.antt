@@ -1,36 +1,46 @@
--- Laws about the words of combinations: how many records there are, where the phone, the leaves and the matrix
--- of each stand, and where its models stand in the table of nodes.
+-- Laws about the words of combinations: how many records there are, where the phone, the leaves and the
+-- matrix of each stand, and where its models stand in the table of nodes.
 use mathlib.Core.Path.{_≡_, sym, ap, _∙_}
-use mathlib.Core.List.{List, []}
+use mathlib.Core.List.{List, [], _++_, append-nil}
 use mathlib.Core.Bool.{Bool, true, false}
-use Prim.Native.Nat.{ℕ, suc, _+_, _*_, _/_, _≤_, _<_}
+use Prim.Native.Nat.{ℕ, suc, _-_, _*_, _/_, _≤_, _<_}
 use native.Mathlib.Omega.{arith}
 use lib.Dec.{eqb, lit<}
 use lib.ListN.{length, take, drop, length-append, length-map, length-take}
 use lib.ListN.{List·getD-append}
-use lib.Seq.{drop-drop, drop-at, getD-drop, getD-take}
+use lib.Seq.{take-all, drop-at}
 use Rattle.definitions.specs.declared.Header.{Header}
 use Rattle.definitions.specs.declared.Node.{Node}
-use Rattle.definitions.specs.Lists.{if_then_else_, _!_, concatMap, records, padded}
+use Rattle.definitions.specs.Lists.{if_then_else_, _!_, concatMap, records, cleared, padded}
 use Rattle.definitions.specs.BookLines.{question, leaf}
 use Rattle.definitions.specs.BookReading.{nodeSize}
-use Rattle.definitions.specs.Matrices.{matrixSize, matrixWords}
+use Rattle.definitions.specs.Matrices.{Matrix, matrixWords}
 use Rattle.definitions.specs.Tables.{nodeOf, treeNode, askedOf}
 use Rattle.definitions.specs.Lookup.{modelAt}
 use Rattle.definitions.specs.Combinations.{Combination, combinationSize, combinationWords}
 use Rattle.definitions.specs.Metastates.{Metastate, noCombination, combinationOf, modelsOf}
 use Rattle.definitions.specs.laws.Books.{InRange}
-use Rattle.definitions.specs.laws.Lists.{concatMap-map, padded-length, map-at, drop-take}
-use Rattle.definitions.specs.laws.Records.{records-length, record-at, record-again}
+use Rattle.definitions.specs.laws.Lists.{concatMap-map, padded-length, map-at}
+use Rattle.definitions.specs.laws.Records.{record-within, records-length, record-at, record-again}
 use Rattle.definitions.specs.laws.SevenWords.{padded-column, words-length}
 use Rattle.tables.specs.Usable.{bookWith}
 use Rattle.tables.specs.laws.KnownTables.{node-is}
 use Rattle.matrix.specs.Shapes.{matrixIn}
+use Rattle.matrix.specs.laws.Words.{firstSeven}
 use Rattle.definitions.specs.laws.Walks.{model-at}
 use Rattle.definitions.specs.laws.Metastates.{numbered}
 use Rattle.definitions.specs.laws.Known.{header-ranges}
 use Rattle.network.specs.Combinations.{combinationIn, combinationsIn, nodesBook}
 use Rattle.network.specs.Combinations.{Usable, Modelled}
+use Rattle.network.specs.RecordWords.{RecordWithin, phoneWord, leafWord, ownColumns, HasPhone, HasLeaf}
+
+-- seven words are a matrix as it is
+seven-words : (m : Matrix) → length m ≤ 7 → firstSeven (matrixWords m) ≡ matrixWords m
+unfolding padded
+seven-words m h =
+    let seven : length (matrixWords m) ≡ 7 = words-length m h in
+    ap (take 7) (ap (λ (k : ℕ). matrixWords m ++ cleared (7 - k)) seven ∙ append-nil (matrixWords m))
+    ∙ take-all 7 (matrixWords m) (omega (arith, seven))
 
 -- the model of a node that is a leaf
 leaf-value : (node : Node) (model : ℕ) → treeNode node ≡ leaf model → node .value ≡ model
@@ -91,8 +101,8 @@ module _ (header : Header) (words : List ℕ) where
       listed : number < length words / combinationSize
       listed = omega (arith, combinations-length)
 
-      pub record-within : combinationSize * number + combinationSize ≤ length words
-      record-within = omega (arith, listed)
+      pub record-inside : RecordWithin combinationSize words number
+      record-inside = record-within combinationSize number listed
 
       -- its record
       pub record-is : take combinationSize (drop (combinationSize * number) words) ≡ combinationWords here
@@ -104,26 +114,15 @@ module _ (header : Header) (words : List ℕ) where
           sym (record-again again combinationSize (lit< tt) again-length words flat number listed)
           ∙ ap combinationWords (sym (own ∙ ap (combinationIn header) there))
 
-      record-word : (i : ℕ) → i < combinationSize
-          → words ! (combinationSize * number + i) ≡ combinationWords here ! i
-      record-word i k =
-          sym (getD-drop (combinationSize * number) words i 0)
-          ∙ sym (getD-take combinationSize (drop (combinationSize * number) words) i 0 k)
-          ∙ ap (λ (l : List ℕ). l ! i) record-is
-
-      pub phone-word : words ! (combinationSize * number) ≡ here .phone
+      pub phone-word : phoneWord words number ≡ here .phone
       unfolding combinationWords
-      phone-word =
-          let first : combinationSize * number + 0 ≡ combinationSize * number = omega arith in
-          rw first at (record-word 0 (omega arith))
+      phone-word = ap (λ (l : List ℕ). l ! 0) record-is
 
-      pub phone-few : here .phone ≤ 64
+      phone-few : here .phone ≤ 64
       phone-few = omega (arith, usable .each number h .phones, ranges .phones-range .high)
 
-      -- both as reading the phone asks for them
-      pub record-phone : (combinationSize * number + combinationSize ≤ length words)
-          × ((words ! (combinationSize * number)) ≤ 64)
-      record-phone = (record-within, rw phone-word phone-few)
+      pub has-phone : HasPhone words number
+      has-phone = record { within = record-inside; few = rw phone-word phone-few }
 
       -- its leaves take three words
       three : length (padded 3 (here .leaves)) ≡ 3
@@ -132,32 +131,36 @@ module _ (header : Header) (words : List ℕ) where
           (omega (arith, usable .each number h .states, ranges .states-range .high))
 
       pub leaf-word : (state : ℕ) → state < 3
-          → words ! (combinationSize * number + 1 + state) ≡ here .leaves ! state
+          → leafWord words number state ≡ here .leaves ! state
       unfolding combinationWords
       leaf-word state k =
-          let place : combinationSize * number + suc state ≡ combinationSize * number + 1 + state = omega arith in
-          (rw place at (record-word (suc state) (omega arith)))
-          ∙ List·getD-append (padded 3 (here .leaves)) (matrixWords (here .matrix)) 0 state (omega (arith, three))
+          ap (λ (l : List ℕ). drop 1 l ! state) record-is
+          ∙ List·getD-append (padded 3 (here .leaves)) (matrixWords (here .carried)) 0 state (omega (arith, three))
           ∙ padded-column 3 (here .leaves) state
 
-      pub matrix-word : take matrixSize (drop (combinationSize * number + 4) words) ≡ matrixWords (here .matrix)
+      narrow : length (here .carried) ≤ 7
+      narrow = omega (arith, usable .each number h .width, ranges .half-range .high)
+
+      pub matrix-word : ownColumns words number ≡ matrixWords (here .carried)
       unfolding combinationWords
       matrix-word =
-          ap (take matrixSize) (sym (drop-drop 4 (combinationSize * number) words))
-          ∙ sym (drop-take 4 matrixSize (drop (combinationSize * number) words))
-          ∙ ap (drop 4) record-is
-          ∙ drop-at (padded 3 (here .leaves)) (matrixWords (here .matrix)) 3 three
+          ap (λ (l : List ℕ). firstSeven (drop 4 l)) record-is
+          ∙ ap firstSeven (drop-at (padded 3 (here .leaves)) (matrixWords (here .carried)) 3 three)
+          ∙ seven-words (here .carried) narrow
 
       -- its models
       module _ (nodes : List ℕ) (modelled : Modelled header nodes words) where
-        pub leaf-listed : (state : ℕ) → state < header .states → (here .leaves ! state) < header .nodes
+        leaf-listed : (state : ℕ) → state < header .states → (here .leaves ! state) < header .nodes
         leaf-listed state k = modelled number state h k .0
 
-        pub leaf-few : (state : ℕ) → state < header .states
-            → (words ! (combinationSize * number + 1 + state)) < 4096
-        leaf-few state k =
+        pub has-leaf : (state : ℕ) → state < header .states → HasLeaf words number state
+        has-leaf state k =
             let held : state < 3 = omega (arith, ranges .states-range .high) in
-            rw (leaf-word state held) (omega (arith, leaf-listed state k, ranges .nodes-range .high))
+            record {
+              within = record-inside;
+              states = held;
+              few = rw (leaf-word state held) (omega (arith, leaf-listed state k, ranges .nodes-range .high));
+            }
 
         module _ (x : Metastate) (e : x .number ≡ number) where
           pub models-length : length (modelsOf (nodesBook header nodes) (combinationsIn header words) x)

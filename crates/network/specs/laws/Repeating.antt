@@ -1,5 +1,5 @@
--- Laws about entering the followers of a metastate: where another with the same shifted matrix has a span, the
--- copies of its arcs are what entering them adds; else they are entered and make a span.
+-- Laws about entering the followers of a metastate: where another with the same shifted matrix has a span,
+-- the copies of its arcs are what entering them adds; else they are entered and make a span.
 use mathlib.Core.Path.{_≡_, refl, sym, ap, _∙_, subst}
 use mathlib.Core.List.{List, _++_, map}
 use mathlib.Core.Bool.{Bool, true, false}
@@ -7,43 +7,48 @@ use Prim.Native.Nat.{ℕ, suc, _+_, _-_, _*_, _/_, _%_, _≤_, _<_, min}
 use native.Mathlib.Nat.{mod-lt}
 use native.Mathlib.Omega.{arith}
 use lib.Dec.{T, leb}
-use lib.ListN.{length, take, drop, getD, set, length-append, length-map}
+use lib.ListN.{length, take, drop, getD, length-append, length-map, length-set}
 use borrow.Author.Tests.{leb-true, leb-false}
 use Rattle.definitions.specs.declared.Header.{Header}
 use Rattle.definitions.specs.declared.Fault.{Fault}
 use Rattle.definitions.specs.declared.Fault.the-variants.{Tangle}
 use Rattle.definitions.specs.Faults.{Outcome, answered, refuse}
-use Rattle.definitions.specs.Lists.{_!_, concatMap, padded, same}
+use Rattle.definitions.specs.Lists.{concatMap, padded, same}
 use Rattle.definitions.specs.PhoneSets.{allPhones}
-use Rattle.definitions.specs.Arcs.{Arc, arcSize, arcWords, lastState}
+use Rattle.definitions.specs.Arcs.{Arc, arcsIn, arcWords, lastState}
 use Rattle.definitions.specs.Matrices.{shift}
 use Rattle.definitions.specs.Tables.{Book}
 use Rattle.definitions.specs.Combinations.{Combination}
 use Rattle.definitions.specs.Metastates.{Metastate, metastateSize, followersFrom, followers}
 use Rattle.definitions.specs.Building.{roomIn}
-use Rattle.definitions.specs.Connecting.{Network, Room, plain, enter, noMetastate, performAll}
+use Rattle.definitions.specs.Growing.{plain, enter, Room, performAll}
+use Rattle.definitions.specs.Connecting.{Network, noMetastate, machineOf}
 use Rattle.definitions.specs.construction.Performing.{Performed, all-performed, eventArc}
 use Rattle.definitions.specs.laws.Tests.{by-test}
 use Rattle.definitions.specs.laws.Members.{isIn}
 use Rattle.definitions.specs.laws.Judging.{refused-not-answered}
-use Rattle.definitions.specs.laws.Lists.{padded-length, same-lists}
-use Rattle.definitions.specs.laws.Records.{flat-length, arc-sized}
+use Rattle.definitions.specs.laws.Lists.{same-lists}
 use Rattle.tables.specs.Usable.{bookWith}
+use Rattle.definitions.specs.laws.Metastates.{metastates-told}
 use Rattle.matrix.specs.Shapes.{matrixIn, shiftedWords}
 use Rattle.matrix.specs.laws.Words.{firstSeven}
 use Rattle.network.specs.declared.Sizes.{Sizes}
 use Rattle.network.specs.declared.Step.{Step}
 use Rattle.network.specs.declared.Step.the-variants as step
-use Rattle.network.specs.Combinations.{combinationsIn, nodesBook, Usable, Modelled}
+use Rattle.network.specs.Combinations.{combinationsIn, nodesBook}
 use Rattle.network.specs.Networks.{networkHeld, arcRoom, roomOf, sizesOf, Holds}
-use Rattle.network.specs.Steps.{AfterStep, stepOf, enteringAll}
-use Rattle.network.specs.Spans.{leavingFrom, spanSize, followersAt, arcsTo, IsSpan}
-use Rattle.network.specs.Repeating.{copiedArcs, Repeated, Repeats, followedFrom, Onward, SpannedAfter}
+use Rattle.network.specs.Steps.{AfterStep, StepLeft, TurnLeft, stepOf}
+use Rattle.network.specs.Outcomes.{followedFrom, followedOn}
+use Rattle.network.specs.Spans.{leavingFrom, copiesOf, spanSize, SlotWithin, placeIn, firstIn, endIn}
+use Rattle.network.specs.Spans.{notedIn, followersAt, arcsTo, IsSpan, Spanned}
+use Rattle.network.specs.Repeating.{Repeated, Repeats}
+use Rattle.network.specs.Underway.{BetweenTurns, Expandable, Onward}
 use Rattle.network.specs.laws.Steps.{step-stop}
 use Rattle.network.specs.laws.Outcomes.{next-answered}
-use Rattle.network.specs.laws.HoldsMore.{held-sizes}
-use Rattle.network.specs.laws.PerformedArcs.{withArcs, performs-arcs, performs-over}
-use Rattle.network.specs.laws.Expanding.{Expandable, shifted-is}
+use Rattle.network.specs.laws.HoldsMore.{held-sizes, holds-arcs}
+use Rattle.network.specs.laws.PerformedArcs.{performs-arcs, performs-over}
+use Rattle.network.specs.laws.KeptMore.{withArcs}
+use Rattle.network.specs.laws.Expanding.{shifted-is}
 use Rattle.network.specs.laws.Spans.{arcs-to-from, spans-stay, spans-noted, span-made, enters-known}
 
 -- ---- the span in a slot
@@ -56,51 +61,25 @@ pub slot-within : (n size : ℕ) → spanSize ≤ size → spanSize * (n % (size
 slot-within n size h = let l = mod-lt n {m = size / spanSize} (some-slots size h) in omega (arith, l)
 
 -- whether it is of a metastate with the same shifted matrix, by the code's steps
-pub alike-repeats : (header : Header) (metastates spans : List ℕ) (slot : ℕ) (columns : List ℕ) {place half all : ℕ}
-    {m shifted : List ℕ} {answer : Bool} → place ≡ spans ! (spanSize * slot) → (place ≡ 0 → ⊥)
+pub alike-repeats : (header : Header) (metastates spans : List ℕ) (slot : ℕ) (columns : List ℕ)
+    {place half all : ℕ} {m shifted : List ℕ} {answer : Bool} → place ≡ placeIn spans slot → (place ≡ 0 → ⊥)
     → m ≡ firstSeven (drop (metastateSize * (place - 1) + 1) metastates)
-    → all ≡ allPhones (min (header .phones) 64) → half ≡ header .half → shifted ≡ shiftedWords (2 * half) all m
+    → all ≡ allPhones (min (header .phones) 64) → half ≡ header .half
+    → shifted ≡ shiftedWords (2 * half) all m
     → answer ≡ same shifted columns → Repeats header metastates spans slot columns answer
-alike-repeats header metastates spans slot columns {place} {half} {all} {m} {shifted} e noted is phones n f a alike = (
+alike-repeats header metastates spans slot columns {place} {shifted = shifted} e noted is all n f a alike = (
   place - 1,
   sym e ∙ omega (arith, noted),
-  sym (f ∙ rw (n, phones, is)) ∙ same-lists shifted columns (subst T (sym alike ∙ a) tt),
+  sym (f ∙ rw (n, all, is)) ∙ same-lists shifted columns (subst T (sym alike ∙ a) tt),
 )
 
--- words that hold a network hold it with arcs more, where these stand after the used words and have room
-module _ {half count : ℕ} {net : Network} {metastates arcs chains : List ℕ}
-    (held : Holds half count net metastates arcs chains) (added : List Arc) {arcs′ : List ℕ}
-    (room : length (net .arcs) + length added ≤ arcRoom arcs)
-    (w : arcs′ ≡ padded (length arcs) (concatMap arcWords (net .arcs ++ added)))
+module _ {header : Header} {nodes words index metastates arcs chains spans : List ℕ} {sizes : Sizes}
+    {place : ℕ} {columns : List ℕ}
+    (s : Onward header nodes words index metastates arcs chains spans sizes place columns)
   where
-    pub more-sized : length arcs′ ≡ length arcs
-    unfolding arcWords
-    more-sized =
-        let used = flat-length arcWords arcSize arc-sized (net .arcs ++ added) in
-        ap length w
-        ∙ padded-length (length arcs) (concatMap arcWords (net .arcs ++ added))
-        (omega (arith, used, length-append (net .arcs) added, room))
+    between : BetweenTurns header nodes words index metastates arcs chains spans sizes
+    between = s .expandable .between
 
-    pub holds-more : Holds half count (withArcs net added) metastates arcs′ chains
-    unfolding roomIn
-    holds-more =
-        record {
-          metastate-words = held .metastate-words;
-          arc-words =
-              w ∙ ap (λ (n : ℕ). padded n (concatMap arcWords (net .arcs ++ added))) (sym more-sized);
-          metastate-room = held .metastate-room;
-          arc-room = rw (more-sized, length-append) room;
-          link-room = held .link-room;
-          linked = held .linked;
-          once = held .once;
-          numbers = held .numbers;
-          widths = held .widths;
-        }
-
-module _ {header : Header} {nodes words metastates arcs chains spans : List ℕ} {sizes : Sizes} {place : ℕ}
-    {columns : List ℕ} (usable : Usable header words) (modelled : Modelled header nodes words)
-    (s : Onward header nodes words metastates arcs chains spans sizes place columns)
-  where
     abbrev book : Book
     book = nodesBook header nodes
 
@@ -120,7 +99,7 @@ module _ {header : Header} {nodes words metastates arcs chains spans : List ℕ}
     xs = followersFrom (matrixIn (header .half) columns) 0 cs
 
     abbrev outcome : Outcome Network
-    outcome = followedFrom header nodes words metastates arcs sizes place columns
+    outcome = followedOn header nodes words metastates arcs sizes place columns
 
     asked : sizesOf net ≡ sizes
     asked = held-sizes (header .half) sizes metastates arcs
@@ -130,15 +109,22 @@ module _ {header : Header} {nodes words metastates arcs chains spans : List ℕ}
 
     pub onward-place : place < 65535
     unfolding roomIn
-    onward-place = omega (arith, s .listed, ap (λ (z : Sizes). z .metastates) asked, s .holds .metastate-room)
+    onward-place =
+        omega (
+          arith,
+          s .expandable .listed,
+          ap (λ (z : Sizes). z .metastates) asked,
+          between .underway .kept .table-room,
+        )
 
     pub onward-arcs : sizes .arcs ≤ arcRoom arcs
     unfolding roomIn
-    onward-arcs = omega (arith, arcs-asked, s .holds .arc-room)
+    onward-arcs = omega (arith, arcs-asked, between .underway .kept .arc-room)
 
     -- metastates that have the columns after the shift have the same followers
     same-followers : (other : ℕ)
-        → shift (header .phones) (getD (net .metastates) other noMetastate .matrix) ≡ matrixIn (header .half) columns
+        → shift (header .phones) (getD (net .table) other noMetastate .carried)
+        ≡ matrixIn (header .half) columns
         → followersAt book cs net other ≡ xs
     unfolding followers bookWith
     same-followers other e = ap (λ (m : List ℕ). followersFrom m 0 cs) e
@@ -147,88 +133,100 @@ module _ {header : Header} {nodes words metastates arcs chains spans : List ℕ}
     own-followers = same-followers place (sym (s .shifted))
 
     -- spans stay, whatever was entered
-    pub spans-kept : SpannedAfter header nodes words outcome spans
+    abbrev SpannedAfter : (spans : List ℕ) → Type 0
+    SpannedAfter l = (next : Network) → outcome ≡ answered next → Spanned book cs next l
+
+    spans-kept : SpannedAfter spans
     spans-kept next e =
-        let p : Performed book cs net (map (enter from) xs) next =
-        all-performed book cs room net (map (enter from) xs) next e in
-        spans-stay book cs (p .more) (map (eventArc book cs (next .metastates)) (map (enter from) xs)) (p .grown)
-        (p .added) (s .spanned)
+        let p : Performed (machineOf book cs) net (map (enter from) xs) next =
+        all-performed (machineOf book cs) metastates-told room net (map (enter from) xs) next e in
+        spans-stay book cs (p .more)
+        (map (eventArc (machineOf book cs) (next .table)) (map (enter from) xs)) (p .grown)
+        (p .added) (between .spanned)
 
     -- ---- entered one by one
 
-    pub spans-after : (slot : ℕ) {next : Sizes} → spanSize * slot + spanSize ≤ length spans → step.Next next ≡ stepOf outcome
-        → SpannedAfter header nodes words outcome
-        (set (set (set spans (spanSize * slot) (place + 1)) (spanSize * slot + 1) (sizes .arcs)) (spanSize * slot + 2)
-        (next .arcs))
+    spans-after : (slot : ℕ) {next : Sizes} → SlotWithin spans slot → step.Next next ≡ stepOf outcome
+        → SpannedAfter (notedIn spans slot place (sizes .arcs) (next .arcs))
     unfolding stepOf bookWith
     spans-after slot {next} h a now e =
         let sized : step.Next next ≡ step.Next (sizesOf now) = a ∙ ap stepOf e in
         let same : next ≡ sizesOf now = cc in
         let made : IsSpan book cs now place (length (net .arcs)) (length (now .arcs)) =
         span-made book cs room net now place
-        (omega (arith, s .listed, ap (λ (z : Sizes). z .metastates) asked))
-        (subst (λ (l : List Metastate). performAll book cs room net (map (enter from) l) ≡ answered now)
+        (omega (arith, s .expandable .listed, ap (λ (z : Sizes). z .metastates) asked))
+        (subst
+        (λ (l : List Metastate). performAll (machineOf book cs) room net (map (enter from) l) ≡ answered now)
         (sym own-followers) e) in
         rw (sym arcs-asked, same)
         (spans-noted book cs (spans-kept now e) slot place (length (net .arcs)) (length (now .arcs)) h made)
 
     -- from the state that the code computed
     module _ {state : ℕ} (at : state ≡ from) {answer : Step} {metastates′ arcs′ chains′ : List ℕ}
-        (left : AfterStep (header .half) (length cs) metastates arcs
-        (enteringAll header nodes words state metastates arcs net xs) answer metastates′ arcs′ chains′)
+        (left : StepLeft header words metastates arcs chains
+        (followedFrom header nodes words metastates arcs sizes state columns)
+        answer metastates′ arcs′ chains′)
       where
-        pub followed-on : {same : Step} → answer ≡ same
-            → AfterStep (header .half) (length cs) metastates arcs outcome same metastates′ arcs′ chains′
+        followed-on : {same : Step} → answer ≡ same
+            → StepLeft header words metastates arcs chains outcome same metastates′ arcs′ chains′
         followed-on e =
-            subst (λ (z : Step). AfterStep (header .half) (length cs) metastates arcs outcome z
+            subst (λ (z : Step). StepLeft header words metastates arcs chains outcome z
             metastates′ arcs′ chains′) e
-            (subst (λ (z : ℕ). AfterStep (header .half) (length cs) metastates arcs
-            (enteringAll header nodes words z metastates arcs net xs) answer metastates′ arcs′ chains′) at left)
+            (subst (λ (z : ℕ). StepLeft header words metastates arcs chains
+            (followedFrom header nodes words metastates arcs sizes z columns)
+            answer metastates′ arcs′ chains′) at left)
 
         pub followed-few : header .half ≤ 3 → {next : Sizes} → answer ≡ step.Next next → next .arcs ≤ 999999
         unfolding roomIn
         followed-few few {next} e =
-            let held = left .holds (networkHeld (header .half) next metastates′ arcs′) (next-answered few left e) in
+            let now : Network = networkHeld (header .half) next metastates′ arcs′ in
+            let held = left .step .holds now (next-answered few (left .step) e) in
             let sized = held-sizes (header .half) next metastates′ arcs′ in
-            omega (arith, held .arc-room, ap (λ (z : Sizes). z .arcs) sized)
+            omega (arith, held .kept .arc-room, ap (λ (z : Sizes). z .arcs) sized)
 
-        pub followed-spans : (slot : ℕ) {next : Sizes} {spans′ : List ℕ} → spanSize * slot + spanSize ≤ length spans
-            → answer ≡ step.Next next
-            → spans′ ≡ set (set (set spans (spanSize * slot) (place + 1)) (spanSize * slot + 1) (sizes .arcs))
-            (spanSize * slot + 2) (next .arcs)
-            → SpannedAfter header nodes words outcome spans′
-        followed-spans slot h e is =
-            subst (SpannedAfter header nodes words outcome) (sym is) (spans-after slot h (followed-on e .answers))
+        pub followed-noted : (slot : ℕ) {next : Sizes} {spans′ : List ℕ} → SlotWithin spans slot
+            → answer ≡ step.Next next → spans′ ≡ notedIn spans slot place (sizes .arcs) (next .arcs)
+            → TurnLeft header nodes words metastates arcs chains spans outcome (step.Next next)
+            metastates′ arcs′ chains′ spans′
+        followed-noted slot h e is =
+            record {
+              left = followed-on e;
+              spans-sized = ap length is ∙ simp length-set refl;
+              spanned = subst SpannedAfter (sym is) (spans-after slot h (followed-on e .step .answers));
+            }
 
-        -- a refused step leaves nothing to say
-        pub followed-none : {fault : Fault} → answer ≡ step.Stop fault
-            → {spans′ : List ℕ} → SpannedAfter header nodes words outcome spans′
-        followed-none {fault} e n k =
-            let (r, is, _) = step-stop outcome fault (followed-on e .answers) in
-            absurd (refused-not-answered outcome (r .fault) (r .line) n is k)
+        -- a refused step leaves nothing to say of spans
+        pub followed-refused : {fault : Fault} → answer ≡ step.Stop fault
+            → TurnLeft header nodes words metastates arcs chains spans outcome (step.Stop fault)
+            metastates′ arcs′ chains′ spans
+        followed-refused {fault} e =
+            let (r, is, _) = step-stop outcome fault (followed-on e .step .answers) in
+            record {
+              left = followed-on e;
+              spans-sized = refl;
+              spanned = λ n k. absurd (refused-not-answered outcome (r .fault) (r .line) n is k);
+            }
 
     -- ---- copied
 
-    module _ (slot : ℕ) {other : ℕ} (h : spanSize * slot + spanSize ≤ length spans) (is : (spans ! (spanSize * slot)) ≡ suc other)
+    module _ (slot : ℕ) {other : ℕ} (h : SlotWithin spans slot) (is : placeIn spans slot ≡ suc other)
         (alike : shiftedWords (2 * header .half) (allPhones (min (header .phones) 64))
         (firstSeven (drop (metastateSize * other + 1) metastates)) ≡ columns)
       where
         abbrev first : ℕ
-        first = spans ! (spanSize * slot + 1)
+        first = firstIn spans slot
 
         abbrev end : ℕ
-        end = spans ! (spanSize * slot + 2)
+        end = endIn spans slot
 
         span : IsSpan book cs net other first end
-        span = s .spanned .each slot other h is
+        span = between .spanned .each slot other h is
 
-        there : Expandable header nodes words metastates arcs chains sizes other
+        there : Expandable header nodes words index metastates arcs chains spans sizes other
         there =
             record {
-              usable = usable;
-              modelled = modelled;
+              between = between;
               listed = omega (arith, span .listed, ap (λ (z : Sizes). z .metastates) asked);
-              holds = s .holds;
             }
 
         followers-are : followersAt book cs net other ≡ xs
@@ -244,27 +242,28 @@ module _ {header : Header} {nodes words metastates arcs chains spans : List ℕ}
         span-within = omega (arith, span .within, arcs-asked)
 
         abbrev copies : List Arc
-        copies = copiedArcs (sizes .arcs) first end from arcs
+        copies = copiesOf from first (end - first) (arcsIn (sizes .arcs) arcs)
 
-        copies-are : copies ≡ arcsTo book cs (net .metastates) from xs
+        copies-are : copies ≡ arcsTo book cs (net .table) from xs
         unfolding bookWith
         copies-are =
             ap (map (leavingFrom from))
-            (ap (λ (n : ℕ). take n (drop first (net .arcs))) (many ∙ sym (ap length followers-are)) ∙ span .arcs)
-            ∙ arcs-to-from book cs (net .metastates) from (lastState (header .states) other)
+            (ap (λ (n : ℕ). take n (drop first (net .arcs))) (many ∙ sym (ap length followers-are))
+            ∙ span .arcs)
+            ∙ arcs-to-from book cs (net .table) from (lastState (header .states) other)
             (followersAt book cs net other)
-            ∙ ap (arcsTo book cs (net .metastates) from) followers-are
+            ∙ ap (arcsTo book cs (net .table) from) followers-are
 
         copies-many : length copies ≡ end - first
         copies-many = ap length copies-are ∙ length-map xs _ ∙ sym many
 
-        outcome-is : outcome ≡ performAll book cs room net (map plain copies)
+        outcome-is : outcome ≡ performAll (machineOf book cs) room net (map plain copies)
         outcome-is =
             enters-known book cs room net from xs
             (λ x i. span .known x (subst (isIn x) (sym followers-are) i))
-            ∙ ap (λ (l : List Arc). performAll book cs room net (map plain l)) (sym copies-are)
+            ∙ ap (λ (l : List Arc). performAll (machineOf book cs) room net (map plain l)) (sym copies-are)
 
-        pub repeated : {answer : Step} {arcs′ : List ℕ} → Repeated sizes first end from arcs answer arcs′
+        repeated : {answer : Step} {arcs′ : List ℕ} → Repeated sizes first end from arcs answer arcs′
             → AfterStep (header .half) (length cs) metastates arcs outcome answer metastates arcs′ chains
         unfolding roomIn stepOf
         repeated {answer} {arcs′} r =
@@ -273,8 +272,9 @@ module _ {header : Header} {nodes words metastates arcs chains spans : List ℕ}
             goes : leb (sizes .arcs + (end - first)) (arcRoom arcs) ≡ true
                 → AfterStep (header .half) (length cs) metastates arcs outcome answer metastates arcs′ chains
             goes t =
+                let few = leb-true (sizes .arcs + (end - first)) (arcRoom arcs) t in
                 let fits : length (net .arcs) + length copies ≤ arcRoom arcs =
-                omega (arith, leb-true (sizes .arcs + (end - first)) (arcRoom arcs) t, arcs-asked, copies-many) in
+                omega (arith, few, arcs-asked, copies-many) in
                 let w : arcs′ ≡ padded (length arcs) (concatMap arcWords (net .arcs ++ copies)) =
                 r .words ∙ rw t in
                 let done : outcome ≡ answered (withArcs net copies) =
@@ -290,17 +290,18 @@ module _ {header : Header} {nodes words metastates arcs chains spans : List ℕ}
                       let both : answered (withArcs net copies) ≡ answered n = sym done ∙ e in
                       let same : withArcs net copies ≡ n = cc in
                       subst (λ (z : Network). Holds (header .half) (length cs) z metastates arcs′ chains) same
-                      (holds-more (s .holds) copies fits w);
+                      (holds-arcs (between .underway) copies fits w .1);
                   metastates-sized = refl;
-                  arcs-sized = more-sized (s .holds) copies fits w;
+                  arcs-sized = holds-arcs (between .underway) copies fits w .0;
                 }
 
             stops : leb (sizes .arcs + (end - first)) (arcRoom arcs) ≡ false
                 → AfterStep (header .half) (length cs) metastates arcs outcome answer metastates arcs′ chains
             stops t =
+                let many = leb-false (sizes .arcs + (end - first)) (arcRoom arcs) t in
                 let none : outcome ≡ refuse Tangle 0 =
-                outcome-is ∙ performs-over book cs room net copies (s .holds .arc-room)
-                (omega (arith, leb-false (sizes .arcs + (end - first)) (arcRoom arcs) t, arcs-asked, copies-many)) in
+                outcome-is ∙ performs-over book cs room net copies (between .underway .kept .arc-room)
+                (omega (arith, many, arcs-asked, copies-many)) in
                 let same : arcs′ ≡ arcs = r .words ∙ rw t in
                 record {
                   answers = r .answers ∙ rw t (sym (ap stepOf none));
@@ -309,10 +310,19 @@ module _ {header : Header} {nodes words metastates arcs chains spans : List ℕ}
                   arcs-sized = ap length same;
                 }
 
-        pub repeated-on : {f e state : ℕ} {answer : Step} {arcs′ : List ℕ} → f ≡ first → e ≡ end → state ≡ from
-            → Repeated sizes f e state arcs answer arcs′
-            → AfterStep (header .half) (length cs) metastates arcs outcome answer metastates arcs′ chains
+        pub repeated-on : {f e state : ℕ} {answer : Step} {arcs′ : List ℕ}
+            → f ≡ first → e ≡ end → state ≡ from → Repeated sizes f e state arcs answer arcs′
+            → TurnLeft header nodes words metastates arcs chains spans outcome answer
+            metastates arcs′ chains spans
         repeated-on {f} {e} {state} {answer} {arcs′} a b d r =
-            repeated (subst (λ (z : ℕ). Repeated sizes first end z arcs answer arcs′) d
-            (subst (λ (z : ℕ). Repeated sizes first z state arcs answer arcs′) b
-            (subst (λ (z : ℕ). Repeated sizes z e state arcs answer arcs′) a r)))
+            record {
+              left = record {
+                step =
+                    repeated (subst (λ (z : ℕ). Repeated sizes first end z arcs answer arcs′) d
+                    (subst (λ (z : ℕ). Repeated sizes first z state arcs answer arcs′) b
+                    (subst (λ (z : ℕ). Repeated sizes z e state arcs answer arcs′) a r)));
+                chains-sized = refl;
+              };
+              spans-sized = refl;
+              spanned = spans-kept;
+            }

@@ -47,47 +47,47 @@ module _ (header : Header) (c : Combination) (choice : IsCombination header c) w
   all = allPhones (header .phones)
 
   abbrev met : Matrix
-  met = meet (beforeStart header) (c .matrix)
+  met = meet (beforeStart header) (c .carried)
 
-  widths : length (beforeStart header) ≡ length (c .matrix)
+  widths : length (beforeStart header) ≡ length (c .carried)
   widths = around-length half 1 1 all ∙ omega (arith, choice .width)
 
-  met-width : length met ≡ length (c .matrix)
-  met-width = meet-length (beforeStart header) (c .matrix) widths ∙ widths
+  met-width : length met ≡ length (c .carried)
+  met-width = meet-length (beforeStart header) (c .carried) widths ∙ widths
 
-  met-column : (column : ℕ) → met ! column ≡ bitAnd (beforeStart header ! column) (c .matrix ! column)
-  met-column = meet-column (beforeStart header) (c .matrix)
+  met-column : (column : ℕ) → met ! column ≡ bitAnd (beforeStart header ! column) (c .carried ! column)
+  met-column = meet-column (beforeStart header) (c .carried)
 
   -- ---- a combination of silence
 
   abbrev Cut : (column : ℕ) → Type 0
-  Cut column = met ! column ≡ startCut half (c .matrix) ! column
+  Cut column = met ! column ≡ startCut half (c .carried) ! column
 
   left-cut : (column : ℕ) → column < half → Cut column
   unfolding alone
   left-cut column h =
       met-column column
-      ∙ rw (← around-left half 1 1 all column h, start-column half (c .matrix) column h)
-      (and-comm 1 (c .matrix ! column))
+      ∙ rw (← around-left half 1 1 all column h, start-column half (c .carried) column h)
+      (and-comm 1 (c .carried ! column))
 
   centre-cut : c .phone ≡ 1 → (column : ℕ) → column ≡ half → Cut column
   centre-cut e column h =
-      let only : ((p : ℕ) → T (has p (c .matrix ! column)) → p ≡ 1) =
-      λ p t. choice .centre p (subst (λ (i : ℕ). T (has p (c .matrix ! i))) h t) ∙ e in
+      let only : ((p : ℕ) → T (has p (c .carried ! column)) → p ≡ 1) =
+      λ p t. choice .centre p (subst (λ (i : ℕ). T (has p (c .carried ! i))) h t) ∙ e in
       met-column column
-      ∙ rw (← around-centre half 1 1 all column h, start-other half (c .matrix) column (omega arith))
-      (silence-only (c .matrix ! column) only)
+      ∙ rw (← around-centre half 1 1 all column h, start-other half (c .carried) column (omega arith))
+      (silence-only (c .carried ! column) only)
 
   right-cut : (column : ℕ) → half < column → column ≤ 2 * half → Cut column
   right-cut column h k =
       met-column column
-      ∙ rw (← around-right half 1 1 all column h k, start-other half (c .matrix) column (omega arith))
-      (and-comm all (c .matrix ! column)
-      ∙ within-all (header .phones) (c .matrix ! column) (choice .below column))
+      ∙ rw (← around-right half 1 1 all column h k, start-other half (c .carried) column (omega arith))
+      (and-comm all (c .carried ! column)
+      ∙ within-all (header .phones) (c .carried ! column) (choice .below column))
 
-  silence-met : c .phone ≡ 1 → met ≡ startCut half (c .matrix)
+  silence-met : c .phone ≡ 1 → met ≡ startCut half (c .carried)
   silence-met e =
-      ext-getD 0 met (startCut half (c .matrix)) (met-width ∙ sym (start-length half (c .matrix)))
+      ext-getD 0 met (startCut half (c .carried)) (met-width ∙ sym (start-length half (c .carried)))
       (λ column h.
       by-test (ltb column half) (λ t. left-cut column (ltb-true column half t)) (λ t.
       by-test (eqb column half) (λ u. centre-cut e column (eqb-true column half u)) (λ u.
@@ -103,16 +103,16 @@ module _ (header : Header) (c : Combination) (choice : IsCombination header c) w
       never : T (valid met) → ⊥
       never v =
           let (p, t) = valid-columns met .0 v half (omega (arith, met-width, choice .width)) in
-          let both : T (has p 1 && has p (c .matrix ! half)) =
+          let both : T (has p 1 && has p (c .carried ! half)) =
           rw (met-column half, ← around-centre half 1 1 all half refl, has-and) at t in
-          let (one, own) = T-and (has p 1) (has p (c .matrix ! half)) .0 both in
+          let (one, own) = T-and (has p 1) (has p (c .carried ! half)) .0 both in
           other (sym (choice .centre p own) ∙ eqb→eq p 1 (subst T (has-alone p 1 (omega arith)) one))
 
   -- the one metastate of a combination, or none
   start-follows : (number : ℕ) (rest : List Metastate)
-      → (if eqb (c .phone) 1 && valid (startCut half (c .matrix))
-      then record { number = number; matrix = startCut half (c .matrix) } ∷ rest else rest)
-      ≡ (if valid met then record { number = number; matrix = met } ∷ rest else rest)
+      → (if eqb (c .phone) 1 && valid (startCut half (c .carried))
+      then record { number = number; carried = startCut half (c .carried) } ∷ rest else rest)
+      ≡ (if valid met then record { number = number; carried = met } ∷ rest else rest)
   start-follows number rest =
       by-test (eqb (c .phone) 1)
       (λ t. rw (t, silence-met (eqb-true (c .phone) 1 t)))
@@ -127,8 +127,8 @@ starts-follow-from header number [] each = refl
 starts-follow-from header number (c ∷ cs) each =
     let next = starts-follow-from header (suc number) cs (λ i h. each (suc i) (omega arith)) in
     start-follows header c (each 0 (omega arith)) number (startsFrom (header .half) (suc number) cs)
-    ∙ ap (λ rest. if valid (meet (beforeStart header) (c .matrix))
-    then record { number = number; matrix = meet (beforeStart header) (c .matrix) } ∷ rest else rest) next
+    ∙ ap (λ rest. if valid (meet (beforeStart header) (c .carried))
+    then record { number = number; carried = meet (beforeStart header) (c .carried) } ∷ rest else rest) next
 
 pub starts-follow : (header : Header) (cs : List Combination)
     → ((number : ℕ) → number < length cs → IsCombination header (numbered cs number))

@@ -17,7 +17,8 @@ use Rattle.definitions.specs.Combinations.{Combination}
 use Rattle.definitions.specs.Arcs.{arcWords}
 use Rattle.definitions.specs.Metastates.{metastateWords}
 use Rattle.definitions.specs.Building.{roomIn, networkIn, countsIn}
-use Rattle.definitions.specs.Connecting.{Network, Room, Built, finished, stopped, expand, turnsFrom}
+use Rattle.definitions.specs.Growing.{Room, finished, stopped, grownIn, expand, turnsFrom}
+use Rattle.definitions.specs.Connecting.{Network, Built, machineOf}
 use Rattle.definitions.specs.laws.RefusalLines.{performs-line}
 use Rattle.network.specs.declared.Sizes.{Sizes}
 use Rattle.network.specs.declared.Step.{Step}
@@ -26,33 +27,36 @@ use Rattle.network.specs.declared.Totals.{Totals}
 use Rattle.network.specs.declared.Build.{Build}
 use Rattle.network.specs.declared.Build.the-variants as build
 use Rattle.network.specs.Answers.{totalsOf, buildOf}
-use Rattle.network.specs.Combinations.{combinationsIn, nodesBook}
-use Rattle.network.specs.Networks.{networkHeld, roomOf, Holds}
-use Rattle.network.specs.Steps.{AfterStep, Connected}
+use Rattle.network.specs.Combinations.{combinationsIn, nodesBook, machineIn}
+use Rattle.network.specs.Networks.{networkHeld, roomOf}
+use Rattle.network.specs.Underway.{Underway, BetweenTurns}
+use Rattle.network.specs.Outcomes.{expandedAt, turnedFrom}
+use Rattle.network.specs.Steps.{AfterStep, TurnLeft, Connected}
 use Rattle.network.specs.laws.Steps.{step-stop}
 use Rattle.network.specs.laws.HoldsMore.{held-sizes}
+use Rattle.network.specs.laws.Followers.{narrow}
 use Rattle.network.specs.laws.Outcomes.{next-answered, refused-left}
 
 -- ---- the turns of the definition
 
 module _ (book : Book) (combinations : List Combination) (room : Room) where
-  none-left : (limit turns : ℕ) (net : Network) → length (net .metastates) ≤ turns
-      → turnsFrom book combinations room limit turns net ≡ answered (finished turns net)
+  none-left : (limit turns : ℕ) (net : Network) → length (net .table) ≤ turns
+      → turnsFrom (machineOf book combinations) room limit turns net ≡ answered (finished turns net)
   unfolding turnsFrom
-  none-left zero turns net h = rw (le-ltb turns (length (net .metastates)) h)
-  none-left (suc limit) turns net h = rw (le-ltb turns (length (net .metastates)) h, turnsFrom)
+  none-left zero turns net h = rw (le-ltb turns (length (net .table)) h)
+  none-left (suc limit) turns net h = rw (le-ltb turns (length (net .table)) h, turnsFrom)
 
-  one-left : (turns : ℕ) (net : Network) → turns < length (net .metastates)
-      → turnsFrom book combinations room 0 turns net ≡ answered (stopped turns net)
+  one-left : (turns : ℕ) (net : Network) → turns < length (net .table)
+      → turnsFrom (machineOf book combinations) room 0 turns net ≡ answered (stopped turns net)
   unfolding turnsFrom
-  one-left turns net h = rw (lt-ltb turns (length (net .metastates)) h)
+  one-left turns net h = rw (lt-ltb turns (length (net .table)) h)
 
-  one-turn : (limit turns : ℕ) (net : Network) → turns < length (net .metastates)
-      → turnsFrom book combinations room (suc limit) turns net
-      ≡ andThen (expand book combinations room turns net)
-      (λ next. turnsFrom book combinations room limit (suc turns) next)
+  one-turn : (limit turns : ℕ) (net : Network) → turns < length (net .table)
+      → turnsFrom (machineOf book combinations) room (suc limit) turns net
+      ≡ andThen (expand (machineOf book combinations) room turns net)
+      (λ next. turnsFrom (machineOf book combinations) room limit (suc turns) next)
   unfolding turnsFrom
-  one-turn limit turns net h = rw (lt-ltb turns (length (net .metastates)) h, turnsFrom)
+  one-turn limit turns net h = rw (lt-ltb turns (length (net .table)) h, turnsFrom)
 
 -- ---- the turns of the code
 
@@ -65,164 +69,188 @@ totalsAt states turns sizes =
     }
 
 -- after so many turns: what the words hold, and what is left of the build
-pub record Turned (header : Header) (nodes combinations metastates₀ arcs₀ : List ℕ) (sizes₀ : Sizes) (limit : ℕ)
-    (metastates arcs chains : List ℕ) (sizes : Sizes) (turns : ℕ) : Type 0 where
+pub record Turned (header : Header) (nodes combinations index metastates₀ arcs₀ chains₀ spans₀ : List ℕ)
+    (sizes₀ : Sizes) (limit : ℕ) (metastates arcs chains spans : List ℕ) (sizes : Sizes) (turns : ℕ)
+    : Type 0 where
   pub within : turns ≤ limit
   pub metastates-sized : length metastates ≡ length metastates₀
   pub arcs-sized : length arcs ≡ length arcs₀
-  pub holds : Holds (header .half) (length (combinationsIn header combinations))
-      (networkHeld (header .half) sizes metastates arcs) metastates arcs chains
-  pub rest : turnsFrom (nodesBook header nodes) (combinationsIn header combinations) (roomOf metastates₀ arcs₀)
-      limit 0 (networkHeld (header .half) sizes₀ metastates₀ arcs₀)
-      ≡ turnsFrom (nodesBook header nodes) (combinationsIn header combinations) (roomOf metastates₀ arcs₀)
-      (limit - turns) turns (networkHeld (header .half) sizes metastates arcs)
+  pub chains-sized : length chains ≡ length chains₀
+  pub spans-sized : length spans ≡ length spans₀
+  pub between : BetweenTurns header nodes combinations index metastates arcs chains spans sizes
+  pub rest : turnedFrom header nodes combinations metastates₀ arcs₀ sizes₀ limit
+      ≡ turnsFrom (machineIn header nodes combinations)
+      (roomOf metastates₀ arcs₀) (limit - turns) turns (networkHeld (header .half) sizes metastates arcs)
 
-module _ (header : Header) (nodes combinations metastates₀ arcs₀ : List ℕ) (sizes₀ : Sizes) (limit : ℕ) where
-  abbrev book : Book
-  book = nodesBook header nodes
+pub turned-none : {header : Header} {nodes combinations index metastates arcs chains spans : List ℕ}
+    {sizes : Sizes} {limit : ℕ}
+    → BetweenTurns header nodes combinations index metastates arcs chains spans sizes
+    → Turned header nodes combinations index metastates arcs chains spans sizes limit
+    metastates arcs chains spans sizes 0
+turned-none between =
+    record {
+      within = omega arith;
+      metastates-sized = refl;
+      arcs-sized = refl;
+      chains-sized = refl;
+      spans-sized = refl;
+      between = between;
+      rest = rw sub-zero;
+    }
 
-  abbrev cs : List Combination
-  cs = combinationsIn header combinations
+module _ {header : Header} {nodes combinations index metastates₀ arcs₀ chains₀ spans₀ : List ℕ}
+    {sizes₀ : Sizes} {limit : ℕ} {metastates arcs chains spans : List ℕ} {sizes : Sizes} {turns : ℕ}
+    (t : Turned header nodes combinations index metastates₀ arcs₀ chains₀ spans₀ sizes₀ limit
+    metastates arcs chains spans sizes turns)
+  where
+    abbrev book : Book
+    book = nodesBook header nodes
 
-  abbrev room : Room
-  room = roomOf metastates₀ arcs₀
+    abbrev cs : List Combination
+    cs = combinationsIn header combinations
 
-  abbrev whole : Outcome Built
-  whole = turnsFrom book cs room limit 0 (networkHeld (header .half) sizes₀ metastates₀ arcs₀)
+    abbrev room : Room
+    room = roomOf metastates₀ arcs₀
 
-  pub turned-none : {chains : List ℕ}
-      → Holds (header .half) (length cs) (networkHeld (header .half) sizes₀ metastates₀ arcs₀)
-      metastates₀ arcs₀ chains
-      → Turned header nodes combinations metastates₀ arcs₀ sizes₀ limit metastates₀ arcs₀ chains sizes₀ 0
-  turned-none h =
-      record {
-        within = omega arith;
-        metastates-sized = refl;
-        arcs-sized = refl;
-        holds = h;
-        rest = rw sub-zero;
-      }
+    abbrev whole : Outcome Built
+    whole = turnedFrom header nodes combinations metastates₀ arcs₀ sizes₀ limit
 
-  module _ {metastates arcs chains : List ℕ} {sizes : Sizes} {turns : ℕ}
-      (t : Turned header nodes combinations metastates₀ arcs₀ sizes₀ limit metastates arcs chains sizes turns)
-    where
-      abbrev net : Network
-      net = networkHeld (header .half) sizes metastates arcs
+    underway : Underway header combinations sizes metastates arcs chains
+    underway = t .between .underway
 
-      metastates-are : length (net .metastates) ≡ sizes .metastates
-      metastates-are = ap (λ (z : Sizes). z .metastates) (held-sizes (header .half) sizes metastates arcs)
+    abbrev net : Network
+    net = networkHeld (header .half) sizes metastates arcs
 
-      arcs-are : length (net .arcs) ≡ sizes .arcs
-      arcs-are = ap (λ (z : Sizes). z .arcs) (held-sizes (header .half) sizes metastates arcs)
+    metastates-are : length (net .table) ≡ sizes .metastates
+    metastates-are = ap (λ (z : Sizes). z .metastates) (held-sizes (header .half) sizes metastates arcs)
 
-      same-room : roomOf metastates arcs ≡ room
-      unfolding roomIn
-      same-room = rw (t .metastates-sized, t .arcs-sized)
+    arcs-are : length (net .arcs) ≡ sizes .arcs
+    arcs-are = ap (λ (z : Sizes). z .arcs) (held-sizes (header .half) sizes metastates arcs)
 
-      -- the counts are words
-      pub metastates-word : sizes .metastates < 4294967296
-      unfolding roomIn
-      metastates-word = omega (arith, metastates-are, t .holds .metastate-room)
+    same-room : roomOf metastates arcs ≡ room
+    unfolding roomIn
+    same-room = rw (t .metastates-sized, t .arcs-sized)
 
-      pub arcs-word : sizes .arcs < 4294967296
-      unfolding roomIn
-      arcs-word = omega (arith, arcs-are, t .holds .arc-room)
+    -- the counts are words
+    pub metastates-word : sizes .metastates < 4294967296
+    unfolding roomIn
+    metastates-word = omega (arith, metastates-are, underway .kept .table-room)
 
-      -- ---- the answers
+    pub arcs-word : sizes .arcs < 4294967296
+    unfolding roomIn
+    arcs-word = omega (arith, arcs-are, underway .kept .arc-room)
 
-      totals-are : {total : Totals} → total ≡ totalsAt (header .states) turns sizes
-          → total ≡ totalsOf (header .states) turns net
-      unfolding totalsOf countsIn
-      totals-are e =
-          e ∙ ap (totalsAt (header .states) turns) (sym (held-sizes (header .half) sizes metastates arcs))
+    -- ---- the answers
 
-      answered-left : {answer : Build} (built : Built) → networkIn built ≡ net → whole ≡ answered built
-          → answer ≡ buildOf (header .states) (answered built)
-          → Connected (header .states) metastates₀ arcs₀ whole answer metastates arcs
-      answered-left built is e a =
-          record {
-            answers = a ∙ ap (buildOf (header .states)) (sym e);
-            metastate-words = λ other k.
-                let same : net ≡ networkIn other = sym is ∙ ap networkIn (the-same other k) in
-                t .holds .metastate-words
-                ∙ ap₂ (λ (n : ℕ) (l : Network). padded n (concatMap metastateWords (l .metastates)))
-                (t .metastates-sized) same;
-            arc-words = λ other k.
-                let same : net ≡ networkIn other = sym is ∙ ap networkIn (the-same other k) in
-                t .holds .arc-words
-                ∙ ap₂ (λ (n : ℕ) (l : Network). padded n (concatMap arcWords (l .arcs))) (t .arcs-sized) same;
-            metastates-sized = t .metastates-sized;
-            arcs-sized = t .arcs-sized;
-          }
-        where
-          the-same : (other : Built) → whole ≡ answered other → built ≡ other
-          the-same other k = let both : answered built ≡ answered other = sym e ∙ k in cc
+    totals-are : {total : Totals} → total ≡ totalsAt (header .states) turns sizes
+        → total ≡ totalsOf (header .states) turns net
+    unfolding totalsOf countsIn
+    totals-are e =
+        e ∙ ap (totalsAt (header .states) turns) (sym (held-sizes (header .half) sizes metastates arcs))
 
-      pub turn-finished : {place : ℕ} {total : Totals} → place ≡ turns → sizes .metastates ≤ place
-          → total ≡ totalsAt (header .states) turns sizes
-          → Connected (header .states) metastates₀ arcs₀ whole (build.Finished total) metastates arcs
-      unfolding networkIn buildOf
-      turn-finished e h total =
-          answered-left (finished turns net) refl
-          (t .rest ∙ none-left book cs room (limit - turns) turns net (omega (arith, e, h, metastates-are)))
-          (ap (λ z. build.Finished z) (totals-are total))
+    answered-left : {answer : Build} (built : Built) → networkIn built ≡ net → whole ≡ answered built
+        → answer ≡ buildOf (header .states) (answered built)
+        → Connected (header .states) metastates₀ arcs₀ whole answer metastates arcs
+    answered-left built is e a =
+        record {
+          answers = a ∙ ap (buildOf (header .states)) (sym e);
+          metastate-words = λ other k.
+              let same : net ≡ networkIn other = sym is ∙ ap networkIn (the-same other k) in
+              underway .kept .table-words
+              ∙ ap₂ (λ (n : ℕ) (l : Network). padded n (concatMap metastateWords (l .table)))
+              (t .metastates-sized) same;
+          arc-words = λ other k.
+              let same : net ≡ networkIn other = sym is ∙ ap networkIn (the-same other k) in
+              underway .kept .arc-words
+              ∙ ap₂ (λ (n : ℕ) (l : Network). padded n (concatMap arcWords (l .arcs))) (t .arcs-sized) same;
+          metastates-sized = t .metastates-sized;
+          arcs-sized = t .arcs-sized;
+        }
+      where
+        the-same : (other : Built) → whole ≡ answered other → built ≡ other
+        the-same other k = let both : answered built ≡ answered other = sym e ∙ k in cc
 
-      pub turn-stopped : {place : ℕ} {total : Totals} → place ≡ turns → limit ≤ turns
-          → place < sizes .metastates
-          → total ≡ totalsAt (header .states) turns sizes
-          → Connected (header .states) metastates₀ arcs₀ whole (build.Stopped total) metastates arcs
-      unfolding networkIn buildOf
-      turn-stopped e k h total =
-          let none : limit - turns ≡ 0 = omega arith in
-          answered-left (stopped turns net) refl
-          (t .rest ∙ ap (λ (n : ℕ). turnsFrom book cs room n turns net) none
-          ∙ one-left book cs room turns net (omega (arith, e, h, metastates-are)))
-          (ap (λ z. build.Stopped z) (totals-are total))
+    pub turn-finished : {place : ℕ} {total : Totals} → place ≡ turns → sizes .metastates ≤ place
+        → total ≡ totalsAt (header .states) turns sizes
+        → Connected (header .states) metastates₀ arcs₀ whole (build.Finished total) metastates arcs
+    unfolding grownIn buildOf
+    turn-finished e h total =
+        answered-left (finished turns net) refl
+        (t .rest ∙ none-left book cs room (limit - turns) turns net (omega (arith, e, h, metastates-are)))
+        (ap (λ z. build.Finished z) (totals-are total))
 
-      -- ---- one more turn
+    pub turn-stopped : {place : ℕ} {total : Totals} → place ≡ turns → limit ≤ turns
+        → place < sizes .metastates
+        → total ≡ totalsAt (header .states) turns sizes
+        → Connected (header .states) metastates₀ arcs₀ whole (build.Stopped total) metastates arcs
+    unfolding grownIn buildOf
+    turn-stopped e k h total =
+        let none : limit - turns ≡ 0 = omega arith in
+        answered-left (stopped turns net) refl
+        (t .rest ∙ ap (λ (n : ℕ). turnsFrom (machineOf book cs) room n turns net) none
+        ∙ one-left book cs room turns net (omega (arith, e, h, metastates-are)))
+        (ap (λ z. build.Stopped z) (totals-are total))
 
-      module _ (h : turns < limit) {place : ℕ} (e : place ≡ turns) (g : place < sizes .metastates)
-          {answer : Step} {metastates′ arcs′ chains′ : List ℕ}
-          (left : AfterStep (header .half) (length cs) metastates arcs
-          (expand book cs (roomOf metastates arcs) place net) answer metastates′ arcs′ chains′)
-        where
-          outcome-is : expand book cs (roomOf metastates arcs) place net ≡ expand book cs room turns net
-          outcome-is = ap₂ (λ (r : Room) (n : ℕ). expand book cs r n net) same-room e
+    -- ---- one more turn
 
-          abbrev later : Network → Outcome Built
-          later next = turnsFrom book cs room (limit - (turns + 1)) (suc turns) next
+    module _ (h : turns < limit) {place : ℕ} (e : place ≡ turns) (g : place < sizes .metastates)
+        {answer : Step} {metastates′ arcs′ chains′ spans′ : List ℕ}
+        (turn : TurnLeft header nodes combinations metastates arcs chains spans
+        (expandedAt header nodes combinations metastates arcs sizes place) answer
+        metastates′ arcs′ chains′ spans′)
+      where
+        left : AfterStep (header .half) (length cs) metastates arcs
+            (expandedAt header nodes combinations metastates arcs sizes place)
+            answer metastates′ arcs′ chains′
+        left = turn .left .step
 
-          goes-on : whole ≡ andThen (expand book cs room turns net) later
-          goes-on =
-              let more : limit - turns ≡ suc (limit - (turns + 1)) = omega arith in
-              t .rest ∙ ap (λ (n : ℕ). turnsFrom book cs room n turns net) more
-              ∙ one-turn book cs room (limit - (turns + 1)) turns net (omega (arith, e, g, metastates-are))
+        outcome-is : expandedAt header nodes combinations metastates arcs sizes place
+            ≡ expand (machineOf book cs) room turns net
+        outcome-is = ap₂ (λ (r : Room) (n : ℕ). expand (machineOf book cs) r n net) same-room e
 
-          pub turned-more : header .half ≤ 3 → {next : Sizes} → answer ≡ step.Next next
-              → Turned header nodes combinations metastates₀ arcs₀ sizes₀ limit
-              metastates′ arcs′ chains′ next (turns + 1)
-          unfolding andThen
-          turned-more few {next} a =
-              let now : Network = networkHeld (header .half) next metastates′ arcs′ in
-              let is : expand book cs (roomOf metastates arcs) place net ≡ answered now =
-              next-answered few left a in
-              record {
-                within = omega arith;
-                metastates-sized = left .metastates-sized ∙ t .metastates-sized;
-                arcs-sized = left .arcs-sized ∙ t .arcs-sized;
-                holds = left .holds now is;
-                rest =
-                    goes-on ∙ ap (λ (o : Outcome Network). andThen o later) (sym outcome-is ∙ is)
-                    ∙ ap (λ (n : ℕ). turnsFrom book cs room (limit - (turns + 1)) n now) (sym (add-one turns));
-              }
+        abbrev later : Network → Outcome Built
+        later next = turnsFrom (machineOf book cs) room (limit - (turns + 1)) (suc turns) next
 
-          pub turn-refused : {fault : Fault} → answer ≡ step.Stop fault
-              → Connected (header .states) metastates₀ arcs₀ whole
-              (build.Refused (record { fault = fault; line = 0 })) metastates′ arcs′
-          unfolding andThen expand
-          turn-refused {fault} a =
-              let (r, is, same) = step-stop _ fault (sym a ∙ left .answers) in
-              refused-left (header .states) r
-              (goes-on ∙ ap (λ (o : Outcome Network). andThen o later) (sym outcome-is ∙ is)) same
-              (performs-line book cs room net _ r (sym outcome-is ∙ is))
-              (left .metastates-sized ∙ t .metastates-sized) (left .arcs-sized ∙ t .arcs-sized)
+        goes-on : whole ≡ andThen (expand (machineOf book cs) room turns net) later
+        goes-on =
+            let more : limit - turns ≡ suc (limit - (turns + 1)) = omega arith in
+            t .rest ∙ ap (λ (n : ℕ). turnsFrom (machineOf book cs) room n turns net) more
+            ∙ one-turn book cs room (limit - (turns + 1)) turns net (omega (arith, e, g, metastates-are))
+
+        pub turned-more : {next : Sizes} → answer ≡ step.Next next
+            → Turned header nodes combinations index metastates₀ arcs₀ chains₀ spans₀ sizes₀ limit
+            metastates′ arcs′ chains′ spans′ next (turns + 1)
+        unfolding andThen
+        turned-more {next} a =
+            let now : Network = networkHeld (header .half) next metastates′ arcs′ in
+            let few : header .half ≤ 3 = narrow (t .between .searchable .connectable .usable) in
+            let is : expandedAt header nodes combinations metastates arcs sizes place ≡ answered now =
+            next-answered few left a in
+            record {
+              within = omega arith;
+              metastates-sized = left .metastates-sized ∙ t .metastates-sized;
+              arcs-sized = left .arcs-sized ∙ t .arcs-sized;
+              chains-sized = turn .left .chains-sized ∙ t .chains-sized;
+              spans-sized = turn .spans-sized ∙ t .spans-sized;
+              between = record {
+                searchable = t .between .searchable;
+                underway = left .holds now is;
+                slots = omega (arith, t .between .slots, turn .spans-sized);
+                spanned = turn .spanned now is;
+              };
+              rest =
+                  goes-on ∙ ap (λ (o : Outcome Network). andThen o later) (sym outcome-is ∙ is)
+                  ∙ ap (λ (n : ℕ). turnsFrom (machineOf book cs) room (limit - (turns + 1)) n now)
+                  (sym (add-one turns));
+            }
+
+        pub turn-refused : {fault : Fault} → answer ≡ step.Stop fault
+            → Connected (header .states) metastates₀ arcs₀ whole
+            (build.Refused (record { fault = fault; line = 0 })) metastates′ arcs′
+        unfolding andThen expand
+        turn-refused {fault} a =
+            let (r, is, same) = step-stop _ fault (sym a ∙ left .answers) in
+            refused-left (header .states) r
+            (goes-on ∙ ap (λ (o : Outcome Network). andThen o later) (sym outcome-is ∙ is)) same
+            (performs-line (machineOf book cs) room net _ r (sym outcome-is ∙ is))
+            (left .metastates-sized ∙ t .metastates-sized) (left .arcs-sized ∙ t .arcs-sized)

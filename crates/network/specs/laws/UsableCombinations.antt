@@ -24,6 +24,7 @@ use Rattle.definitions.specs.laws.SevenWords.{words-length, words-take}
 use Rattle.definitions.specs.laws.Ranges.{phone-range}
 use Rattle.definitions.specs.laws.Books.{InRange}
 use Rattle.definitions.specs.laws.Tables.{tree-nodes-length}
+use Rattle.definitions.specs.demand.Windows.{valid-through}
 use Rattle.definitions.specs.demand.Chosen.{Chosen, chosen-at}
 use Rattle.metastates.specs.Answers.{endsOf}
 use Rattle.tables.specs.Lending.{lentTables}
@@ -43,7 +44,7 @@ module _ (header : Header) (ranged : InRange header) where
     few-leaves : length (c .leaves) ≤ 3
     few-leaves = omega (arith, choice .states, ranged .states-range .high)
 
-    narrow : length (c .matrix) ≤ 7
+    narrow : length (c .carried) ≤ 7
     narrow = omega (arith, choice .width, ranged .half-range .high)
 
     -- a record has eleven words
@@ -51,27 +52,27 @@ module _ (header : Header) (ranged : InRange header) where
     unfolding combinationWords
     choice-sized =
         let nodes = padded-length 3 (c .leaves) few-leaves in
-        let columns = words-length (c .matrix) narrow in
+        let columns = words-length (c .carried) narrow in
         simp length-append (omega (arith, nodes, columns))
 
     -- of which the leaves and the matrix are taken
-    leaves-back : take (header .states) (padded 3 (c .leaves) ++ matrixWords (c .matrix)) ≡ c .leaves
+    leaves-back : take (header .states) (padded 3 (c .leaves) ++ matrixWords (c .carried)) ≡ c .leaves
     unfolding padded
     leaves-back =
         ap (take (header .states))
-        (append-assoc (c .leaves) (cleared (3 - length (c .leaves))) (matrixWords (c .matrix)))
+        (append-assoc (c .leaves) (cleared (3 - length (c .leaves))) (matrixWords (c .carried)))
         ∙ take-at (c .leaves) _ (header .states) (choice .states)
 
-    matrix-back : matrixIn (header .half) (drop 3 (padded 3 (c .leaves) ++ matrixWords (c .matrix)))
-        ≡ c .matrix
+    matrix-back : matrixIn (header .half) (drop 3 (padded 3 (c .leaves) ++ matrixWords (c .carried)))
+        ≡ c .carried
     matrix-back =
         ap (matrixIn (header .half))
-        (drop-at (padded 3 (c .leaves)) (matrixWords (c .matrix)) 3 (padded-length 3 (c .leaves) few-leaves))
-        ∙ words-take (c .matrix) (choice .width)
+        (drop-at (padded 3 (c .leaves)) (matrixWords (c .carried)) 3 (padded-length 3 (c .leaves) few-leaves))
+        ∙ words-take (c .carried) (choice .width)
 
     choice-back : combinationIn header (combinationWords c) ≡ c
     unfolding combinationIn combinationWords
-    choice-back = λ i. record { phone = c .phone; leaves = leaves-back i; matrix = matrix-back i }
+    choice-back = λ i. record { phone = c .phone; leaves = leaves-back i; carried = matrix-back i }
 
   abbrev Choices : List Combination → Type 0
   Choices cs = (number : ℕ) → number < length cs → IsCombination header (numbered cs number)
@@ -119,9 +120,13 @@ module _ (header : Header) (nodes classes roots : List ℕ)
         phone = range .0;
         phones = range .1;
         states = c .count;
-        width = omega (arith, c .width);
-        below = c .below;
-        centre = c .centre-only;
+        width = omega (arith, c .formed .wide .columns);
+        valid = c .formed .holds;
+        below = c .formed .wide .below;
+        centre = λ p held.
+            let (W, admitted, here) = valid-through (header .phones) (numbered found number .carried)
+            (c .formed .wide .below) (c .formed .holds) (header .half) p held in
+            sym here ∙ c .centre W admitted;
       }
 
   abbrev ranged : InRange header
@@ -142,7 +147,8 @@ module _ (header : Header) (nodes classes roots : List ℕ)
     header-known = known-header header nodes classes roots known;
     few = back (λ cs. length cs ≤ 65535) few;
     flat = ap (concatMap combinationWords) (sym combinations-back);
-    each = back (λ cs. (number : ℕ) → number < length cs → IsCombination header (numbered cs number)) is-choice;
+    each = back (λ cs. (number : ℕ) → number < length cs → IsCombination header (numbered cs number))
+        is-choice;
   }
 
   -- each leaf of a combination is a leaf of the book
@@ -156,7 +162,8 @@ module _ (header : Header) (nodes classes roots : List ℕ)
   leaves-in number state h k =
       let c = chosen number h in
       let leaves : List ℕ = numbered found number .leaves in
-      let (listed, is-leaf) = c .each-leaf (leaves ! state) (in-at leaves state 0 (omega (arith, c .count))) in
+      let (listed, is-leaf) =
+      c .each-leaf (leaves ! state) (in-at leaves state 0 (omega (arith, c .count))) in
       (omega (arith, listed, tree-nodes-length header nodes), is-leaf)
 
   pub combinations-modelled : Modelled header nodes words

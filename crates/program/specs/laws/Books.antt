@@ -11,7 +11,8 @@ use Rattle.definitions.specs.Faults.{Outcome, answered, refused, andThen}
 use Rattle.definitions.specs.BookLines.{BookLine, headerOf}
 use Rattle.definitions.specs.BookReading.{Lent, readBook}
 use Rattle.definitions.specs.Tables.{tablesLeft}
-use Rattle.definitions.specs.Connecting.{Built, finished, stopped}
+use Rattle.definitions.specs.Growing.{finished, stopped, grownIn}
+use Rattle.definitions.specs.Connecting.{Built}
 use Rattle.definitions.specs.Building.{Space, build, networkIn, countsIn, Buffers, buffersOf, buffersLeft}
 use Rattle.definitions.specs.BookBuilding.{BookBuilt, buildRead, buildBook, buffersAfter}
 use Rattle.definitions.specs.NetworkText.{networkKnown}
@@ -45,13 +46,13 @@ textTold (build.Refused r) words = refusalText r
 module _ (states : ℕ) (words : List ℕ) where
   built-printable : (built : Built) → T (networkKnown (countsIn states (networkIn built)) words)
       → Printable (buildOf states (answered built)) words
-  unfolding buildOf totalsOf networkIn
+  unfolding buildOf totalsOf grownIn
   built-printable (finished turns net) h = h
   built-printable (stopped turns net) h = h
 
   built-told : (built : Built)
       → textTold (buildOf states (answered built)) words ≡ textIn (countsIn states (networkIn built)) words
-  unfolding buildOf totalsOf networkIn
+  unfolding buildOf totalsOf grownIn
   built-told (finished turns net) = refl
   built-told (stopped turns net) = refl
 

@@ -17,8 +17,9 @@ use Rattle.definitions.specs.Faults.{Outcome, answered, refused, andThen}
 use Rattle.definitions.specs.BookLines.{BookLine, headerOf}
 use Rattle.definitions.specs.BookReading.{readBook}
 use Rattle.definitions.specs.Tables.{Tables, tablesLeft, tablesBook}
-use Rattle.definitions.specs.Connecting.{Built, finished, stopped}
-use Rattle.definitions.specs.Building.{build, networkIn, countsIn, buffersLeft}
+use Rattle.definitions.specs.Growing.{finished, stopped, grownIn}
+use Rattle.definitions.specs.Connecting.{Built}
+use Rattle.definitions.specs.Building.{build, countsIn, buffersLeft}
 use Rattle.definitions.specs.BookBuilding.{BookBuilt, buildRead, buildBook}
 use Rattle.definitions.specs.Program.{programLent, programSpace, programTurns, textOfBuilt, networkOf, refusalText}
 use Rattle.definitions.specs.Program.{printed, program}
@@ -51,7 +52,7 @@ module _ (input : List ℕ) where
       → build (headerOf lines) (tablesLeft programLent (answered lines)) programSpace programTurns
       ≡ answered built
       → PrintsDemand3 input (textOfBuilt (headerOf lines .states) built)
-  unfolding textOfBuilt networkIn
+  unfolding textOfBuilt grownIn
   built-demand lines accepted (stopped turns net) builds w =
       absurd (program-never-stopped (headerOf lines) (tablesLeft programLent (answered lines)) turns net builds)
   built-demand lines accepted (finished turns net) builds w =

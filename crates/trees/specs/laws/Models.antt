@@ -15,15 +15,16 @@ use Rattle.definitions.specs.Lists.{_!_, every, concatMap}
 use Rattle.definitions.specs.BookLines.{TreeNode, rootCount, isPhone}
 use Rattle.definitions.specs.BookReading.{nodeSize}
 use Rattle.definitions.specs.Tables.{Book, nodeOf}
-use Rattle.definitions.specs.Lookup.{leafReached, modelAt, isContext}
+use Rattle.definitions.specs.Lookup.{reached, leafReached, modelAt, isContext}
 use Rattle.definitions.specs.Tables.{rootOf}
-use Rattle.definitions.specs.TreesGive.{withSilence, contexts}
+use Rattle.definitions.specs.TreesGive.{silences, contexts}
 use Rattle.definitions.specs.Transcription.{modelOf, transcription}
 use Rattle.definitions.specs.laws.Tests.{T-and, eq→eqb}
-use Rattle.definitions.specs.laws.Lists.{map-upFrom-length, map-upFrom-at, every-split, concatMap-snoc}
+use Rattle.definitions.specs.laws.Lists.{map-upFrom-length, map-upFrom-at, concatMap-snoc}
 use Rattle.definitions.specs.laws.Records.{flat-length}
-use Rattle.definitions.specs.laws.Contexts.{contextAt, contexts-length, context-length, context-window}
-use Rattle.definitions.specs.laws.Contexts.{around-phones}
+use Rattle.definitions.specs.laws.Walks.{reached-model}
+use Rattle.definitions.specs.laws.Contexts.{contextAt, contexts-length, context-phones}
+use Rattle.definitions.specs.laws.Contexts.{silent-phones, silent-context-length}
 use Rattle.tables.specs.Usable.{bookWith}
 use Rattle.trees.specs.Answers.{stateModels}
 use Rattle.tables.specs.laws.Records.{treeNodes}
@@ -42,8 +43,8 @@ unfolding modelOf bookWith rootOf
 model-reached header nodes classes roots context state root count leaf x r n w own =
     let tree : List TreeNode = treeNodes header nodes in
     ap (λ (x : Node). x .value) own ∙ sym (model-is header nodes leaf (w .1) (w .2))
-    ∙ ap (modelAt tree) (w .0)
-    ∙ ap₂ (λ (count root : ℕ). modelAt tree (leafReached tree (take count classes) context root)) n r
+    ∙ ap (modelAt tree) (w .0) ∙ sym (reached-model tree (take count classes) context root)
+    ∙ ap₂ (λ (count root : ℕ). reached tree (take count classes) context root .model) n r
 
 -- ---- the states of a context
 
@@ -64,17 +65,16 @@ module _ (header : Header) (S : List ℕ) (place : ℕ) (inside : place < length
   unfolding isContext
   context-fits some h =
       let half : ℕ = header .half in
-      let rest = every-split _ place (withSilence half S) (around-phones half S (header .phones) some h) .1 in
-      let phones = every-split _ (2 * half + 1) (drop place (withSilence half S)) rest .0 in
       T-and (eqb (length (contextAt half S place)) (2 * half + 1))
       (every (isPhone (header .phones)) (contextAt half S place)) .1 (
-        eq→eqb _ _ (context-length half S place inside),
-        rw (context-window half S place inside) phones,
+        eq→eqb _ _ (silent-context-length half S place inside),
+        context-phones half (silences half) S (silences half) place inside (header .phones)
+            (silent-phones half S (header .phones) some h),
       )
 
   module _ (half : ℕ) (own : half ≡ header .half) (window : List ℕ) (e : window ≡ contextAt half S place) where
     window-length : length window ≡ 2 * half + 1
-    window-length = ap length e ∙ context-length half S place inside
+    window-length = ap length e ∙ silent-context-length half S place inside
 
     pub window-inside : (rest : List ℕ) → 2 * half + 1 ≤ length (window ++ rest)
     window-inside rest = omega (arith, length-append window rest, window-length)
@@ -96,6 +96,9 @@ module _ (book : Book) (S : List ℕ) where
   abbrev places : List (List ℕ)
   places = contexts (book .half) S
 
+  places-length : length places ≡ length S
+  places-length = contexts-length (book .half) (silences (book .half)) S (silences (book .half))
+
   models-count : (l : List (List ℕ)) → length (concatMap (stateModels book) l) ≡ length l * book .states
   models-count l =
       flat-length (stateModels book) (book .states) (states-length book) l ∙ mul-comm (book .states) (length l)
@@ -104,7 +107,7 @@ module _ (book : Book) (S : List ℕ) where
   pub transcription-length : length (transcription book S) ≡ length S * book .states
   unfolding transcription
   transcription-length =
-      models-count places ∙ ap (λ (n : ℕ). n * book .states) (contexts-length (book .half) S)
+      models-count places ∙ ap (λ (n : ℕ). n * book .states) places-length
 
   pub placed-start : (d : List ℕ) → Placed book S d 0 d
   unfolding concatMap
@@ -121,7 +124,7 @@ module _ (book : Book) (S : List ℕ) where
     front-length =
         models-count (take place places)
         ∙ ap (λ (n : ℕ). n * book .states)
-        (length-take-le place places (rw (contexts-length (book .half) S) (p .within)))
+        (length-take-le place places (rw places-length (p .within)))
 
     pub placed-more : length S * book .states ≤ length d → place < length S
         → (states count : ℕ) → states ≡ book .states → count ≡ states → (ys : List ℕ)
@@ -133,7 +136,7 @@ module _ (book : Book) (S : List ℕ) where
         let w : ℕ = book .states in
         let front : List ℕ = concatMap (stateModels book) (take place places) in
         let fits : place * w + w ≤ length d = room d wide place w inside refl in
-        let listed : place < length places = rw (contexts-length (book .half) S) inside in
+        let listed : place < length places = rw places-length inside in
         let next : (place + 1) * w ≡ place * w + w = rw add-one (suc-mul place w) in
         rw (
           k,
@@ -162,5 +165,5 @@ module _ (book : Book) (S : List ℕ) where
     unfolding transcription
     placed-end h =
         let all : place ≡ length S = omega (arith, p .within) in
-        let listed : length places ≤ length S = omega (arith, contexts-length (book .half) S) in
+        let listed : length places ≤ length S = omega (arith, places-length) in
         p .holds ∙ rw (all, take-all (length S) places listed)

@@ -11,18 +11,18 @@ use borrow.Author.Tests.{eq-eqb, ne-eqb}
 use Rattle.definitions.specs.declared.Header.{Header}
 use Rattle.definitions.specs.declared.Node.{Node}
 use Rattle.definitions.specs.Lists.{if_then_else_}
-use Rattle.definitions.specs.BookLines.{leaf}
+use Rattle.definitions.specs.BookLines.{leaf, Reached}
 use Rattle.definitions.specs.BookReading.{nodeSize}
 use Rattle.definitions.specs.Tables.{nodeOf, treeNode, askedOf}
 use Rattle.definitions.specs.ForeignTables.{nodesKnown}
-use Rattle.definitions.specs.Lookup.{nodeAt, answers, walk, leafReached, modelAt}
+use Rattle.definitions.specs.Lookup.{nodeAt, answers, walk, reached, leafReached, modelAt}
 use Rattle.definitions.specs.laws.Walks.{walk-leaf, walk-question, either-node, model-at}
 use Rattle.tables.specs.laws.Records.{treeNodes}
 use Rattle.tables.specs.laws.KnownTables.{node-listed, node-is, record-fits}
 use Rattle.trees.specs.Stages.{recordAt}
 
 module _ (header : Header) (nodes : List Node) (classes context : List ℕ) where
-  abbrev walked : (steps node : ℕ) → ℕ
+  abbrev walked : (steps node : ℕ) → Reached
   walked steps node = walk steps (map treeNode nodes) classes context node
 
   -- the child of a question that the context goes to
@@ -33,11 +33,11 @@ module _ (header : Header) (nodes : List Node) (classes context : List ℕ) wher
   pub record Walking (root node taken : ℕ) : Type 0 where
     pub listed : node < header .nodes
     pub further : taken ≤ node
-    pub reaches : leafReached (map treeNode nodes) classes context root ≡ walked (header .nodes - taken) node
+    pub reaches : reached (map treeNode nodes) classes context root ≡ walked (header .nodes - taken) node
 
   -- as many steps as nodes
   pub start-walking : length nodes ≡ header .nodes → (root : ℕ) → root < header .nodes → Walking root root 0
-  unfolding leafReached
+  unfolding reached
   start-walking counted root h =
       record { listed = h; further = omega arith; reaches = rw (length-map nodes treeNode, counted, sub-zero) }
 
@@ -46,17 +46,17 @@ module _ (header : Header) (nodes : List Node) (classes context : List ℕ) wher
     node-own = node-listed nodes node ∙ ap treeNode (sym own)
 
     -- a leaf stays
-    walk-stays : (x .kind ≡ 1 → ⊥) → (steps : ℕ) → walked steps node ≡ node
+    walk-stays : (x .kind ≡ 1 → ⊥) → (steps : ℕ) → walked steps node .leaf ≡ node
     unfolding walk treeNode
     walk-stays other zero = refl
     walk-stays other (suc steps) =
-        walk-leaf (map treeNode nodes) classes context steps node (x .value)
-        (node-own ∙ rw (ne-eqb (x .kind) 1 other))
+        ap (λ (r : Reached). r .leaf) (walk-leaf (map treeNode nodes) classes context steps node (x .value)
+        (node-own ∙ rw (ne-eqb (x .kind) 1 other)))
 
     -- so the walk ends there
     pub stops : (root taken : ℕ) → Walking root node taken → (x .kind ≡ 1 → ⊥)
         → node ≡ leafReached (map treeNode nodes) classes context root
-    stops root taken w other = sym (w .reaches ∙ walk-stays other _)
+    stops root taken w other = sym (ap (λ (r : Reached). r .leaf) (w .reaches) ∙ walk-stays other _)
 
     module _ (kind : x .kind ≡ 1) where
       -- a question goes on with one step more taken

@@ -1,9 +1,9 @@
 -- `building::fulgwerz_build_book` meets its contract: what the function called answers, as a struct, and
--- what it leaves in the buffers. Demand 3 of the answer is demand 3 of the struct.
+-- what it leaves in the buffers. What holds of a finished answer's counts holds of the struct's.
 use mathlib.Core.Path.{ap, _∙_}
 use borrow.Author.Needs.{needs}
 use Rattle.fulgwerz.specs.Made.{buildMade}
-use Rattle.fulgwerz.specs.laws.Made.{book-made, demand-made}
+use Rattle.fulgwerz.specs.laws.Made.{book-made, finished-made}
 use Rattle.fulgwerz.proofs.building.fulgwerz_build_book.Statement.{statement}
 use Rattle.fulgwerz.proofs.building.fulgwerz_build_book.Tie as tie
 
@@ -37,7 +37,16 @@ returns c =
     let called = tables .before .before .before .before .before .before .before in
     let left = called .build-book .ensures .1 in (
       c .build-answer .ensures ∙ ap buildMade (called .build-book .ensures .0) ∙ book-made _,
-      (left .0, (left .1 .0, rw (c .build-answer .ensures) (demand-made _ _ _ _ (left .1 .1)))),
+      (
+        left .0,
+        (
+          left .1 .0,
+          rw (c .build-answer .ensures) (
+            finished-made _ _ (left .1 .1 .0),
+            finished-made _ _ (left .1 .1 .1),
+          ),
+        ),
+      ),
     )
 
 pub fulgwerz-build-book-spec : {M : Type 1} → statement M

@@ -1,5 +1,5 @@
--- `choosing::choose` meets its contract. The measure is the number of trees left. The loop's invariant: the leaves
--- before `place` have given their combinations, there was room for them, and the leaf at `place` fits.
+-- `choosing::choose` meets its contract. The measure is the number of trees left. The loop's invariant: the
+-- leaves before `place` have given their combinations, there was room for them, and the leaf at `place` fits.
 use mathlib.Core.Path.{_≡_}
 use Prim.Native.Nat.{ℕ, _-_, _<_}
 use native.Mathlib.Omega.{arith}
@@ -8,7 +8,7 @@ use borrow.Author.Needs.{needs}
 use borrow.Fn.Kinds.{In}
 use borrow.Fn.PlainCycle.{Measures, is, falls, and}
 use Rattle.metastates.specs.laws.Choosing.{Choosing, choosing-last, choosing-start, choosing-inside}
-use Rattle.metastates.specs.laws.Choosing.{choosing-holding, choosing-chosen, choosing-over}
+use Rattle.metastates.specs.laws.Choosing.{choosing-holding, choosing-asked, choosing-over}
 use Rattle.metastates.specs.laws.Choosing.{choosing-again, choosing-end}
 use Rattle.metastates.proofs.choosing.+choose.{statement}
 use Rattle.metastates.proofs.choosing.+choose.Tie.{close}
@@ -17,7 +17,6 @@ use Rattle.metastates.proofs.choosing.choose.Kinds as choose-kinds
 use Rattle.metastates.proofs.choosing.+choose.Lts-choose as choose-lts
 use Rattle.metastates.proofs.choosing.add_choice.Reads as add-choice-reads
 use Rattle.metastates.proofs.choosing.next_fit.Reads as next-fit-reads
-use Rattle.metastates.proofs.choosing.room_in.Reads as room-in-reads
 use Rattle.metastates.proofs.choosing.with_leaf.Reads as with-leaf-reads
 
 abbrev μ-choose : Measures 4 choose-kinds.ps ℕ
@@ -39,8 +38,6 @@ calls t = (
   with-leaf-reads.Learnt,
   choose-below t,
   choose.Post,
-  room-in-reads.Asked,
-  room-in-reads.Learnt,
 )
 
 abbrev choose-Inv-loop : choose-lts.InvT-loop
@@ -54,7 +51,8 @@ choose-μ-loop first second third trees width choice space₀ count m total₀ p
 choose-add-choice-requires : (t : ℕ) → choose-lts.Need-add-choice-requires (calls t) (choose-at t)
     choose.Post choose-Inv-loop choose-μ-loop
 choose-add-choice-requires t c κs =
-    let pre = c .before .before .before .before .before .before .pre .1 in (pre .0, pre .1)
+    let (asked, holding) = c .before .before .before .before .before .before .pre .1 in
+    (holding, asked .chosen)
 
 choose-same-length : (t : ℕ) → choose-lts.Need-same-length (calls t) (choose-at t)
     choose.Post choose-Inv-loop choose-μ-loop
@@ -64,42 +62,37 @@ choose-returns : (t : ℕ) → choose-lts.Need-returns (calls t) (choose-at t)
     choose.Post choose-Inv-loop choose-μ-loop
 choose-returns t c =
     let last = c .before .before .before .before in
-    let pre = last .before .before .before .before .before .pre .1 in
-    choosing-last _ _ _ (pre .1) (last .if1 .taken) (c .before .before .add-choice .ensures)
+    let (asked, holding) = last .before .before .before .before .before .pre .1 in
+    rw (choosing-last _ _ _ (asked .chosen) (last .if1 .taken)) (c .before .before .add-choice .ensures)
 
 choose-next-fit-requires : (t : ℕ) → choose-lts.Need-next-fit-requires (calls t) (choose-at t)
     choose.Post choose-Inv-loop choose-μ-loop
 choose-next-fit-requires t c κs =
-    let pre = c .before .before .before .before .before .before .pre .1 in
-    (pre .1 .narrow, pre .3, omega arith, pre .1 .matrix)
+    let (asked, holding) = c .before .before .before .before .before .before .pre .1 in
+    (asked .chosen .narrow, asked .first-is, omega arith, asked .chosen .matrix)
 
 choose-loop-holds : (t : ℕ) → choose-lts.Need-loop-holds (calls t) (choose-at t)
     choose.Post choose-Inv-loop choose-μ-loop
 choose-loop-holds t c =
     let start = c .before .before .before .before .before .before .before in
-    let pre = start .pre .1 in
+    let (asked, holding) = start .pre .1 in
     let choice = start .args .choice in
     let three : length (choice .leaves) ≡ 3 = search needs in
-    choosing-start (record {
-      chosen = pre .1;
-      three = three;
-      some = c .before .before .if1 .left;
-      few = pre .2;
-      first-is = pre .3;
-      second-is = pre .4;
-      third-is = pre .5;
-    }) (pre .0) (c .next-fit .ensures)
-
-choose-sub-choose : (t : ℕ) → choose-lts.Need-sub-choose (calls t) (choose-at t)
-    choose.Post choose-Inv-loop choose-μ-loop
-choose-sub-choose t c = omega (arith, c .before .loop .inv .begins .some)
+    choosing-start (record { asked = asked; three = three; some = c .before .before .if1 .left }) holding
+    (c .next-fit .ensures)
 
 choose-with-leaf-requires : (t : ℕ) → choose-lts.Need-with-leaf-requires (calls t) (choose-at t)
     choose.Post choose-Inv-loop choose-μ-loop
 choose-with-leaf-requires t c κs =
     let inv = c .before .loop .inv in
     let b = inv .begins in
-    (b .chosen, b .first-is, omega (arith, b .few, b .some), choosing-inside inv (c .loop-test .taken))
+    let asked = b .asked in
+    let inside = choosing-inside inv (c .loop-test .taken) in
+    (asked .chosen, asked .first-is, omega (arith, asked .few, b .some), inside)
+
+choose-sub-choose : (t : ℕ) → choose-lts.Need-sub-choose (calls t) (choose-at t)
+    choose.Post choose-Inv-loop choose-μ-loop
+choose-sub-choose t c = omega (arith, c .before .before .loop .inv .begins .some)
 
 choose-choose-requires : (t : ℕ) → choose-lts.Need-choose-requires (calls t) (choose-at t)
     choose.Post choose-Inv-loop choose-μ-loop
@@ -107,23 +100,18 @@ choose-choose-requires t c κs =
     let turn = c .before .before in
     let start = turn .before .before .before .before .before .before .before .before .before in
     let inv = turn .before .loop .inv in
-    let b = inv .begins in
-    let w = c .before .with-leaf .ensures in
     let inside = choosing-inside inv (turn .loop-test .taken) in (
-      omega (arith, start .pre .0, b .some),
-      (
-        choosing-holding inv,
-        choosing-chosen inv inside w,
-        omega (arith, w .1, b .few, b .some),
-        b .second-is,
-        b .third-is,
-        b .third-is,
-      ),
+      omega (arith, start .pre .0, inv .begins .some),
+      (choosing-asked inv inside (c .before .with-leaf .ensures), choosing-holding inv),
     )
 
-choose-room-in-requires : (t : ℕ) → choose-lts.Need-room-in-requires (calls t) (choose-at t)
+choose-enum-known-adding : (t : ℕ) → choose-lts.Need-enum-known-adding (calls t) (choose-at t)
     choose.Post choose-Inv-loop choose-μ-loop
-choose-room-in-requires t c κs = search needs
+choose-enum-known-adding t c = search needs
+
+choose-enum-known-adding-2 : (t : ℕ) → choose-lts.Need-enum-known-adding-2 (calls t) (choose-at t)
+    choose.Post choose-Inv-loop choose-μ-loop
+choose-enum-known-adding-2 t c = search needs
 
 choose-same-length-2 : (t : ℕ) → choose-lts.Need-same-length-2 (calls t) (choose-at t)
     choose.Post choose-Inv-loop choose-μ-loop
@@ -132,11 +120,12 @@ choose-same-length-2 t c = search needs
 choose-returns-2 : (t : ℕ) → choose-lts.Need-returns-2 (calls t) (choose-at t)
     choose.Post choose-Inv-loop choose-μ-loop
 choose-returns-2 t c =
-    let more = c .before .before .before .before in
-    let turn = more .before .before .before in
+    let called = c .before .before .before .before .before in
+    let turn = called .before .before .before in
     let inv = turn .before .loop .inv in
-    choosing-over inv (choosing-inside inv (turn .loop-test .taken)) (more .before .before .with-leaf .ensures)
-    (more .choose .ensures) (omega (arith, c .before .room-in .ensures, c .if2 .taken))
+    let next = called .before .before .with-leaf .ensures in
+    choosing-over inv (choosing-inside inv (turn .loop-test .taken)) next (called .choose .ensures)
+    (c .before .adding2 .given .1)
 
 choose-add-next-fit : (t : ℕ) → choose-lts.Need-add-next-fit (calls t) (choose-at t)
     choose.Post choose-Inv-loop choose-μ-loop
@@ -145,27 +134,27 @@ choose-add-next-fit t c = search needs
 choose-next-fit-requires-2 : (t : ℕ) → choose-lts.Need-next-fit-requires-2 (calls t) (choose-at t)
     choose.Post choose-Inv-loop choose-μ-loop
 choose-next-fit-requires-2 t c κs =
-    let turn = c .before .before .before .before .before .before .before in
+    let turn = c .before .before .before .before .before .before .before .before in
     let inv = turn .before .loop .inv in
-    let b = inv .begins in
+    let asked = inv .begins .asked in
     let inside = choosing-inside inv (turn .loop-test .taken) in
-    (b .chosen .narrow, b .first-is, omega (arith, inside), b .chosen .matrix)
+    (asked .chosen .narrow, asked .first-is, omega (arith, inside), asked .chosen .matrix)
 
 choose-loop-less : (t : ℕ) → choose-lts.Need-loop-less (calls t) (choose-at t)
     choose.Post choose-Inv-loop choose-μ-loop
 choose-loop-less t c =
-    let turn = c .before .before .before .before .before .before .before .before in
+    let turn = c .before .before .before .before .before .before .before .before .before in
     omega (arith, c .next-fit2 .ensures .none .after, turn .loop-test .taken)
 
 choose-loop-again : (t : ℕ) → choose-lts.Need-loop-again (calls t) (choose-at t)
     choose.Post choose-Inv-loop choose-μ-loop
 choose-loop-again t c =
-    let more = c .before .before .before .before .before in
-    let turn = more .before .before .before in
+    let called = c .before .before .before .before .before .before in
+    let turn = called .before .before .before in
     let inv = turn .before .loop .inv in
-    choosing-again inv (choosing-inside inv (turn .loop-test .taken)) (more .before .before .with-leaf .ensures)
-    (more .choose .ensures) (omega (arith, c .before .before .room-in .ensures, c .before .if2 .left))
-    (c .next-fit2 .ensures)
+    let next = called .before .before .with-leaf .ensures in
+    choosing-again inv (choosing-inside inv (turn .loop-test .taken)) next (called .choose .ensures)
+    (c .before .before .adding .given .1) (c .next-fit2 .ensures)
 
 choose-same-length-3 : (t : ℕ) → choose-lts.Need-same-length-3 (calls t) (choose-at t)
     choose.Post choose-Inv-loop choose-μ-loop
@@ -183,10 +172,11 @@ pub +choose-spec : {M : Type 1} → statement M
     (choose-returns t)
     (choose-next-fit-requires t)
     (choose-loop-holds t)
-    (choose-sub-choose t)
     (choose-with-leaf-requires t)
+    (choose-sub-choose t)
     (choose-choose-requires t)
-    (choose-room-in-requires t)
+    (choose-enum-known-adding t)
+    (choose-enum-known-adding-2 t)
     (choose-same-length-2 t)
     (choose-returns-2 t)
     (choose-add-next-fit t)

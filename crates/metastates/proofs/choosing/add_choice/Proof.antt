@@ -11,14 +11,11 @@ use Rattle.metastates.proofs.choosing.add_choice.Tie as tie
 room-in-requires : tie.Need-room-in-requires
 room-in-requires c κs = search needs
 
-add-result : tie.Need-add-result
-unfolding combinationRoom
-add-result c = search needs
-
 returns : tie.Need-returns
 returns c =
     let start = c .before .before .before in
-    added-none (start .pre .0) (start .args .width) (start .args .choice) (omega (arith, c .before .room-in .ensures))
+    let (holding, chosen) = start .pre in
+    added-none holding (start .args .width) (start .args .choice) (omega (arith, c .before .room-in .ensures))
 
 mul-at : tie.Need-mul-at
 unfolding combinationRoom
@@ -46,9 +43,9 @@ put-choice-requires : tie.Need-put-choice-requires
 unfolding combinationRoom
 put-choice-requires c κs = simp (length-take, length-drop) (omega arith)
 
-add-result-2 : tie.Need-add-result-2
+add-t7 : tie.Need-add-t7
 unfolding combinationRoom
-add-result-2 c = search needs
+add-t7 c = search needs
 
 same-length : tie.Need-same-length
 same-length c = search needs
@@ -68,7 +65,6 @@ add-choice-spec =
     tie.close
     (tie.spec
     room-in-requires
-    add-result
     returns
     mul-at
     add-end
@@ -77,6 +73,6 @@ add-choice-spec =
     part-put-choice-start
     part-put-choice-end
     put-choice-requires
-    add-result-2
+    add-t7
     same-length
     returns-2)

@@ -28,7 +28,7 @@ top : (c : tie.After-around)
     → Top (entry (some-state c) .args .header) (entry (some-state c) .args .phone) (c .around .result .columns)
 top c =
     let start = entry (some-state c) in
-    top-words (start .args .header) (fit start .ranges) (start .args .phone) (start .pre .2)
+    top-words (start .args .header) (fit start .ranges) (start .args .phone) (start .pre .1 .high)
     (c .before .before .all-phones .result) (c .before .alone .result) (c .around .result .columns)
     (c .before .before .all-phones .ensures) (c .before .alone .ensures) (c .around .ensures)
 
@@ -41,8 +41,8 @@ root c =
     let asks = some-state (c .before) in
     let start = entry asks in
     let p = start .pre in
-    root-fits (start .args .header) (start .args .roots .now) (fit start .roots-listed) (p .1) (p .2) (p .3)
-    (asks .if1 .left) (c .root-of .ensures)
+    root-fits (start .args .header) (start .args .roots .now) (fit start .roots-listed)
+    (p .1 .low) (p .1 .high) (p .2) (asks .if1 .left) (c .root-of .ensures)
 
 -- the table after the walk
 abbrev tree : tie.Start → List Leaf
@@ -64,7 +64,7 @@ put c =
     leaves-put (a .header) (a .nodes .now) (a .classes .now) (a .roots .now) (fit start) (a .phone) (a .state)
     (asks .if1 .left) (rooted .root-of .result) (root rooted .own) (root rooted .listed)
     (around .around .result .columns) (top around) (a .table .now) (c .walk .last .1 .1 .1 .1 .1 .0)
-    (start .pre .4) (start .pre .6) (c .walk .ensures .0) (c .walk .ensures .1)
+    (start .pre .3 .sized) (start .pre .3 .none) (c .walk .ensures .0) (c .walk .ensures .1)
 
 returns : tie.Need-returns
 unfolding bookWith
@@ -76,7 +76,7 @@ returns c =
       holds = none-listed _ (a .phone) (a .state) (c .if1 .taken);
       listSized = refl;
       tableSized = refl;
-      none = start .pre .6;
+      none = start .pre .3 .none;
     }
 
 all-phones-requires : tie.Need-all-phones-requires
@@ -100,7 +100,7 @@ walk-requires c κs =
       fit start .classes-wide,
       root (c .before) .listed,
       top around .words,
-      start .pre .4,
+      start .pre .3 .sized,
     )
 
 wide-requires : tie.Need-wide-requires
@@ -116,10 +116,10 @@ collect-requires c κs =
     let start = entry (some-state (rooted .before)) in
     let first = c .before .before .wide .ensures in
     let last = c .before .wide2 .ensures in
-    let sized = walked .walk .kept .1 .1 .1 .1 .1 .0 ∙ start .pre .4 in (
+    let sized = walked .walk .kept .1 .1 .1 .1 .1 .0 ∙ start .pre .3 .sized in (
       omega (arith, first, sized, root rooted .listed),
       omega (arith, last, sized, put walked .inside),
-      omega (arith, sized, start .pre .4, start .pre .5),
+      omega (arith, sized, start .pre .3 .sized, start .pre .4),
       rw (first, last) (put walked .within),
     )
 

@@ -11,7 +11,8 @@ use Rattle.definitions.specs.laws.Books.{InRange}
 use Rattle.tables.specs.Usable.{bookWith}
 use Rattle.matrix.specs.Shapes.{widthOf}
 use Rattle.matrix.specs.laws.Shapes.{root-shaped}
-use Rattle.metastates.specs.laws.Starting.{list-is, start-chosen, start-grown}
+use Rattle.metastates.specs.laws.Starting.{list-is, start-chosen, start-all}
+use Rattle.metastates.specs.laws.Working.{still-unused, worked}
 use Rattle.metastates.proofs.combining.choose_phone.Statement.{statement}
 use Rattle.metastates.proofs.combining.choose_phone.Tie as tie
 
@@ -53,7 +54,7 @@ unfolding bookWith
 top-is c =
     let r = ranges (start c) in
     let p = start c .pre in
-    root-shaped _ _ _ (r .half-range .high) (r .phones-range .high) (p .2)
+    root-shaped _ _ _ (r .half-range .high) (r .phones-range .high) (p .1 .high)
     (c .before .before .before .all-phones .ensures) (c .before .before .alone .ensures)
     (c .before .around .ensures)
 
@@ -64,17 +65,18 @@ list-leaves-requires-2 : tie.Need-list-leaves-requires-2
 list-leaves-requires-2 c κs =
     let first = c .before .before .before .before .before .before in
     let p = entry first .pre in
-    let sized = first .list-leaves .ensures .tableSized in
-    let none = first .list-leaves .ensures .none in
-    (p .0, p .1, p .2, omega arith, sized ∙ p .4, omega (arith, sized, p .6), none)
+    let left = first .list-leaves .ensures in
+    let unused = still-unused (p .2 .unused) (left .tableSized) (left .none) in
+    (p .0, p .1, omega arith, unused, omega (arith, left .tableSized, p .2 .second-long))
 
 list-leaves-requires-3 : tie.Need-list-leaves-requires-3
 list-leaves-requires-3 c κs =
     let second = c .before .before .before .before .before .before in
     let p = entry (one second) .pre in
-    let sized = second .list-leaves2 .ensures .tableSized ∙ one second .list-leaves .ensures .tableSized in
-    let none = second .list-leaves2 .ensures .none in
-    (p .0, p .1, p .2, omega arith, sized ∙ p .4, omega (arith, sized, p .7), none)
+    let left = second .list-leaves2 .ensures in
+    let sized = left .tableSized ∙ one second .list-leaves .ensures .tableSized in
+    let unused = still-unused (p .2 .unused) sized (left .none) in
+    (p .0, p .1, omega arith, unused, omega (arith, sized, p .2 .third-long))
 
 all-phones-requires : tie.Need-all-phones-requires
 all-phones-requires c κs = search needs
@@ -140,12 +142,14 @@ choose-requires c κs =
     let width = width-is wide in
     let narrow = r .half-range .high in
     let list : tie.After-list-leaves3 = three wide in (
+      record {
+        chosen = start-chosen b phone _ width narrow _ (top-is wide) (p .1 .low) (p .1 .high);
+        few = omega (arith, r .states-range .high);
+        first-is = list-is b phone _ width narrow 1 (one (two list) .list-leaves .ensures .holds);
+        second-is = list-is b phone _ width narrow 2 (two list .list-leaves2 .ensures .holds);
+        third-is = list-is b phone _ width narrow 3 (list .list-leaves3 .ensures .holds);
+      },
       p .3,
-      start-chosen b phone _ width narrow _ (top-is wide) (p .1) (p .2),
-      omega (arith, r .states-range .high),
-      list-is b phone _ width narrow 1 (one (two list) .list-leaves .ensures .holds),
-      list-is b phone _ width narrow 2 (two list .list-leaves2 .ensures .holds),
-      list-is b phone _ width narrow 3 (list .list-leaves3 .ensures .holds),
     )
 
 same-length : tie.Need-same-length
@@ -172,17 +176,18 @@ returns : tie.Need-returns
 unfolding bookWith
 returns c =
     let wide = c .before .before .before .before .before .before .before in
-    let r = ranges (start wide) in
+    let from = start wide in
+    let r = ranges from in
     let list = three wide in
-    let first = one (two list) .list-leaves in
-    let second = two list .list-leaves2 in
-    let third = list .list-leaves3 in
-    let grown = start-grown (book (start wide)) (start wide .args .phone) _ (width-is wide)
-    (r .half-range .high) _ (top-is wide) (r .states-range .low) (r .states-range .high)
-    (first .ensures .holds) (second .ensures .holds) (third .ensures .holds)
-    (c .before .before .choose .ensures) in
-    let table = third .ensures .tableSized ∙ second .ensures .tableSized ∙ first .ensures .tableSized in
-    (grown, (table, third .ensures .none, first .ensures .listSized, second .ensures .listSized, third .ensures .listSized))
+    let first = one (two list) .list-leaves .ensures in
+    let second = two list .list-leaves2 .ensures in
+    let third = list .list-leaves3 .ensures in
+    let all = start-all (book from) (from .args .phone) _ (width-is wide) (r .half-range .high) _ (top-is wide)
+    (r .states-range .low) (r .states-range .high) (first .holds) (second .holds) (third .holds) in
+    let table = third .tableSized ∙ second .tableSized ∙ first .tableSized in (
+      rw (← all) (c .before .before .choose .ensures),
+      worked (from .pre .2) (third .none) table (first .listSized) (second .listSized) (third .listSized),
+    )
 
 pub choose-phone-spec : {M : Type 1} → statement M
 choose-phone-spec =

@@ -1,26 +1,26 @@
 -- `combining::choose_phones` meets its contract. The loop's invariant: the space has the combinations of the
--- phones before `phone`, `ends` how many there were after each, the four working lists keep their length, and the
--- table has no used record.
+-- phones before `phone`, `ends` how many there were after each, and the lists are fit for the next phone.
 use mathlib.Core.Path.{_≡_, refl, sym, ap, _∙_}
-use Prim.Native.Nat.{suc, _-_}
+use Prim.Native.Nat.{suc, _-_, _≤_}
 use native.Mathlib.Omega.{arith}
 use lib.ListN.{length}
 use borrow.Author.Needs.{needs}
-use Rattle.definitions.specs.Combinations.{combinationRoom}
+use Rattle.definitions.specs.Tables.{Book}
 use Rattle.definitions.specs.laws.Books.{InRange}
 use Rattle.tables.specs.Usable.{bookWith}
-use Rattle.metastates.specs.Leaves.{NoneUsed}
-use Rattle.metastates.specs.laws.Phones.{Added, added-start, added-holding, added-over, added-more}
-use Rattle.metastates.specs.laws.Phones.{added-end, noted-length, room-most}
+use Rattle.metastates.specs.Working.{Worked}
+use Rattle.metastates.specs.laws.Grown.{holding-none}
+use Rattle.metastates.specs.laws.Phones.{PhonesAdded, added-start, added-holding, added-over, added-few}
+use Rattle.metastates.specs.laws.Phones.{added-more, added-end, noted-length}
+use Rattle.metastates.specs.laws.Working.{worked-none, worked-more}
 use Rattle.metastates.proofs.combining.choose_phones.Statement.{statement}
 use Rattle.metastates.proofs.combining.choose_phones.Tie as tie
 
 abbrev Inv-loop : tie.InvT-loop
 Inv-loop header nodes classes roots table₀ first₀ second₀ third₀ space₀ ends₀ count₀ phone₀ table first second
     third space ends count phone =
-    Added (bookWith header nodes classes roots) space₀ phone space ends count
-    × (length table ≡ length table₀) × (length first ≡ length first₀) × (length second ≡ length second₀)
-    × (length third ≡ length third₀) × NoneUsed table
+    PhonesAdded (bookWith header nodes classes roots) space₀ phone space ends count
+    × Worked (header .nodes) table₀ first₀ second₀ third₀ table first second third
 
 abbrev μ-loop : tie.MeasureT-loop
 μ-loop header nodes classes roots table₀ first₀ second₀ third₀ space₀ ends₀ count₀ phone₀ table first second
@@ -37,41 +37,52 @@ loop-of c = c .before .before
 abbrev turn : tie.After-choose-phone Inv-loop μ-loop → tie.Then1 Inv-loop μ-loop
 turn c = c .before .before .before .before .before .before
 
-abbrev call : tie.After-room-in Inv-loop μ-loop → tie.After-choose-phone Inv-loop μ-loop
-call c = c .before .before .before .before .before .before .before .before .before .before .before
+abbrev called : tie.After-slice-known11 Inv-loop μ-loop → tie.After-choose-phone Inv-loop μ-loop
+called c = c .before .before .before .before .before .before .before .before .before .before
 
 ranges : (c : tie.Start Inv-loop μ-loop) → InRange (c .args .header)
 ranges c = c .pre .0 .ranges
 
-ends-sized : (c : tie.At-loop Inv-loop μ-loop) → length (c .loop .ends) ≡ 65
+ends-sized : (c : tie.At-loop Inv-loop μ-loop) → length (c .loop .ends) ≡ length (entry c .args .ends .now)
+ends-sized c = noted-length (c .loop .inv .0) ∙ sym (ap length (entry c .pre .1 .ends-clear))
+
+-- a phone of the book
+abbrev book : tie.Start Inv-loop μ-loop → Book
+book c =
+    let a = c .args in
+    bookWith (a .header) (a .nodes .now) (a .classes .now) (a .roots .now)
+
+within : (c : tie.Then1 Inv-loop μ-loop) → c .before .before .loop .phone ≤ book (entry (loop-of c)) .phones
 unfolding bookWith
-ends-sized c = noted-length (c .loop .inv .0) (ranges (entry c) .phones-range .high)
+within c = c .if1 .taken
 
 loop-holds : tie.Need-loop-holds Inv-loop μ-loop
-loop-holds c =
-    let p = c .before .before .before .before .before .before .before .before .before .pre in
-    (added-start _ _ _ (p .1) (p .2), refl, refl, refl, refl, p .7)
-
-choose-phone-requires : tie.Need-choose-phone-requires Inv-loop μ-loop
 unfolding bookWith
-choose-phone-requires c κs =
-    let turn = c .before .before .before .before .before in
-    let p = entry (loop-of turn) .pre in
-    let l = loop-of turn .loop .inv in
-    let r = ranges (entry (loop-of turn)) in (
-      p .0,
-      l .0 .low,
-      turn .if1 .taken,
-      added-holding (l .0) (p .1) (r .half-range .high) (r .states-range .high),
-      l .1 ∙ p .3,
-      omega (arith, p .4, l .1, l .2),
-      omega (arith, p .5, l .1, l .3),
-      omega (arith, p .6, l .1, l .4),
-      l .5,
+loop-holds c =
+    let start = c .before .before .before .before .before .before .before .before .before in
+    let (fit, clear, working) = start .pre in
+    let r = fit .ranges in (
+      added-start (record {
+        none = holding-none _ (clear .space-clear);
+        narrow = r .half-range .high;
+        few = r .states-range .high;
+        most = r .phones-range .high;
+      }) clear,
+      worked-none working,
     )
 
-room-in-requires : tie.Need-room-in-requires Inv-loop μ-loop
-room-in-requires c κs = search needs
+choose-phone-requires : tie.Need-choose-phone-requires Inv-loop μ-loop
+choose-phone-requires c κs =
+    let turn = c .before .before .before .before .before in
+    let (added, worked) = loop-of turn .loop .inv in
+    let fit = entry (loop-of turn) .pre .0 in
+    (fit, record { low = added .low; high = turn .if1 .taken }, worked .working, added-holding added)
+
+enum-known-adding : tie.Need-enum-known-adding Inv-loop μ-loop
+enum-known-adding c = search needs
+
+enum-known-adding-2 : tie.Need-enum-known-adding-2 Inv-loop μ-loop
+enum-known-adding-2 c = search needs
 
 same-length : tie.Need-same-length Inv-loop μ-loop
 same-length c = search needs
@@ -89,24 +100,22 @@ same-length-5 : tie.Need-same-length-5 Inv-loop μ-loop
 same-length-5 c = search needs
 
 same-length-6 : tie.Need-same-length-6 Inv-loop μ-loop
-same-length-6 c =
-    let loop = loop-of (turn (call (c .before))) in
-    ends-sized loop ∙ sym (ap length (entry loop .pre .2))
+same-length-6 c = ends-sized (loop-of (turn (called (c .before .before .before))))
 
 returns : tie.Need-returns Inv-loop μ-loop
-unfolding bookWith
 returns c =
-    let room = c .before .room-in .ensures in
-    let add = call (c .before) in
-    let loop = loop-of (turn add) in
-    let start = entry loop in
-    let r = ranges start in
-    let grown = added-over (loop .loop .inv .0) (start .pre .1) (r .half-range .high) (r .states-range .high)
-    (add .choose-phone .ensures .0) room (turn add .if1 .taken) (c .if2 .taken) in
-    (grown, λ few. absurd (omega (arith, room, c .if2 .taken, few, ap combinationRoom (grown .sized))))
+    let call = called (c .before .before .before) in
+    let turn = turn call in
+    added-over (loop-of turn .loop .inv .0) (within turn) (call .choose-phone .ensures .0)
+    (c .before .adding2 .given .1)
 
 cast-ends : tie.Need-cast-ends Inv-loop μ-loop
-cast-ends c = omega (arith, room-most _ (c .before .room-in .ensures) (c .if2 .left))
+cast-ends c =
+    let call = called (c .before .before .before) in
+    let turn = turn call in
+    let few = added-few (loop-of turn .loop .inv .0) (within turn) (call .choose-phone .ensures .0)
+    (c .before .adding .given .1) in
+    omega (arith, few)
 
 wide-requires : tie.Need-wide-requires Inv-loop μ-loop
 wide-requires c κs = search needs
@@ -116,35 +125,27 @@ mul-ends c = search needs
 
 slice-write-ends : tie.Need-slice-write-ends Inv-loop μ-loop
 slice-write-ends c =
-    let turn = turn (call (c .before .before)) in
+    let turn = turn (called (c .before .before .before .before)) in
     let most = ranges (entry (loop-of turn)) .phones-range .high in
-    omega (arith, c .wide .ensures, turn .if1 .taken, most, ends-sized (loop-of turn))
+    let sized = noted-length (loop-of turn .loop .inv .0) in
+    omega (arith, c .wide .ensures, turn .if1 .taken, most, sized)
 
 add-phone : tie.Need-add-phone Inv-loop μ-loop
 add-phone c =
-    let turn = turn (call (c .before .before)) in
+    let turn = turn (called (c .before .before .before .before)) in
     omega (arith, turn .if1 .taken, ranges (entry (loop-of turn)) .phones-range .high)
 
 loop-less : tie.Need-loop-less Inv-loop μ-loop
 loop-less c = search needs
 
 loop-again : tie.Need-loop-again Inv-loop μ-loop
-unfolding bookWith
 loop-again c =
-    let add = call (c .before .before) in
-    let loop = loop-of (turn add) in
-    let start = entry loop in
-    let r = ranges start in
-    let l = loop .loop .inv in
-    let lists = add .choose-phone .ensures .1 in (
-      added-more (l .0) (start .pre .1) (r .half-range .high) (r .states-range .high)
-          (add .choose-phone .ensures .0) (c .before .before .room-in .ensures)
-          (turn add .if1 .taken) (r .phones-range .high) (c .before .if2 .left) (c .wide .ensures) refl,
-      lists .0 ∙ l .1,
-      lists .2 ∙ l .2,
-      lists .3 ∙ l .3,
-      lists .4 ∙ l .4,
-      lists .1,
+    let call = called (c .before .before .before .before) in
+    let turn = turn call in
+    let (added, worked) = loop-of turn .loop .inv in
+    let (grown, lists) = call .choose-phone .ensures in (
+      added-more added (within turn) grown (c .before .before .adding .given .1) (c .wide .ensures) refl,
+      worked-more worked lists,
     )
 
 same-length-7 : tie.Need-same-length-7 Inv-loop μ-loop
@@ -163,16 +164,11 @@ same-length-11 : tie.Need-same-length-11 Inv-loop μ-loop
 same-length-11 c = search needs
 
 same-length-12 : tie.Need-same-length-12 Inv-loop μ-loop
-same-length-12 c =
-    let loop = c .before .before in
-    ends-sized loop ∙ sym (ap length (entry loop .pre .2))
+same-length-12 c = ends-sized (c .before .before)
 
 returns-2 : tie.Need-returns-2 Inv-loop μ-loop
 unfolding bookWith
-returns-2 c =
-    let l = c .before .before .loop .inv .0 in
-    let (grown, noted) = added-end l (c .if1 .left) in
-    (grown, λ few. noted)
+returns-2 c = added-end (c .before .before .loop .inv .0) (c .if1 .left)
 
 pub choose-phones-spec : {M : Type 1} → statement M
 choose-phones-spec =
@@ -182,7 +178,8 @@ choose-phones-spec =
     μ-loop
     loop-holds
     choose-phone-requires
-    room-in-requires
+    enum-known-adding
+    enum-known-adding-2
     same-length
     same-length-2
     same-length-3

@@ -11,7 +11,7 @@ use Rattle.definitions.specs.ForeignTables.{tablesKnown}
 use Rattle.definitions.specs.laws.Tests.{held, failed}
 use Rattle.tables.specs.Lending.{lentTables}
 use Rattle.tables.specs.laws.KnownTables.{tables-fit, own-book}
-use Rattle.metastates.specs.laws.Combining.{ends-foreign, ends-over, ends-combined}
+use Rattle.metastates.specs.laws.Combining.{ends-foreign, ends-stopped, ends-combined}
 use Rattle.metastates.proofs.combining.combine.Statement.{statement}
 use Rattle.metastates.proofs.combining.combine.Tie as tie
 
@@ -25,8 +25,8 @@ space c = c .before .before .before .clear-wide-words .last .0
 abbrev tables : tie.Start → Tables
 tables c = lentTables (c .args .nodes .now) (c .args .classes .now) (c .args .roots .now)
 
-abbrev call : tie.After-room-in → tie.After-choose-all
-call c = c .before .before .before .before
+abbrev called : tie.After-ends2 → tie.After-choose-all
+called c = c .before .before .before
 
 abbrev passed : tie.After-choose-all → tie.Else1
 passed c = c .before .before .before
@@ -66,10 +66,24 @@ slice-aggregate-choose-all c = search needs
 choose-all-requires : tie.Need-choose-all-requires
 choose-all-requires c κs =
     let passed = c .before .before in
-    (tables-fit _ _ (rw (known passed) tt), clear (passed .before), refl)
+    (tables-fit _ _ (rw (known passed) tt), record { space-clear = clear (passed .before); ends-clear = refl })
 
-room-in-requires : tie.Need-room-in-requires
-room-in-requires c κs = search needs
+enum-known-adding : tie.Need-enum-known-adding
+enum-known-adding c = search needs
+
+same-length-2 : tie.Need-same-length-2
+same-length-2 c = search needs
+
+returns-2 : tie.Need-returns-2
+returns-2 c =
+    let call = called (c .before .before .before) in
+    let q = passed call .before in
+    ends-combined (entry q .args .header) (tables (entry q)) (length (entry q .args .space .now)) _ _ _
+    (known (passed call)) _ (own-book _ _) (clear q) (sized q) (call .choose-all .ensures)
+    (c .before .adding .given .1) refl refl refl
+
+enum-known-adding-2 : tie.Need-enum-known-adding-2
+enum-known-adding-2 c = search needs
 
 clear-wide-words-requires-2 : tie.Need-clear-wide-words-requires-2
 clear-wide-words-requires-2 c κs = search needs
@@ -77,31 +91,19 @@ clear-wide-words-requires-2 c κs = search needs
 refuse-requires-2 : tie.Need-refuse-requires-2
 refuse-requires-2 c κs = search needs
 
-same-length-2 : tie.Need-same-length-2
-same-length-2 c = search needs
-
-returns-2 : tie.Need-returns-2
-returns-2 c =
-    let full = c .before .before .before .before .before in
-    let room = full .before in
-    let all = call room .choose-all in
-    let q = passed (call room) .before in
-    ends-over (entry q .args .header) (tables (entry q)) (length (entry q .args .space .now)) _ _ _
-    (known (passed (call room))) _ (own-book _ _) (sized q) (all .ensures .0) (room .room-in .ensures) (full .if2 .taken)
-    (c .refuse2 .ensures)
-    (c .before .before .before .clear-wide-words2 .ensures ∙ ap cleared (all .ensures .0 .sized ∙ sized q))
-
 same-length-3 : tie.Need-same-length-3
 same-length-3 c = search needs
 
 returns-3 : tie.Need-returns-3
 returns-3 c =
-    let room = c .before in
-    let all = call room .choose-all in
-    let q = passed (call room) .before in
-    ends-combined (entry q .args .header) (tables (entry q)) (length (entry q .args .space .now)) _ _ _
-    (known (passed (call room))) _ (own-book _ _) (sized q) (all .ensures .0) (room .room-in .ensures) (c .if2 .left)
-    refl (all .ensures .1) refl
+    let cleared-again = c .before .before .before in
+    let stop = cleared-again .before .before .before in
+    let call = called (stop .before .before) in
+    let all = call .choose-all .ensures in
+    let q = passed call .before in
+    ends-stopped (entry q .args .header) (tables (entry q)) (length (entry q .args .space .now)) _ _ _
+    (known (passed call)) _ (own-book _ _) (clear q) (sized q) all (stop .adding2 .given .1)
+    (c .refuse2 .ensures) (cleared-again .clear-wide-words2 .ensures ∙ ap cleared (all .grown .sized ∙ sized q))
 
 pub combine-spec : {M : Type 1} → statement M
 combine-spec =
@@ -114,10 +116,11 @@ combine-spec =
     returns
     slice-aggregate-choose-all
     choose-all-requires
-    room-in-requires
-    clear-wide-words-requires-2
-    refuse-requires-2
+    enum-known-adding
     same-length-2
     returns-2
+    enum-known-adding-2
+    clear-wide-words-requires-2
+    refuse-requires-2
     same-length-3
     returns-3)

@@ -1,54 +1,46 @@
 -- `adding::enter` meets its contract, by what the search along the chain found and by the room.
-use mathlib.Core.Path.{refl, sym}
-use Prim.Native.Nat.{_*_, _≤_, _<_}
+use mathlib.Core.Path.{sym}
+use Prim.Native.Nat.{_≤_, _<_}
 use native.Mathlib.Omega.{arith}
 use lib.Seq.{length-take-le}
 use borrow.Author.Needs.{needs}
 use Rattle.network.specs.Networks.{metastateRoom}
-use Rattle.network.specs.laws.Entering.{entering, enter-used, enter-linked, enter-arcs, enter-place}
-use Rattle.network.specs.laws.Entering.{enter-known, enter-crowded, enter-new}
+use Rattle.network.specs.laws.Entering.{enter-used, enter-searchable, enter-arcs, enter-placed}
+use Rattle.network.specs.laws.Entering.{enter-room, enter-known, enter-crowded, enter-new}
 use Rattle.network.proofs.adding.enter.Statement.{statement}
 use Rattle.network.proofs.adding.enter.Tie as tie
 
+-- where the function begins, and where the metastate was looked for
+abbrev entry : tie.After-struct-known → tie.Start
+entry c = c .before .before .before .before .before .before .before
+
+abbrev searched : tie.After-find → tie.Start
+searched c = entry (c .before .before .before)
+
 mul-used : tie.Need-mul-used
 mul-used c =
-    let start = c .before .before .before .before .before .before in
-    let a = start .args in
-    let s = entering (a .nodes .now) (a .sizes) (a .number) (start .pre) in
-    let few = enter-used s in
+    let few = enter-used (c .before .before .before .before .before .before .before .pre) in
     search needs
 
 slice-reshare-prefix-find : tie.Need-slice-reshare-prefix-find
-slice-reshare-prefix-find c =
-    let start = c .before .before .before .before .before .before in
-    let a = start .args in
-    let s = entering (a .nodes .now) (a .sizes) (a .number) (start .pre) in
-    enter-used s
+slice-reshare-prefix-find c = enter-used (c .before .before .before .before .before .before .before .pre)
 
 slice-aggregate-find : tie.Need-slice-aggregate-find
 slice-aggregate-find c =
-    let start = c .before .before .before .before .before .before .before in
-    let a = start .args in
-    let s = entering (a .nodes .now) (a .sizes) (a .number) (start .pre) in
-    sym (length-take-le (8 * a .sizes .metastates) (a .metastates .now) (enter-used s))
+    let start = entry (c .before) in
+    sym (length-take-le _ (start .args .metastates .now) (enter-used (start .pre)))
 
 find-requires : tie.Need-find-requires
-find-requires c κs =
-    let start = c .before .before .before .before .before .before .before .before in
-    let a = start .args in
-    let s = entering (a .nodes .now) (a .sizes) (a .number) (start .pre) in
-    enter-linked s
+find-requires c κs = let s = entry (c .before .before) .pre in (enter-searchable s, s .shaped)
 
 sub-enter-at : tie.Need-sub-enter-at
 sub-enter-at c = search needs
 
 enter-at-requires : tie.Need-enter-at-requires
 enter-at-requires c κs =
-    let start = c .before .before .before .before .before .before .before .before .before .before .before in
-    let a = start .args in
-    let s = entering (a .nodes .now) (a .sizes) (a .number) (start .pre) in
-    let place = enter-place s (c .before .before .find .ensures) (c .before .if1 .taken) in
-    (start .pre .0, start .pre .1, start .pre .2, place, enter-arcs s)
+    let test = c .before in
+    let s = searched (test .before) .pre in
+    record { placed = enter-placed s (test .before .find .ensures) (test .if1 .taken); fit = enter-arcs s }
 
 same-length : tie.Need-same-length
 same-length c = search needs
@@ -63,13 +55,9 @@ returns : tie.Need-returns
 returns c =
     let call = c .before .before in
     let test = call .before .before in
-    let start = test .before .before .before .before .before .before .before .before .before .before in
-    let a = start .args in
-    let s = entering (a .nodes .now) (a .sizes) (a .number) (start .pre) in (
-      enter-known s (test .before .find .ensures) (a .nodes .now) (a .from) (test .if1 .taken)
-          (call .enter-at .ensures .0) (call .enter-at .ensures .1),
-      refl,
-    )
+    let start = searched (test .before) in
+    enter-known (start .pre) (test .before .find .ensures) (start .args .from) (test .if1 .taken)
+    (call .enter-at .ensures)
 
 metastate-room-requires : tie.Need-metastate-room-requires
 metastate-room-requires c κs = search needs
@@ -83,28 +71,36 @@ same-length-5 c = search needs
 returns-2 : tie.Need-returns-2
 returns-2 c =
     let test = c .before .before in
-    let start = test .before .before .before .before .before .before .before .before .before .before in
+    let start = searched (test .before) in
     let a = start .args in
-    let s = entering (a .nodes .now) (a .sizes) (a .number) (start .pre) in
     let room : metastateRoom (a .metastates .now) ≤ a .sizes .metastates =
     omega (arith, c .if2 .taken, c .before .metastate-room .ensures) in
-    (enter-crowded s (test .before .find .ensures) (a .nodes .now) (a .from) (test .if1 .left) room, refl)
+    enter-crowded (start .pre) (test .before .find .ensures) (a .from) (test .if1 .left) room
 
 add-metastate-requires : tie.Need-add-metastate-requires
-add-metastate-requires c κs = search needs
+add-metastate-requires c κs =
+    let test = c .before .before in
+    let start = searched (test .before .before .before) in
+    let a = start .args in
+    let room : a .sizes .metastates < metastateRoom (a .metastates .now) =
+    omega (arith, test .if2 .left, test .before .metastate-room .ensures) in
+    enter-room (start .pre) room
 
-add-t24 : tie.Need-add-t24
-add-t24 c = search needs
+add-t25 : tie.Need-add-t25
+add-t25 c = search needs
 
 enter-at-requires-2 : tie.Need-enter-at-requires-2
 enter-at-requires-2 c κs =
     let test = c .before .before .before .before .before .before .before .before in
     let room = test .before in
-    let start = room .before .before .before .before .before .before .before .before .before .before .before in
-    let a = start .args in
-    let s = entering (a .nodes .now) (a .sizes) (a .number) (start .pre) in
-    let few : a .sizes .metastates < 65535 = omega (arith, test .if2 .left, room .metastate-room .ensures) in
-    (start .pre .0, start .pre .1, start .pre .2, few, enter-arcs s)
+    let start = searched (room .before .before) in
+    let s = start .pre in
+    let few : start .args .sizes .metastates < 65535 =
+    omega (arith, test .if2 .left, room .metastate-room .ensures) in
+    record {
+      placed = record { connectable = s .connectable; listed = s .listed; few = few };
+      fit = enter-arcs s;
+    }
 
 same-length-6 : tie.Need-same-length-6
 same-length-6 c = search needs
@@ -121,16 +117,12 @@ returns-3 c =
     let add = call .before .before .before .before .before .before in
     let test = add .before .before .before in
     let found = test .before .before in
-    let start = found .before .before .before .before .before .before .before .before .before .before in
+    let start = searched (found .before) in
     let a = start .args in
-    let s = entering (a .nodes .now) (a .sizes) (a .number) (start .pre) in
     let room : a .sizes .metastates < metastateRoom (a .metastates .now) =
-    omega (arith, test .if2 .left, test .before .metastate-room .ensures) in (
-      enter-new s (found .before .find .ensures) (a .nodes .now) (a .from) (found .if1 .left) room
-          (add .add-metastate .ensures .0) (add .add-metastate .ensures .1)
-          (call .enter-at2 .ensures .0) (call .enter-at2 .ensures .1),
-      search needs,
-    )
+    omega (arith, test .if2 .left, test .before .metastate-room .ensures) in
+    enter-new (start .pre) (found .before .find .ensures) (a .from) (found .if1 .left) room
+    (add .add-metastate .ensures .0) (add .add-metastate .ensures .1) (call .enter-at2 .ensures)
 
 pub enter-spec : {M : Type 1} → statement M
 enter-spec =
@@ -151,7 +143,7 @@ enter-spec =
     same-length-5
     returns-2
     add-metastate-requires
-    add-t24
+    add-t25
     enter-at-requires-2
     same-length-6
     same-length-7

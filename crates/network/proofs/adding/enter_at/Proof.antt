@@ -1,11 +1,11 @@
--- `adding::enter_at` meets its contract: with room, the words of the arc stand after the others; the words of a
--- combination give its model and phone.
+-- `adding::enter_at` meets its contract: with room, the words of the arc stand after the others; the words of
+-- a combination give its model and phone.
 use Prim.Native.Nat.{_*_, _≤_, _<_}
 use native.Mathlib.Omega.{arith}
 use borrow.Author.Tests.{lt-ltb, le-ltb}
 use borrow.Author.Needs.{needs}
 use Rattle.network.specs.Networks.{arcRoom}
-use Rattle.network.specs.laws.RecordWords.{record-within, phone-word, phone-few, leaf-few}
+use Rattle.network.specs.laws.RecordWords.{has-phone, has-leaf}
 use Rattle.network.specs.laws.OwnArcs.{states-few}
 use Rattle.network.specs.laws.ArcInto.{first-state, into-put}
 use Rattle.network.proofs.adding.enter_at.Statement.{statement}
@@ -18,8 +18,9 @@ entry c = c .before .before .before .before .before .before .before
 few : (c : tie.After-wide) → entry c .args .place * c .wide .result ≤ 196605
 few c =
     let start = entry c in
-    states-few (start .args .header) (start .pre .0 .header-known) (c .wide .ensures) (start .args .place)
-    (omega (arith, start .pre .3))
+    let placed = start .pre .placed in
+    states-few (start .args .header) (placed .connectable .usable .header-known) (c .wide .ensures)
+    (start .args .place) (omega (arith, placed .few))
 
 arc-room-requires : tie.Need-arc-room-requires
 arc-room-requires c κs = search needs
@@ -29,7 +30,7 @@ returns c =
     let a = c .before .before .before .before .before .before .args in
     let full : arcRoom (a .arcs .now) ≤ a .sizes .arcs =
     omega (arith, c .if1 .taken, c .before .before .arc-room .ensures) in
-    (rw (le-ltb _ _ full), rw (le-ltb _ _ full))
+    record { answers = rw (le-ltb _ _ full); words = rw (le-ltb _ _ full) }
 
 wide-requires : tie.Need-wide-requires
 wide-requires c κs = search needs
@@ -44,22 +45,16 @@ model-of-requires : tie.Need-model-of-requires
 model-of-requires c κs =
     let start = entry c in
     let a = start .args in
-    let (usable, modelled, listed, few, room) = start .pre in (
-      record-within (a .header) (a .combinations .now) usable (a .number) listed,
-      search needs,
-      leaf-few (a .header) (a .combinations .now) usable (a .number) listed (a .nodes .now) modelled 0
-          (first-state (a .header) (a .combinations .now) usable (a .number) listed (a .nodes .now) modelled),
-    )
+    let placed = start .pre .placed in
+    has-leaf (a .header) (a .combinations .now) (placed .connectable .usable) (a .number) (placed .listed)
+    (a .nodes .now) (placed .connectable .modelled) 0 (first-state placed)
 
 phone-of-requires : tie.Need-phone-of-requires
 phone-of-requires c κs =
     let start = entry (c .before) in
     let a = start .args in
-    let (usable, modelled, listed, few, room) = start .pre in (
-      record-within (a .header) (a .combinations .now) usable (a .number) listed,
-      rw (phone-word (a .header) (a .combinations .now) usable (a .number) listed)
-          (phone-few (a .header) (a .combinations .now) usable (a .number) listed),
-    )
+    let placed = start .pre .placed in
+    has-phone (a .header) (a .combinations .now) (placed .connectable .usable) (a .number) (placed .listed)
 
 cast-put-arc : tie.Need-cast-put-arc
 cast-put-arc c = let states = few (c .before .before .before) in search needs
@@ -81,15 +76,15 @@ returns-2 c =
     let test = widened .before in
     let start = entry widened in
     let a = start .args in
-    let (usable, modelled, listed, few, room) = start .pre in
     let free : a .sizes .arcs < arcRoom (a .arcs .now) =
-    omega (arith, test .if1 .left, test .before .before .arc-room .ensures) in (
-      rw (lt-ltb _ _ free),
-      rw (lt-ltb _ _ free)
-          (into-put (a .header) (a .combinations .now) usable (a .number) listed (a .nodes .now) modelled (a .from)
-          (a .place) (widened .wide .ensures) (phoned .before .model-of .ensures) (phoned .phone-of .ensures)
-          (a .sizes .arcs) (a .arcs .now) (put .put-arc .ensures)),
-    )
+    omega (arith, test .if1 .left, test .before .before .arc-room .ensures) in
+    record {
+      answers = rw (lt-ltb _ _ free);
+      words = rw (lt-ltb _ _ free)
+          (into-put (start .pre .placed) (a .from) (widened .wide .ensures)
+          (phoned .before .model-of .ensures)
+          (phoned .phone-of .ensures) (a .sizes .arcs) (a .arcs .now) (put .put-arc .ensures));
+    }
 
 pub enter-at-spec : {M : Type 1} → statement M
 enter-at-spec =

@@ -9,8 +9,8 @@ use Rattle.network.proofs.adding.last_state.Tie as tie
 few : (c : tie.After-wide) → (c .before .args .place + 1) * c .wide .result ≤ 196605
 few c =
     let start = c .before in
-    states-few (start .args .header) (start .pre .0) (c .wide .ensures) (start .args .place + 1)
-    (omega (arith, start .pre .1))
+    let (known, below) = start .pre in
+    states-few (start .args .header) known (c .wide .ensures) (start .args .place + 1) (omega (arith, below))
 
 add-last : tie.Need-add-last
 add-last c = search needs
@@ -28,7 +28,10 @@ cast-result : tie.Need-cast-result
 cast-result c = omega (arith, few c)
 
 returns : tie.Need-returns
-returns c = last-state (c .before .args .header) (c .before .pre .0) (c .wide .ensures) (c .before .args .place)
+returns c =
+    let start = c .before in
+    let (known, below) = start .pre in
+    last-state (start .args .header) known (c .wide .ensures) (start .args .place)
 
 pub last-state-spec : {M : Type 1} → statement M
 last-state-spec =

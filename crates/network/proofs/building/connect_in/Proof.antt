@@ -15,7 +15,8 @@ slice-reshare-prefix-connect c = search needs
 slice-aggregate-connect : tie.Need-slice-aggregate-connect
 slice-aggregate-connect c =
     let start = c .before .before .before .before .before .before in
-    sym (length-take-le _ (start .args .combinations .now) (start .pre .0))
+    let (within, given) = start .pre in
+    sym (length-take-le _ (start .args .combinations .now) within)
 
 connect-requires : tie.Need-connect-requires
 connect-requires c κs = search needs

@@ -1,10 +1,8 @@
--- `connecting::connect` meets its contract: whatever the number of heads and slots, they are cleared, and there are more
--- heads than metastates have room for.
+-- `connecting::connect` meets its contract: whatever the number of heads and slots, they are cleared, and
+-- there are more heads than metastates have room for.
 use native.Mathlib.Omega.{arith}
 use borrow.Author.Needs.{needs}
-use Rattle.network.specs.laws.Connecting.{cleared-chains}
-use Rattle.network.specs.laws.Spans.{cleared-spans}
-use Rattle.network.specs.laws.Indexing.{cleared-index}
+use Rattle.network.specs.laws.Connecting.{cleared-workspace}
 use Rattle.network.proofs.connecting.connect.Statement.{statement}
 use Rattle.network.proofs.connecting.connect.Tie as tie
 
@@ -22,13 +20,11 @@ slice-aggregate-connect-with-3 c = search needs
 
 connect-with-requires : tie.Need-connect-with-requires
 connect-with-requires c κs =
-    let test = c .before .before .before .before .before in
-    let start = entry (test .before) in
-    let p = start .pre in
-    let short = cleared-chains 8192 (start .args .metastates .now) (omega (arith, test .if1 .taken)) in
-    let few = cleared-spans 12288 (omega arith) in
-    let index = cleared-index 4096 (omega arith) (omega arith) in
-    (p .0, p .1, p .2, p .3, p .4, short .0, short .1, few .0, few .1, index .0, index .1)
+    let test = c .before .before .before .before .before in (
+      entry (test .before) .pre,
+      cleared-workspace 8192 12288 4096 (omega (arith, test .if1 .taken)) (omega arith) (omega arith)
+          (omega arith),
+    )
 
 same-length : tie.Need-same-length
 same-length c = search needs
@@ -49,13 +45,10 @@ slice-aggregate-connect-with-6 : tie.Need-slice-aggregate-connect-with-6
 slice-aggregate-connect-with-6 c = search needs
 
 connect-with-requires-2 : tie.Need-connect-with-requires-2
-connect-with-requires-2 c κs =
-    let start = entry (c .before .before .before .before .before .before) in
-    let p = start .pre in
-    let long = cleared-chains 131072 (start .args .metastates .now) (omega arith) in
-    let many = cleared-spans 196608 (omega arith) in
-    let index = cleared-index 65601 (omega arith) (omega arith) in
-    (p .0, p .1, p .2, p .3, p .4, long .0, long .1, many .0, many .1, index .0, index .1)
+connect-with-requires-2 c κs = (
+  entry (c .before .before .before .before .before .before) .pre,
+  cleared-workspace 131072 196608 65601 (omega arith) (omega arith) (omega arith) (omega arith),
+)
 
 same-length-3 : tie.Need-same-length-3
 same-length-3 c = search needs

@@ -1,20 +1,18 @@
 -- `connecting::expand` meets its contract.
 use native.Mathlib.Omega.{arith}
 use borrow.Author.Needs.{needs}
-use Rattle.definitions.specs.laws.Known.{header-ranges}
-use Rattle.network.specs.laws.Expanding.{Expandable, place-few, place-within, number-listed, arcs-fit}
-use Rattle.network.specs.laws.Expanding.{columns-wide, shifted-wide, new-few, turn-stops}
-use Rattle.network.specs.laws.Expanding.{turn-stops-spans, next-onward, turn-goes, turn-spans}
+use Rattle.network.specs.laws.Followers.{narrow}
+use Rattle.network.specs.laws.Expanding.{place-few, place-within, expand-placed, arcs-fit, columns-wide}
+use Rattle.network.specs.laws.Expanding.{new-few, turn-stops, next-onward, turn-goes}
 use Rattle.network.proofs.connecting.expand.Statement.{statement}
 use Rattle.network.proofs.connecting.expand.Tie as tie
 
-ready : (c : tie.Start)
-    → Expandable (c .args .header) (c .args .nodes .now) (c .args .combinations .now) (c .args .metastates .now)
-    (c .args .arcs .now) (c .args .chains .now) (c .args .sizes) (c .args .place)
-ready c = record { usable = c .pre .0; modelled = c .pre .1; listed = c .pre .3; holds = c .pre .4 }
+-- where the function begins
+abbrev began : tie.After-sizes → tie.Start
+began c = c .before .before .before .before .before .before .before .before
 
 abbrev entry : tie.After-slice-known5 → tie.Start
-entry c = c .before .before .before .before .before .before .before .before
+entry c = began (c .before)
 
 -- where the matrix was read, and where the arcs were added
 abbrev start-of : tie.After-matrix-at → tie.Start
@@ -30,35 +28,30 @@ abbrev else-of : tie.After-wide → tie.Else1
 else-of c = c .before .before .before
 
 mul-from : tie.Need-mul-from
-mul-from c = omega (arith, place-few (ready (c .before .before .before .before .before .before .before)))
+mul-from c = omega (arith, place-few (began c .pre))
 
 mul-number : tie.Need-mul-number
-mul-number c = omega (arith, place-few (ready (c .before .before .before .before .before .before .before)))
+mul-number c = omega (arith, place-few (began c .pre))
 
 slice-read-number : tie.Need-slice-read-number
-slice-read-number c = omega (arith, place-within (ready (entry c)))
+slice-read-number c = omega (arith, place-within (entry c .pre))
 
 add-matrix-at : tie.Need-add-matrix-at
-add-matrix-at c = omega (arith, place-few (ready (entry (c .before))))
+add-matrix-at c = omega (arith, place-few (entry (c .before) .pre))
 
 matrix-at-requires : tie.Need-matrix-at-requires
 matrix-at-requires c κs = search needs
 
 plain-arcs-requires : tie.Need-plain-arcs-requires
 plain-arcs-requires c κs =
-    let start = start-of c in (
-      start .pre .0,
-      start .pre .1,
-      number-listed (ready start),
-      place-few (ready start),
-      columns-wide (ready start) (c .matrix-at .ensures),
-    )
+    let s = start-of c .pre in
+    record { placed = expand-placed s; shaped = columns-wide s (c .matrix-at .ensures) }
 
 add-arcs-requires : tie.Need-add-arcs-requires
 add-arcs-requires c κs =
     let m = c .before .before in
     let start = start-of m in
-    (arcs-fit (ready start), new-few (ready start) (m .matrix-at .ensures) (c .before .plain-arcs .ensures))
+    (arcs-fit (start .pre), new-few (start .pre) (m .matrix-at .ensures) (c .before .plain-arcs .ensures))
 
 same-length : tie.Need-same-length
 same-length c = search needs
@@ -71,11 +64,9 @@ returns c =
     let added = c .before .before .before in
     let m = matrix-of added in
     let start = start-of m in
-    let plain = added .before .before .plain-arcs .ensures in
-    let e = added .add-arcs .ensures in (
-      turn-stops (ready start) (m .matrix-at .ensures) plain (e .0) (e .1) (c .if1 .taken),
-      turn-stops-spans (ready start) (m .matrix-at .ensures) plain (e .0) (e .1) (c .if1 .taken),
-    )
+    let e = added .add-arcs .ensures in
+    turn-stops (start .pre) (m .matrix-at .ensures) (added .before .before .plain-arcs .ensures) (e .0) (e .1)
+    (c .if1 .taken)
 
 add-shift : tie.Need-add-shift
 add-shift c =
@@ -84,8 +75,8 @@ add-shift c =
     let start = start-of m in
     omega (
       arith,
-      arcs-fit (ready start),
-      new-few (ready start) (m .matrix-at .ensures) (added .before .before .plain-arcs .ensures),
+      arcs-fit (start .pre),
+      new-few (start .pre) (m .matrix-at .ensures) (added .before .before .plain-arcs .ensures),
     )
 
 wide-requires : tie.Need-wide-requires
@@ -93,9 +84,8 @@ wide-requires c κs = search needs
 
 mul-shift : tie.Need-mul-shift
 mul-shift c =
-    let start = start-of (matrix-of (adding-of (else-of c))) in
-    let ranges = header-ranges (start .args .header) (start .pre .0 .header-known) in
-    omega (arith, c .wide .ensures, ranges .half-range .high)
+    let s = start-of (matrix-of (adding-of (else-of c))) .pre in
+    omega (arith, c .wide .ensures, narrow (s .between .searchable .connectable .usable))
 
 all-phones-requires : tie.Need-all-phones-requires
 all-phones-requires c κs = search needs
@@ -111,18 +101,10 @@ follow-on-requires c κs =
     let enough = else-of half in
     let added = adding-of enough in
     let m = matrix-of added in
-    let start = start-of m in
-    let p = start .pre in
-    let e = added .add-arcs .ensures in (
-      p .0,
-      p .1,
-      p .2,
-      shifted-wide (ready start) (m .matrix-at .ensures) (half .wide .ensures) (phones .all-phones .ensures)
-          (shifted .shift .ensures),
-      p .5,
-      next-onward (ready start) (m .matrix-at .ensures) (added .before .before .plain-arcs .ensures) (e .0) (e .1)
-          (enough .if1 .left) (half .wide .ensures) (phones .all-phones .ensures) (shifted .shift .ensures) (p .6),
-    )
+    let e = added .add-arcs .ensures in
+    next-onward (start-of m .pre) (m .matrix-at .ensures) (added .before .before .plain-arcs .ensures)
+    (e .0) (e .1)
+    (enough .if1 .left) (half .wide .ensures) (phones .all-phones .ensures) (shifted .shift .ensures)
 
 same-length-3 : tie.Need-same-length-3
 same-length-3 c = search needs
@@ -145,15 +127,11 @@ returns-2 c =
     let enough = else-of half in
     let added = adding-of enough in
     let m = matrix-of added in
-    let start = start-of m in
-    let plain = added .before .before .plain-arcs .ensures in
     let e = added .add-arcs .ensures in
-    let left = followed .follow-on .ensures in (
-      turn-goes (ready start) (m .matrix-at .ensures) plain (e .0) (e .1) (enough .if1 .left) (half .wide .ensures)
-          (phones .all-phones .ensures) (shifted .shift .ensures) (left .0),
-      turn-spans (ready start) (m .matrix-at .ensures) plain (e .0) (e .1) (enough .if1 .left) (half .wide .ensures)
-          (phones .all-phones .ensures) (shifted .shift .ensures) (left .1),
-    )
+    turn-goes (start-of m .pre) (m .matrix-at .ensures) (added .before .before .plain-arcs .ensures)
+    (e .0) (e .1)
+    (enough .if1 .left) (half .wide .ensures) (phones .all-phones .ensures) (shifted .shift .ensures)
+    (followed .follow-on .ensures)
 
 pub expand-spec : {M : Type 1} → statement M
 expand-spec =

@@ -5,8 +5,9 @@ use native.Mathlib.Omega.{arith}
 use borrow.Author.Needs.{needs}
 use Rattle.definitions.specs.laws.Books.{InRange}
 use Rattle.definitions.specs.laws.Known.{header-ranges}
-use Rattle.network.specs.laws.RecordWords.{record-within, leaf-few}
-use Rattle.network.specs.laws.OwnArcs.{OwnArcs, modelWord, own-none, own-count, own-more, own-are}
+use Rattle.network.specs.RecordWords.{modelWord}
+use Rattle.network.specs.laws.RecordWords.{has-leaf}
+use Rattle.network.specs.laws.OwnArcs.{OwnArcs, own-none, own-count, own-more, own-are}
 use Rattle.network.specs.laws.OwnArcs.{states-few}
 use Rattle.network.proofs.connecting.own_arcs.Statement.{statement}
 use Rattle.network.proofs.connecting.own_arcs.Tie as tie
@@ -23,13 +24,13 @@ entry c = c .before .before .before .before
 
 -- the numbers of the header are in range
 ranges : (c : tie.Start Inv-loop μ-loop) → InRange (c .args .header)
-ranges c = header-ranges (c .args .header) (c .pre .0 .header-known)
+ranges c = header-ranges (c .args .header) (c .pre .connectable .usable .header-known)
 
 few : (c : tie.After-wide Inv-loop μ-loop) → c .before .before .before .args .place * c .wide .result ≤ 196605
 few c =
     let start = c .before .before .before in
-    states-few (start .args .header) (start .pre .0 .header-known) (c .wide .ensures) (start .args .place)
-    (omega (arith, start .pre .3))
+    states-few (start .args .header) (start .pre .connectable .usable .header-known) (c .wide .ensures)
+    (start .args .place) (omega (arith, start .pre .few))
 
 wide-requires : tie.Need-wide-requires Inv-loop μ-loop
 wide-requires c κs = search needs
@@ -51,12 +52,10 @@ model-of-requires c κs =
     let p = start .pre in
     let a = start .args in
     let here : c .before .loop .state < a .header .states =
-    omega (arith, c .loop-test .taken, c .before .before .wide .ensures) in (
-      record-within (a .header) (a .combinations .now) (p .0) (a .number) (p .2),
-      omega (arith, here, ranges start .states-range .high),
-      leaf-few (a .header) (a .combinations .now) (p .0) (a .number) (p .2) (a .nodes .now) (p .1)
-          (c .before .loop .state) here,
-    )
+    omega (arith, c .loop-test .taken, c .before .before .wide .ensures) in
+    has-leaf (a .header) (a .combinations .now) (p .connectable .usable) (a .number) (p .listed)
+    (a .nodes .now)
+    (p .connectable .modelled) (c .before .loop .state) here
 
 -- the state that an arc leads to
 fits : (c : tie.After-model-of Inv-loop μ-loop)
@@ -92,7 +91,7 @@ with-arc-requires c κs =
       c .before .loop-test .taken,
       ranges (entry head) .states-range .high,
     ) in
-    (few-arcs, omega (arith, fits c), fits c)
+    record { few = few-arcs; from-word = omega (arith, fits c); to-word = fits c }
 
 add-state : tie.Need-add-state Inv-loop μ-loop
 add-state c = search needs
@@ -109,10 +108,8 @@ loop-again c =
 returns : tie.Need-returns Inv-loop μ-loop
 returns c =
     let start = entry (c .before) in
-    let a = start .args in
-    let p = start .pre in
-    own-are (a .header) (a .nodes .now) (a .combinations .now) (p .0) (p .1)
-    (record { number = a .number; matrix = [] }) (p .2) (a .place) (c .before .before .wide .ensures) (c .before .loop .inv) (c .loop-test .left)
+    own-are (record { number = start .args .number; carried = [] }) (start .pre)
+    (c .before .before .wide .ensures) (c .before .loop .inv) (c .loop-test .left)
 
 pub own-arcs-spec : {M : Type 1} → statement M
 own-arcs-spec =

@@ -16,13 +16,13 @@ around-requires c κs = search needs
 follow-requires : tie.Need-follow-requires
 follow-requires c κs =
     let made = c .before .before .before in
-    let p = entry made .pre in (
-      p .0,
-      p .1,
-      p .2,
-      before-wide (p .0) (made .before .all-phones .ensures) (made .around .ensures),
-      holds-none (p .3),
-    )
+    let s = entry made .pre in
+    let usable = s .searchable .connectable .usable in
+    record {
+      searchable = s .searchable;
+      underway = holds-none (s .empty);
+      shaped = before-wide usable (made .before .all-phones .ensures) (made .around .ensures);
+    }
 
 same-length : tie.Need-same-length
 same-length c = search needs
@@ -37,8 +37,9 @@ returns : tie.Need-returns
 returns c =
     let followed = c .before .before .before .before .before .before in
     let made = followed .before .before .before .before in
-    started (entry made .pre .0) (made .before .all-phones .ensures) (made .around .ensures)
-    (entry made .args .nodes .now) (followed .follow .ensures)
+    let start = entry made in
+    started (start .pre .searchable .connectable .usable) (made .before .all-phones .ensures)
+    (made .around .ensures) (start .args .nodes .now) (followed .follow .ensures)
 
 pub start-spec : {M : Type 1} → statement M
 start-spec =

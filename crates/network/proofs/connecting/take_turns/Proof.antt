@@ -1,29 +1,23 @@
--- `connecting::take_turns` meets its contract. The loop's invariant: after `turns` turns, what the words hold, and
--- what is left of the build.
-use mathlib.Core.Path.{_≡_, refl, _∙_}
+-- `connecting::take_turns` meets its contract. The loop's invariant: after `turns` turns, what the words
+-- hold, and what is left of the build.
+use mathlib.Core.Path.{_∙_}
 use Prim.Native.Nat.{_-_, _<_}
 use native.Mathlib.Omega.{arith}
-use lib.ListN.{length}
 use borrow.Author.Needs.{needs}
-use Rattle.definitions.specs.laws.Known.{header-ranges}
-use Rattle.network.specs.Combinations.{combinationsIn, nodesBook}
-use Rattle.network.specs.Networks.{networkHeld}
-use Rattle.network.specs.Spans.{Spanned}
-use Rattle.network.specs.laws.Outcomes.{next-answered}
 use Rattle.network.specs.laws.Turning.{Turned, turned-none, metastates-word, arcs-word, turn-finished}
 use Rattle.network.specs.laws.Turning.{turn-stopped, turned-more, turn-refused}
 use Rattle.network.proofs.connecting.take_turns.Statement.{statement}
 use Rattle.network.proofs.connecting.take_turns.Tie as tie
 
 abbrev Inv-loop : tie.InvT-loop
-Inv-loop header nodes combinations ends metastates₀ arcs₀ chains₀ spans₀ limit now₀ turns₀ metastates arcs chains spans now turns =
-    Turned header nodes combinations metastates₀ arcs₀ now₀ limit metastates arcs chains now turns
-    × (length chains ≡ length chains₀) × (length spans ≡ length spans₀)
-    × Spanned (nodesBook header nodes) (combinationsIn header combinations)
-    (networkHeld (header .half) now metastates arcs) spans
+Inv-loop header nodes combinations index metastates₀ arcs₀ chains₀ spans₀ limit now₀ turns₀
+    metastates arcs chains spans now turns =
+    Turned header nodes combinations index metastates₀ arcs₀ chains₀ spans₀ now₀ limit
+    metastates arcs chains spans now turns
 
 abbrev μ-loop : tie.MeasureT-loop
-μ-loop header nodes combinations ends metastates₀ arcs₀ chains₀ spans₀ limit now₀ turns₀ metastates arcs chains spans now turns =
+μ-loop header nodes combinations index metastates₀ arcs₀ chains₀ spans₀ limit now₀ turns₀
+    metastates arcs chains spans now turns =
     limit - turns
 
 abbrev entry : tie.At-loop Inv-loop μ-loop → tie.Start Inv-loop μ-loop
@@ -39,18 +33,10 @@ unexpanded c = c .before .before .before .before .before
 abbrev inside : tie.Else1 Inv-loop μ-loop → tie.In-loop Inv-loop μ-loop
 inside c = c .before .before .before
 
-as-many-chains : (c : tie.At-loop Inv-loop μ-loop)
-    → length (c .loop .chains) ≡ length (entry c .args .chains .now)
-as-many-chains c = c .loop .inv .1
-
-as-many-spans : (c : tie.At-loop Inv-loop μ-loop)
-    → length (c .loop .spans) ≡ length (entry c .args .spans .now)
-as-many-spans c = c .loop .inv .2
-
 -- the counts are words
 words : (c : tie.At-loop Inv-loop μ-loop)
     → (c .loop .now .metastates < 4294967296) × (c .loop .now .arcs < 4294967296)
-words c = (metastates-word _ _ _ _ _ _ _ (c .loop .inv .0), arcs-word _ _ _ _ _ _ _ (c .loop .inv .0))
+words c = (metastates-word (c .loop .inv), arcs-word (c .loop .inv))
 
 -- the metastate whose turn it is stands in the table
 listed : (c : tie.After-wide2 Inv-loop μ-loop)
@@ -60,8 +46,7 @@ listed c =
     omega (arith, c .wide2 .ensures, left .before .before .wide .ensures, left .if1 .left)
 
 loop-holds : tie.Need-loop-holds Inv-loop μ-loop
-loop-holds c =
-    let p = c .before .before .before .before .before .before .before .pre in (turned-none _ _ _ _ _ _ _ (p .3), refl, refl, p .5)
+loop-holds c = turned-none (c .before .before .before .before .before .before .before .pre)
 
 wide-requires : tie.Need-wide-requires Inv-loop μ-loop
 wide-requires c κs = search needs
@@ -70,22 +55,22 @@ totals-requires : tie.Need-totals-requires Inv-loop μ-loop
 totals-requires c κs = words (c .before .before .before .before)
 
 same-length : tie.Need-same-length Inv-loop μ-loop
-same-length c = c .before .before .before .before .before .loop .inv .0 .metastates-sized
+same-length c = c .before .before .before .before .before .loop .inv .metastates-sized
 
 same-length-2 : tie.Need-same-length-2 Inv-loop μ-loop
-same-length-2 c = c .before .before .before .before .before .loop .inv .0 .arcs-sized
+same-length-2 c = c .before .before .before .before .before .loop .inv .arcs-sized
 
 same-length-3 : tie.Need-same-length-3 Inv-loop μ-loop
-same-length-3 c = as-many-chains (c .before .before .before .before .before)
+same-length-3 c = c .before .before .before .before .before .loop .inv .chains-sized
 
 same-length-4 : tie.Need-same-length-4 Inv-loop μ-loop
-same-length-4 c = as-many-spans (c .before .before .before .before .before)
+same-length-4 c = c .before .before .before .before .before .loop .inv .spans-sized
 
 returns : tie.Need-returns Inv-loop μ-loop
 returns c =
     let test = c .before .before in
     let head = test .before .before .before in
-    turn-finished _ _ _ _ _ _ _ (head .loop .inv .0) (test .before .wide .ensures) (c .before .if1 .taken)
+    turn-finished (head .loop .inv) (test .before .wide .ensures) (c .before .if1 .taken)
     (c .totals .ensures)
 
 wide-requires-2 : tie.Need-wide-requires-2 Inv-loop μ-loop
@@ -93,9 +78,7 @@ wide-requires-2 c κs = search needs
 
 expand-requires : tie.Need-expand-requires Inv-loop μ-loop
 expand-requires c κs =
-    let head = inside (unexpanded c) .before in
-    let p = entry head .pre in
-    (p .0, p .1, p .2, listed c, head .loop .inv .0 .holds, omega (arith, p .4, head .loop .inv .2), head .loop .inv .3)
+    record { between = inside (unexpanded c) .before .loop .inv .between; listed = listed c }
 
 enum-known-step : tie.Need-enum-known-step Inv-loop μ-loop
 enum-known-step c = search needs
@@ -112,21 +95,21 @@ same-length-6 c = search needs
 same-length-7 : tie.Need-same-length-7 Inv-loop μ-loop
 same-length-7 c =
     let call = called (c .before .before .before) in
-    c .before .before .before .before .before .before .chains .given
-    ∙ as-many-chains (inside (unexpanded (call .before)) .before)
+    call .expand .ensures .left .chains-sized
+    ∙ inside (unexpanded (call .before)) .before .loop .inv .chains-sized
 
 same-length-8 : tie.Need-same-length-8 Inv-loop μ-loop
 same-length-8 c =
     let call = called (c .before .before .before) in
-    c .before .before .before .before .spans .given
-    ∙ as-many-spans (inside (unexpanded (call .before)) .before)
+    call .expand .ensures .spans-sized ∙ inside (unexpanded (call .before)) .before .loop .inv .spans-sized
 
 returns-2 : tie.Need-returns-2 Inv-loop μ-loop
 returns-2 c =
     let call = called (c .before .before .before) in
     let turn = inside (unexpanded (call .before)) in
-    turn-refused _ _ _ _ _ _ _ (turn .before .loop .inv .0) (turn .loop-test .taken)
-    (call .before .wide2 .ensures) (listed (call .before)) (call .expand .ensures .0) (c .before .step2 .given .1)
+    turn-refused (turn .before .loop .inv) (turn .loop-test .taken)
+    (call .before .wide2 .ensures) (listed (call .before)) (call .expand .ensures)
+    (c .before .step2 .given .1)
 
 add-turns : tie.Need-add-turns Inv-loop μ-loop
 add-turns c =
@@ -140,16 +123,8 @@ loop-again : tie.Need-loop-again Inv-loop μ-loop
 loop-again c =
     let call = called (c .before .before .before) in
     let turn = inside (unexpanded (call .before)) in
-    let start = entry (turn .before) in
-    let ranges = header-ranges (start .args .header) (start .pre .0 .header-known) in
-    let few = ranges .half-range .high in
-    let is = c .before .step .given .1 in (
-      turned-more _ _ _ _ _ _ _ (turn .before .loop .inv .0) (turn .loop-test .taken)
-          (call .before .wide2 .ensures) (listed (call .before)) (call .expand .ensures .0) few is,
-      c .before .before .before .before .before .before .chains .given ∙ turn .before .loop .inv .1,
-      c .before .before .before .before .spans .given ∙ turn .before .loop .inv .2,
-      call .expand .ensures .1 _ (next-answered few (call .expand .ensures .0) is),
-    )
+    turned-more (turn .before .loop .inv) (turn .loop-test .taken) (call .before .wide2 .ensures)
+    (listed (call .before)) (call .expand .ensures) (c .before .step .given .1)
 
 wide-requires-3 : tie.Need-wide-requires-3 Inv-loop μ-loop
 wide-requires-3 c κs = search needs
@@ -158,43 +133,43 @@ totals-requires-2 : tie.Need-totals-requires-2 Inv-loop μ-loop
 totals-requires-2 c κs = words (c .before .before .before .before)
 
 same-length-9 : tie.Need-same-length-9 Inv-loop μ-loop
-same-length-9 c = c .before .before .before .before .before .loop .inv .0 .metastates-sized
+same-length-9 c = c .before .before .before .before .before .loop .inv .metastates-sized
 
 same-length-10 : tie.Need-same-length-10 Inv-loop μ-loop
-same-length-10 c = c .before .before .before .before .before .loop .inv .0 .arcs-sized
+same-length-10 c = c .before .before .before .before .before .loop .inv .arcs-sized
 
 same-length-11 : tie.Need-same-length-11 Inv-loop μ-loop
-same-length-11 c = as-many-chains (c .before .before .before .before .before)
+same-length-11 c = c .before .before .before .before .before .loop .inv .chains-sized
 
 same-length-12 : tie.Need-same-length-12 Inv-loop μ-loop
-same-length-12 c = as-many-spans (c .before .before .before .before .before)
+same-length-12 c = c .before .before .before .before .before .loop .inv .spans-sized
 
 returns-3 : tie.Need-returns-3 Inv-loop μ-loop
 returns-3 c =
     let test = c .before .before in
-    turn-finished _ _ _ _ _ _ _ (test .before .before .before .loop .inv .0) (test .before .wide3 .ensures)
+    turn-finished (test .before .before .before .loop .inv) (test .before .wide3 .ensures)
     (c .before .if2 .taken) (c .totals2 .ensures)
 
 totals-requires-3 : tie.Need-totals-requires-3 Inv-loop μ-loop
 totals-requires-3 c κs = words (c .before .before .before .before)
 
 same-length-13 : tie.Need-same-length-13 Inv-loop μ-loop
-same-length-13 c = c .before .before .before .before .before .loop .inv .0 .metastates-sized
+same-length-13 c = c .before .before .before .before .before .loop .inv .metastates-sized
 
 same-length-14 : tie.Need-same-length-14 Inv-loop μ-loop
-same-length-14 c = c .before .before .before .before .before .loop .inv .0 .arcs-sized
+same-length-14 c = c .before .before .before .before .before .loop .inv .arcs-sized
 
 same-length-15 : tie.Need-same-length-15 Inv-loop μ-loop
-same-length-15 c = as-many-chains (c .before .before .before .before .before)
+same-length-15 c = c .before .before .before .before .before .loop .inv .chains-sized
 
 same-length-16 : tie.Need-same-length-16 Inv-loop μ-loop
-same-length-16 c = as-many-spans (c .before .before .before .before .before)
+same-length-16 c = c .before .before .before .before .before .loop .inv .spans-sized
 
 returns-4 : tie.Need-returns-4 Inv-loop μ-loop
 returns-4 c =
     let test = c .before .before in
     let ended = test .before .before in
-    turn-stopped _ _ _ _ _ _ _ (ended .before .loop .inv .0) (test .before .wide3 .ensures)
+    turn-stopped (ended .before .loop .inv) (test .before .wide3 .ensures)
     (ended .loop-test .left) (c .before .if2 .left) (c .totals3 .ensures)
 
 pub take-turns-spec : {M : Type 1} → statement M

@@ -52,7 +52,7 @@ add-t8 c = search needs
 returns : tie.Need-returns
 returns c arcs are =
     let start = c .before .before .before in
-    arc-stored (start .args .new) arcs _ _ _ (search needs) (start .pre .0) are
+    arc-stored (start .args .new) arcs _ _ _ (search needs) (start .pre .few) are
 
 pub with-arc-spec : {M : Type 1} → statement M
 with-arc-spec =

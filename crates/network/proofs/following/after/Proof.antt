@@ -1,4 +1,5 @@
--- `following::after` meets its contract: where the centre lacks the phone, so it does up to the next phone that it has.
+-- `following::after` meets its contract: where the centre lacks the phone, so it does up to the next phone
+-- that it has.
 use mathlib.Core.Path.{sym, ap, subst, _∙_}
 use Prim.Native.Nat.{ℕ, _-_, _≤_}
 use native.Mathlib.Omega.{arith}
@@ -6,7 +7,7 @@ use Rattle.definitions.specs.Lists.{_!_}
 use Rattle.network.specs.Combinations.{combinationsIn}
 use Rattle.network.specs.Following.{Beyond}
 use Rattle.matrix.specs.Shapes.{matrixIn}
-use Rattle.network.specs.laws.RecordWords.{combinations-length, record-phone}
+use Rattle.network.specs.laws.RecordWords.{combinations-length, has-phone}
 use Rattle.network.specs.laws.Followers.{narrow, beyond-one, beyond-all, beyond-phones}
 use borrow.Author.Needs.{needs}
 use Rattle.network.proofs.following.after.Statement.{statement}
@@ -17,8 +18,8 @@ entry c = c .before .before .before .before .before
 
 phone-few : (c : tie.After-phone-of) → c .phone-of .result ≤ 64
 phone-few c =
-    let start = entry c in
-    omega (arith, c .phone-of .ensures, record-phone _ _ (start .pre .0) _ (start .pre .2) .1)
+    let failed = entry c .pre in
+    omega (arith, c .phone-of .ensures, has-phone _ _ (failed .seeking .usable) _ (failed .listed) .few)
 
 wide-requires : tie.Need-wide-requires
 wide-requires c κs = search needs
@@ -28,26 +29,26 @@ mul-centre c = search needs
 
 element-copy-out-centre : tie.Need-element-copy-out-centre
 element-copy-out-centre c =
-    let start = c .before .before .before in
-    omega (arith, c .wide .ensures, narrow _ _ (start .pre .0))
+    omega (arith, c .wide .ensures, narrow (c .before .before .before .pre .seeking .usable))
 
 phone-of-requires : tie.Need-phone-of-requires
 phone-of-requires c κs =
-    let start = c .before .before .before .before in
-    record-phone _ _ (start .pre .0) _ (start .pre .2)
+    let failed = c .before .before .before .before .pre in
+    has-phone _ _ (failed .seeking .usable) _ (failed .listed)
 
 has-phone-requires : tie.Need-has-phone-requires
 has-phone-requires c κs = search needs
 
 add-result : tie.Need-add-result
 add-result c =
-    let start = c .before .before .before .before .before .before .before in
-    omega (arith, start .pre .2, start .pre .0 .few)
+    let failed = c .before .before .before .before .before .before .before .pre in
+    omega (arith, failed .listed, failed .seeking .usable .few)
 
 returns : tie.Need-returns
 returns c =
-    let start = c .before .before .before .before .before .before .before in
-    beyond-one _ _ (start .pre .0) _ (start .pre .3) _ (start .pre .2) (start .pre .4)
+    let failed = c .before .before .before .before .before .before .before .pre in
+    let s = failed .seeking in
+    beyond-one (s .usable) (s .shaped) (failed .listed) (failed .fails)
 
 add-next-member : tie.Need-add-next-member
 add-next-member c = omega (arith, phone-few (c .before .before))
@@ -63,10 +64,12 @@ returns-2 c =
     let known = tested .before in
     let start = entry known in
     let a = start .args in
+    let s = start .pre .seeking in
     subst (λ (n : ℕ).
-    Beyond (matrixIn (a .header .half) (a .t5 .columns)) (combinationsIn (a .header) (a .combinations .now)) (a .number) n)
+    Beyond (matrixIn (a .header .half) (a .t5 .columns)) (combinationsIn (a .header) (a .combinations .now))
+    (a .number) n)
     (combinations-length (a .header) (a .combinations .now))
-    (beyond-all _ _ (start .pre .0) _ (start .pre .3) _ (start .pre .1) _ (start .pre .2) (known .phone-of .ensures)
+    (beyond-all (s .usable) (s .shaped) (s .indexed) (start .pre .listed) (known .phone-of .ensures)
     (known .before .before .wide .ensures) (sym (tested .has-phone .ensures) ∙ left .if1 .left)
     (member .next-member .ensures) (c .if2 .taken))
 
@@ -89,7 +92,7 @@ shared-slice-read-result c =
       widened .wide2 .ensures,
       member .next-member .ensures .within,
       member .next-member .ensures .after,
-      start .pre .1 .sized,
+      start .pre .seeking .indexed .sized,
     )
 
 returns-3 : tie.Need-returns-3
@@ -101,10 +104,11 @@ returns-3 c =
     let tested = left .before in
     let known = tested .before in
     let start = entry known in
-    let a = start .args in
-    beyond-phones _ _ (start .pre .0) _ (start .pre .3) _ (start .pre .1) _ (start .pre .2) (known .phone-of .ensures)
+    let s = start .pre .seeking in
+    beyond-phones (s .usable) (s .shaped) (s .indexed) (start .pre .listed) (known .phone-of .ensures)
     (known .before .before .wide .ensures) (sym (tested .has-phone .ensures) ∙ left .if1 .left)
-    (member .next-member .ensures) (test .if2 .left) (ap (λ (k : ℕ). a .index .now ! (k - 1)) (widened .wide2 .ensures))
+    (member .next-member .ensures) (test .if2 .left)
+    (ap (λ (k : ℕ). start .args .index .now ! (k - 1)) (widened .wide2 .ensures))
 
 pub after-spec : {M : Type 1} → statement M
 after-spec =

@@ -9,57 +9,61 @@ use Rattle.definitions.specs.Matrices.{meet}
 use Rattle.definitions.specs.laws.Metastates.{numbered}
 use Rattle.matrix.specs.Shapes.{matrixIn}
 use Rattle.network.specs.Combinations.{combinationsIn}
-use Rattle.network.specs.laws.RecordWords.{record-within, number-in, number-out}
+use Rattle.network.specs.laws.RecordWords.{record-inside, number-in, number-out}
 use Rattle.network.specs.laws.Followers.{narrow, follower-matrix, follower-width}
-use Rattle.network.specs.laws.Following.{Followed, followed-start, followed-end, followed-stop}
+use Rattle.network.specs.laws.Following.{Followed, seeks, followed-start, followed-end, followed-stop}
 use Rattle.network.specs.laws.Following.{followed-next}
 use Rattle.network.proofs.following.follow.Statement.{statement}
 use Rattle.network.proofs.following.follow.Tie as tie
 
 abbrev Inv-loop : tie.InvT-loop
-Inv-loop header nodes combinations ends metastates₀ arcs₀ chains₀ from shifted rows now₀ number₀
+Inv-loop header nodes combinations index metastates₀ arcs₀ chains₀ source shifted rows now₀ number₀
     metastates arcs chains now number =
-    Followed header nodes combinations (shifted .columns) from metastates₀ arcs₀ chains₀ now₀
-    metastates arcs chains now number
+    Followed header nodes combinations (source .shifted .columns) (source .state)
+    metastates₀ arcs₀ chains₀ now₀ metastates arcs chains now number
 
 abbrev μ-loop : tie.MeasureT-loop
-μ-loop header nodes combinations ends metastates₀ arcs₀ chains₀ from shifted rows now₀ number₀
+μ-loop header nodes combinations index metastates₀ arcs₀ chains₀ source shifted rows now₀ number₀
     metastates arcs chains now number =
     length combinations / combinationSize - number
 
--- from either arm: the call that entered a follower, the turn that it stands in, and where the function begins
+-- where the function begins, also from inside the loop
+abbrev entry : tie.After-shifted Inv-loop μ-loop → tie.Start Inv-loop μ-loop
+entry c = c .before .before .before .before .before .before .before
+
+abbrev start : tie.In-loop Inv-loop μ-loop → tie.Start Inv-loop μ-loop
+start c = entry (c .before .before .before .before)
+
+-- from either arm: the call that entered a follower, and the turn that it stands in
 abbrev called : tie.After-slice-known6 Inv-loop μ-loop → tie.After-enter Inv-loop μ-loop
 called c = c .before .before .before .before .before .before
 
 abbrev inside : tie.After-enter Inv-loop μ-loop → tie.In-loop Inv-loop μ-loop
 inside c = c .before .before .before .before .before .before
 
-abbrev start : tie.In-loop Inv-loop μ-loop → tie.Start Inv-loop μ-loop
-start c = c .before .before .before .before .before .before .before .before .before .before
-
 -- a follower that was entered: its number is that of a combination, and what its words hold
 here : (c : tie.In-loop Inv-loop μ-loop)
-    → c .before .loop .number < length (combinationsIn (start c .args .header) (start c .args .combinations .now))
+    → c .before .loop .number
+    < length (combinationsIn (start c .args .header) (start c .args .combinations .now))
 here c = number-in _ _ (c .loop-test .taken)
 
 rows-for-requires : tie.Need-rows-for-requires Inv-loop μ-loop
-rows-for-requires c κs =
-    let pre = c .before .before .before .before .before .before .pre in
-    (pre .0, pre .2, pre .3)
+rows-for-requires c κs = seeks (entry c .pre)
 
 next-follower-requires : tie.Need-next-follower-requires Inv-loop μ-loop
 next-follower-requires c κs =
-    let pre = c .before .before .before .before .before .before .before .pre in
-    (pre .0, pre .2, search needs, pre .3, c .rows-for .ensures)
+    record {
+      seeking = seeks (entry (c .before) .pre);
+      within = search needs;
+      admitting = c .rows-for .ensures;
+    }
 
 loop-holds : tie.Need-loop-holds Inv-loop μ-loop
-loop-holds c =
-    let pre = c .before .before .before .before .before .before .before .before .pre in
-    followed-start _ _ (pre .4) (c .next-follower .ensures)
+loop-holds c = followed-start _ _ (entry (c .before .before) .pre .underway) (c .next-follower .ensures)
 
 matrix-of-requires : tie.Need-matrix-of-requires Inv-loop μ-loop
 matrix-of-requires c κs =
-    record-within _ _ (start c .pre .0) _ (here c)
+    record-inside _ _ (start c .pre .searchable .connectable .usable) _ (here c)
 
 meet-requires : tie.Need-meet-requires Inv-loop μ-loop
 meet-requires c κs = search needs
@@ -68,25 +72,30 @@ enter-requires : tie.Need-enter-requires Inv-loop μ-loop
 enter-requires c κs =
     let met = c .before .before .before in
     let turn = met .before .before in
-    let pre = start turn .pre in (
-      pre .0,
-      pre .1,
-      here turn,
-      follower-width _ _ (pre .0) _ (pre .3) _ (here turn) (met .before .matrix-of .ensures) (met .meet .ensures),
-      turn .before .loop .inv .holds,
-    )
+    let s = start turn .pre in
+    let connectable = s .searchable .connectable in
+    record {
+      connectable = connectable;
+      underway = turn .before .loop .inv .underway;
+      listed = here turn;
+      shaped =
+          follower-width (connectable .usable) (s .shaped) (here turn) (met .before .matrix-of .ensures)
+          (met .meet .ensures);
+    }
 
 -- the matrix that was entered
 matrix : (c : tie.After-enter Inv-loop μ-loop)
-    → matrixIn (start (inside c) .args .header .half) (c .before .before .before .before .meet .result .columns)
-    ≡ meet (matrixIn (start (inside c) .args .header .half) (start (inside c) .args .shifted .columns))
+    → matrixIn (start (inside c) .args .header .half)
+    (c .before .before .before .before .meet .result .columns)
+    ≡ meet (matrixIn (start (inside c) .args .header .half)
+    (start (inside c) .args .source .shifted .columns))
     (numbered (combinationsIn (start (inside c) .args .header) (start (inside c) .args .combinations .now))
-    (inside c .before .loop .number) .matrix)
+    (inside c .before .loop .number) .carried)
 matrix c =
-    let pre = start (inside c) .pre in
+    let s = start (inside c) .pre in
     let met = c .before .before .before .before in
-    follower-matrix _ _ (pre .0) _ (pre .3) _ (here (inside c)) (met .before .matrix-of .ensures)
-    (met .meet .ensures)
+    follower-matrix (s .searchable .connectable .usable) (s .shaped) (here (inside c))
+    (met .before .matrix-of .ensures) (met .meet .ensures)
 
 enum-known-step : tie.Need-enum-known-step Inv-loop μ-loop
 enum-known-step c = search needs
@@ -112,13 +121,17 @@ returns c =
 
 add-next-follower : tie.Need-add-next-follower Inv-loop μ-loop
 add-next-follower c =
-    let turn = inside (called (c .before .before .before)) in omega (arith, here turn, start turn .pre .0 .few)
+    let turn = inside (called (c .before .before .before)) in
+    omega (arith, here turn, start turn .pre .searchable .connectable .usable .few)
 
 next-follower-requires-2 : tie.Need-next-follower-requires-2 Inv-loop μ-loop
 next-follower-requires-2 c κs =
     let turn = inside (called (c .before .before .before)) in
-    let pre = start turn .pre in
-    (pre .0, pre .2, omega (arith, here turn), pre .3, turn .before .before .before .rows-for .ensures)
+    record {
+      seeking = seeks (start turn .pre);
+      within = omega (arith, here turn);
+      admitting = turn .before .before .before .rows-for .ensures;
+    }
 
 loop-less : tie.Need-loop-less Inv-loop μ-loop
 loop-less c = search needs
@@ -128,7 +141,8 @@ loop-again c =
     let call = called (c .before .before .before .before) in
     let turn = inside call in
     followed-next (turn .before .loop .inv) (here turn) (matrix call) (call .enter .ensures)
-    (narrow _ _ (start turn .pre .0)) (c .before .before .step .given .1) (c .next-follower2 .ensures)
+    (narrow (start turn .pre .searchable .connectable .usable)) (c .before .before .step .given .1)
+    (c .next-follower2 .ensures)
 
 same-length-4 : tie.Need-same-length-4 Inv-loop μ-loop
 same-length-4 c = search needs

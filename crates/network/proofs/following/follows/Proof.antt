@@ -3,7 +3,7 @@ use mathlib.Core.Path.{refl, sym}
 use native.Mathlib.Omega.{arith}
 use borrow.Author.Needs.{needs}
 use Rattle.definitions.specs.laws.Tests.{failed}
-use Rattle.network.specs.laws.RecordWords.{record-within, record-phone}
+use Rattle.network.specs.laws.RecordWords.{record-inside, has-phone}
 use Rattle.network.specs.laws.Followers.{narrow, not-following, following-valid}
 use Rattle.network.proofs.following.follows.Statement.{statement}
 use Rattle.network.proofs.following.follows.Tie as tie
@@ -17,12 +17,12 @@ mul-centre c = search needs
 element-copy-out-centre : tie.Need-element-copy-out-centre
 element-copy-out-centre c =
     let start = c .before .before in
-    omega (arith, c .wide .ensures, narrow _ _ (start .pre .0))
+    omega (arith, c .wide .ensures, narrow (start .pre .usable))
 
 phone-of-requires : tie.Need-phone-of-requires
 phone-of-requires c κs =
     let start = c .before .before .before in
-    record-phone _ _ (start .pre .0) _ (start .pre .1)
+    has-phone _ _ (start .pre .usable) _ (start .pre .listed)
 
 has-phone-requires : tie.Need-has-phone-requires
 has-phone-requires c κs = search needs
@@ -31,8 +31,8 @@ returns : tie.Need-returns
 returns c =
     let tested = c .before in
     let known = tested .before in
-    let start = known .before .before .before .before in
-    sym (not-following _ _ (start .pre .0) _ (start .pre .2) _ (start .pre .1) (known .phone-of .ensures)
+    let tried = known .before .before .before .before .pre in
+    sym (not-following (tried .usable) (tried .shaped) (tried .listed) (known .phone-of .ensures)
     (known .before .before .wide .ensures) (failed (tested .has-phone .ensures) (c .if1 .taken)))
 
 wide-requires-2 : tie.Need-wide-requires-2
@@ -46,14 +46,14 @@ add-meets c = search needs
 
 meets-requires : tie.Need-meets-requires
 meets-requires c κs =
-    let start = c .before .before .before .before .before .before .before in
-    record-within _ _ (start .pre .0) _ (start .pre .1)
+    let tried = c .before .before .before .before .before .before .before .pre in
+    record-inside _ _ (tried .usable) _ (tried .listed)
 
 returns-2 : tie.Need-returns-2
 returns-2 c =
     let widened = c .before in
-    let start = widened .before .before .before .before .before .before .before in
-    following-valid _ _ (start .pre .0) _ (start .pre .2) _ (start .pre .1) refl refl (widened .wide2 .ensures)
+    let tried = widened .before .before .before .before .before .before .before .pre in
+    following-valid (tried .usable) (tried .shaped) (tried .listed) refl refl (widened .wide2 .ensures)
     (c .meets .ensures)
 
 pub follows-spec : {M : Type 1} → statement M

@@ -19,7 +19,8 @@ Inv-loop header combinations index rows from shifted count number₀ number =
     (length (combinationsIn header combinations)) from number
 
 abbrev μ-loop : tie.MeasureT-loop
-μ-loop header combinations index rows from shifted count number₀ number = length combinations / combinationSize - number
+μ-loop header combinations index rows from shifted count number₀ number =
+    length combinations / combinationSize - number
 
 abbrev entry : tie.At-loop Inv-loop μ-loop → tie.Start Inv-loop μ-loop
 entry c = c .before .before .before .before
@@ -29,39 +30,47 @@ next-marked-requires c κs =
     let start = c .before .before in
     let a = start .args in
     let few = combinations-length (a .header) (a .combinations .now) in
-    (admitting-near (start .pre .4), omega (arith, few, start .pre .2), omega (arith, few, start .pre .0 .few))
+    record {
+      near = admitting-near (start .pre .admitting);
+      within = omega (arith, few, start .pre .within);
+      few = omega (arith, few, start .pre .seeking .usable .few);
+    }
 
 loop-holds : tie.Need-loop-holds Inv-loop μ-loop
 loop-holds c =
     let start = c .before .before .before in
     let a = start .args in
-    marked-none (start .pre .4) (sym (combinations-length (a .header) (a .combinations .now))) (c .next-marked .ensures)
+    marked-none (start .pre .admitting) (sym (combinations-length (a .header) (a .combinations .now)))
+    (c .next-marked .ensures)
 
 follows-requires : tie.Need-follows-requires Inv-loop μ-loop
 follows-requires c κs =
-    let start = entry (c .before) in
-    (start .pre .0, number-in _ _ (c .loop-test .taken), start .pre .3)
+    let s = entry (c .before) .pre .seeking in
+    record { usable = s .usable; shaped = s .shaped; listed = number-in _ _ (c .loop-test .taken) }
 
 returns : tie.Need-returns Inv-loop μ-loop
-returns c = none-found (c .before .before .before .loop .inv) (sym (c .before .follows .ensures) ∙ c .if1 .taken)
+returns c = none-found (c .before .before .before .loop .inv)
+    (sym (c .before .follows .ensures) ∙ c .if1 .taken)
 
 after-requires : tie.Need-after-requires Inv-loop μ-loop
 after-requires c κs =
     let turn = c .before .before in
-    let start = entry (turn .before) in (
-      start .pre .0,
-      start .pre .1,
-      number-in _ _ (turn .loop-test .taken),
-      start .pre .3,
-      sym (c .before .follows .ensures) ∙ c .if1 .left,
-    )
+    record {
+      seeking = entry (turn .before) .pre .seeking;
+      listed = number-in _ _ (turn .loop-test .taken);
+      fails = sym (c .before .follows .ensures) ∙ c .if1 .left;
+    }
 
 next-marked-requires-2 : tie.Need-next-marked-requires-2 Inv-loop μ-loop
 next-marked-requires-2 c κs =
     let start = entry (c .before .before .before .before) in
     let a = start .args in
     let few = combinations-length (a .header) (a .combinations .now) in
-    (admitting-near (start .pre .4), omega (arith, few, c .after .ensures .1 .within), omega (arith, few, start .pre .0 .few))
+    record {
+      near = admitting-near (start .pre .admitting);
+      within = omega (arith, few, c .after .ensures .1 .within);
+      few = omega (arith, few, start .pre .seeking .usable .few);
+    }
 
 loop-less : tie.Need-loop-less Inv-loop μ-loop
 loop-less c =
@@ -74,7 +83,8 @@ loop-again c =
     let start = entry (turn .before) in
     let a = start .args in
     none-more (none-more (turn .before .loop .inv) (c .before .after .ensures .1))
-    (marked-none (start .pre .4) (sym (combinations-length (a .header) (a .combinations .now))) (c .next-marked2 .ensures))
+    (marked-none (start .pre .admitting) (sym (combinations-length (a .header) (a .combinations .now)))
+    (c .next-marked2 .ensures))
 
 returns-2 : tie.Need-returns-2 Inv-loop μ-loop
 returns-2 c = none-all (c .before .loop .inv) (number-out _ _ (c .loop-test .left))

@@ -1,13 +1,11 @@
 -- `indexing::mark` meets its contract: the word keeps its places and has one more.
-use native.Mathlib.Omega.{arith}
-use Rattle.network.specs.laws.Indexing.{marking-none, set-marking, set-marked}
+use Rattle.network.specs.laws.Filling.{place-beyond, place-set}
 use borrow.Author.Needs.{needs}
 use Rattle.network.proofs.indexing.mark.Statement.{statement}
 use Rattle.network.proofs.indexing.mark.Tie as tie
 
 returns : tie.Need-returns
-returns c =
-    (marking-none _, λ h. absurd (omega (arith, h, c .if1 .taken)))
+returns c = place-beyond _ _ _ (c .if1 .taken)
 
 mul-index : tie.Need-mul-index
 mul-index c = search needs
@@ -30,13 +28,10 @@ same-length c = search needs
 returns-2 : tie.Need-returns-2
 returns-2 c =
     let start = c .before .before .before .before in
-    let there = c .before .before .if1 .left in
-    let a = start .args in (
-      set-marking (a .index .now) (a .at) (a .place) (c .alone .result) (start .pre .0) there (start .pre .1)
-          (start .pre .2) (c .alone .ensures),
-      λ h. set-marked (a .index .now) (a .at) (a .place) (c .alone .result) (start .pre .0) there (start .pre .1)
-          (start .pre .2) (c .alone .ensures),
-    )
+    let a = start .args in
+    place-set (a .index .now) (a .at) (a .place) (c .alone .result) (start .pre)
+    (c .before .before .if1 .left)
+    (c .alone .ensures)
 
 pub mark-spec : {M : Type 1} → statement M
 mark-spec =

@@ -1,8 +1,9 @@
 -- `indexing::mark_column` meets its contract. The loop's invariant: the phones below `phone` are marked.
-use Prim.Native.Nat.{ℕ, _+_, _-_, _/_}
-use mathlib.Core.Path.{refl, ap}
+use Prim.Native.Nat.{_-_}
+use mathlib.Core.Path.{refl}
 use native.Mathlib.Omega.{arith}
-use Rattle.network.specs.laws.Indexing.{PhonesMarked, phones-first, phones-next, phones-last}
+use Rattle.network.specs.Filling.{PhonesMarked}
+use Rattle.network.specs.laws.Filling.{phones-first, phones-next, phones-last}
 use borrow.Author.Needs.{needs}
 use Rattle.network.proofs.indexing.mark_column.Statement.{statement}
 use Rattle.network.proofs.indexing.mark_column.Tie as tie
@@ -25,11 +26,12 @@ loop-holds c = phones-first _ (c .next-member .ensures)
 
 row-at-requires : tie.Need-row-at-requires Inv-loop μ-loop
 row-at-requires c κs =
-    let pre = entry (c .before) .pre in
-    (pre .0, pre .1, pre .2, omega (arith, c .loop-test .taken))
+    let (near, few) = entry (c .before) .pre in (near, omega (arith, c .loop-test .taken))
 
 add-at : tie.Need-add-at Inv-loop μ-loop
-add-at c = record { fits = omega (arith, c .row-at .ensures .1, entry (c .before .before) .pre .3) }
+add-at c =
+    let (near, few) = entry (c .before .before) .pre in
+    record { fits = omega (arith, c .row-at .ensures .1, few) }
 
 cast-mark : tie.Need-cast-mark Inv-loop μ-loop
 cast-mark c = search needs
@@ -38,13 +40,15 @@ add-mark : tie.Need-add-mark Inv-loop μ-loop
 add-mark c = search needs
 
 mark-requires : tie.Need-mark-requires Inv-loop μ-loop
-mark-requires c κs = (omega (arith, c .before .row-at .ensures .0), omega arith, omega arith)
+mark-requires c κs =
+    record { later = omega (arith, c .before .row-at .ensures .0); some = omega arith; few = omega arith }
 
 add-next-member : tie.Need-add-next-member Inv-loop μ-loop
 add-next-member c = search needs
 
 next-member-requires-2 : tie.Need-next-member-requires-2 Inv-loop μ-loop
-next-member-requires-2 c κs = (omega arith, omega (arith, c .before .before .before .before .before .loop-test .taken))
+next-member-requires-2 c κs =
+    (omega arith, omega (arith, c .before .before .before .before .before .loop-test .taken))
 
 loop-less : tie.Need-loop-less Inv-loop μ-loop
 loop-less c =
@@ -55,14 +59,14 @@ loop-again : tie.Need-loop-again Inv-loop μ-loop
 loop-again c =
     let marked = c .before .before .before in
     let row = marked .before .before in
-    phones-next (row .before .before .loop .inv) (ap (λ (k : ℕ). k + entry (row .before .before) .args .number / 64) (row .row-at .ensures .0)) refl
-    (marked .mark .ensures .0) (marked .mark .ensures .1) (c .next-member2 .ensures)
+    phones-next (row .before .before .loop .inv) (row .row-at .ensures .0) refl (marked .mark .ensures)
+    (c .next-member2 .ensures)
 
 same-length : tie.Need-same-length Inv-loop μ-loop
 same-length c = c .before .loop .inv .marking .sized
 
 returns : tie.Need-returns Inv-loop μ-loop
-returns c = (c .before .loop .inv .marking, phones-last (c .before .loop .inv) (c .loop-test .left))
+returns c = phones-last (c .before .loop .inv) (c .loop-test .left)
 
 pub mark-column-spec : {M : Type 1} → statement M
 mark-column-spec =

@@ -1,7 +1,14 @@
 -- `indexing::mark_columns` meets its contract. The loop's invariant: the columns before `column` are marked.
-use Prim.Native.Nat.{_-_}
+use mathlib.Core.Path.{sym, ap, _∙_}
+use mathlib.Core.List.{List}
+use Prim.Native.Nat.{ℕ, _+_, _-_}
 use native.Mathlib.Omega.{arith}
-use Rattle.network.specs.laws.Indexing.{ColumnsMarked, columns-none, columns-more}
+use lib.Seq.{getD-drop}
+use Rattle.definitions.specs.Lists.{_!_}
+use Rattle.definitions.specs.Combinations.{combinationSize}
+use Rattle.network.specs.RecordWords.{recordOf}
+use Rattle.network.specs.Filling.{ColumnsMarked}
+use Rattle.network.specs.laws.Filling.{columns-none, columns-more, columns-all}
 use borrow.Author.Needs.{needs}
 use Rattle.network.proofs.indexing.mark_columns.Statement.{statement}
 use Rattle.network.proofs.indexing.mark_columns.Tie as tie
@@ -13,14 +20,14 @@ Inv-loop header combinations blocks number index₀ from column₀ index column 
 abbrev μ-loop : tie.MeasureT-loop
 μ-loop header combinations blocks number index₀ from column₀ index column = header .half - column
 
+abbrev cut : tie.At-loop Inv-loop μ-loop → tie.After-record-at Inv-loop μ-loop
+cut c = c .before
+
 abbrev entry : tie.At-loop Inv-loop μ-loop → tie.Start Inv-loop μ-loop
-entry c = c .before .before .before
+entry c = cut c .before .before .before
 
-mul-from : tie.Need-mul-from Inv-loop μ-loop
-mul-from c = search needs
-
-add-from : tie.Need-add-from Inv-loop μ-loop
-add-from c = search needs
+record-at-requires : tie.Need-record-at-requires Inv-loop μ-loop
+record-at-requires c κs = c .before .before .pre .within
 
 loop-holds : tie.Need-loop-holds Inv-loop μ-loop
 loop-holds c = columns-none _
@@ -30,8 +37,10 @@ wide-requires c κs = search needs
 
 add-mark-column : tie.Need-add-mark-column Inv-loop μ-loop
 add-mark-column c =
-    let start = entry (c .before .before) in
-    record { fits = omega (arith, c .if1 .taken, c .before .wide .ensures, start .pre .1, start .pre .3) }
+    let pre = entry (c .before .before) .pre in
+    record {
+      fits = omega (arith, c .if1 .taken, c .before .wide .ensures, pre .narrow .half-few, pre .number-few);
+    }
 
 mul-mark-column : tie.Need-mul-mark-column Inv-loop μ-loop
 mul-mark-column c = search needs
@@ -39,17 +48,19 @@ mul-mark-column c = search needs
 shared-slice-read-mark-column : tie.Need-shared-slice-read-mark-column Inv-loop μ-loop
 shared-slice-read-mark-column c =
     let turn = c .before in
-    let start = entry (turn .before .before) in
-    omega (arith, turn .if1 .taken, turn .before .wide .ensures, start .pre .1, start .pre .4)
+    let pre = entry (turn .before .before) .pre in
+    omega (arith, turn .if1 .taken, turn .before .wide .ensures, pre .narrow .half-few, pre .within)
 
 mark-column-requires : tie.Need-mark-column-requires Inv-loop μ-loop
 mark-column-requires c κs =
     let turn = c .before .before in
-    let start = entry (turn .before .before) in (
-      start .pre .0,
-      start .pre .2,
-      omega (arith, turn .if1 .taken, turn .before .wide .ensures, start .pre .1),
-      start .pre .3,
+    let pre = entry (turn .before .before) .pre in (
+      record {
+        phones-few = pre .narrow .phones-few;
+        blocks-few = pre .blocks-few;
+        left = omega (arith, turn .if1 .taken, turn .before .wide .ensures, pre .narrow .half-few);
+      },
+      pre .number-few,
     )
 
 add-column : tie.Need-add-column Inv-loop μ-loop
@@ -63,16 +74,20 @@ loop-less c =
 loop-again : tie.Need-loop-again Inv-loop μ-loop
 loop-again c =
     let marked = c .before .before in
-    columns-more (marked .before .before .before .before .before .loop .inv) (marked .mark-column .ensures .0)
-    (marked .mark-column .ensures .1)
+    let turn = marked .before .before .before .before .before in
+    let a = entry turn .args in
+    let own = recordOf combinationSize (a .combinations .now) (a .number) in
+    columns-more (turn .loop .inv)
+    (ap (λ (l : List ℕ). l ! (4 + turn .loop .column)) (cut turn .record-at .ensures .is)
+    ∙ sym (getD-drop 4 own (turn .loop .column) 0))
+    (marked .mark-column .ensures)
 
 same-length : tie.Need-same-length Inv-loop μ-loop
 same-length c = c .before .before .loop .inv .marking .sized
 
 returns : tie.Need-returns Inv-loop μ-loop
 returns c =
-    let inv = c .before .before .loop .inv in
-    (inv .marking, λ column h. inv .marked column (omega (arith, h, c .if1 .left, c .before .wide .ensures)))
+    columns-all (omega (arith, c .if1 .left, c .before .wide .ensures)) (c .before .before .loop .inv)
 
 pub mark-columns-spec : {M : Type 1} → statement M
 mark-columns-spec =
@@ -80,8 +95,7 @@ mark-columns-spec =
     (tie.spec
     Inv-loop
     μ-loop
-    mul-from
-    add-from
+    record-at-requires
     loop-holds
     wide-requires
     add-mark-column

@@ -2,13 +2,16 @@
 use Prim.Native.Nat.{_-_, _/_, _^_}
 use native.Mathlib.Omega.{arith}
 use lib.Count.{trailing-le}
-use Rattle.network.specs.laws.Indexing.{next-past, next-none, next-found}
+use Rattle.network.specs.laws.NextMember.{next-past, next-none, next-found}
 use borrow.Author.Needs.{needs}
 use Rattle.network.proofs.indexing.next_member.Statement.{statement}
 use Rattle.network.proofs.indexing.next_member.Tie as tie
 
 returns : tie.Need-returns
-returns c = next-past (c .before .args .set) (c .before .args .from) (c .before .pre .0) (c .if1 .taken) (c .before .pre .1)
+returns c =
+    let start = c .before in
+    let (some, within) = start .pre in
+    next-past (start .args .set) (start .args .from) some (c .if1 .taken) within
 
 sub-rest : tie.Need-sub-rest
 sub-rest c = search needs
@@ -22,17 +25,20 @@ shr-rest c = search needs
 add-next : tie.Need-add-next
 add-next c =
     let a = c .before .args in
-    record { fits = omega (arith, c .before .pre .1, trailing-le 64 (a .set / 2 ^ (a .from - 1))) }
+    let (some, within) = c .before .pre in
+    record { fits = omega (arith, within, trailing-le 64 (a .set / 2 ^ (a .from - 1))) }
 
 returns-2 : tie.Need-returns-2
 returns-2 c =
     let start = c .before .before in
-    next-none (start .args .set) (start .args .from) (start .pre .0) (c .before .if1 .left) (c .if2 .taken)
+    let (some, within) = start .pre in
+    next-none (start .args .set) (start .args .from) some (c .before .if1 .left) (c .if2 .taken)
 
 returns-3 : tie.Need-returns-3
 returns-3 c =
     let start = c .before .before in
-    next-found (start .args .set) (start .args .from) (start .pre .0) (c .if2 .left)
+    let (some, within) = start .pre in
+    next-found (start .args .set) (start .args .from) some (c .if2 .left)
 
 pub next-member-spec : {M : Type 1} → statement M
 next-member-spec =

@@ -2,7 +2,8 @@
 use Prim.Native.Nat.{_-_}
 use native.Mathlib.Omega.{arith}
 use borrow.Author.Needs.{needs}
-use Rattle.network.specs.laws.Indexing.{Noted, noted-none, noted-more}
+use Rattle.network.specs.Filling.{Noted}
+use Rattle.network.specs.laws.Filling.{noted-none, noted-more, noted-all}
 use Rattle.network.proofs.indexing.note_ends.Statement.{statement}
 use Rattle.network.proofs.indexing.note_ends.Tie as tie
 
@@ -33,7 +34,8 @@ mul-index c = search needs
 slice-write-index : tie.Need-slice-write-index Inv-loop μ-loop
 slice-write-index c =
     let turn = c .before .before in
-    omega (arith, turn .before .loop .inv .sized, entry (turn .before) .pre .1, turn .loop-test .taken)
+    let (sized, room) = entry (turn .before) .pre in
+    omega (arith, turn .before .loop .inv .sized, room, turn .loop-test .taken)
 
 add-i : tie.Need-add-i Inv-loop μ-loop
 add-i c = search needs
@@ -44,15 +46,14 @@ loop-less c = search needs
 loop-again : tie.Need-loop-again Inv-loop μ-loop
 loop-again c =
     let turn = c .before .before in
-    noted-more (turn .before .loop .inv) (turn .loop-test .taken) (entry (turn .before) .pre .1) (c .wide .ensures)
+    let (sized, room) = entry (turn .before) .pre in
+    noted-more (turn .before .loop .inv) (turn .loop-test .taken) room (c .wide .ensures)
 
 same-length : tie.Need-same-length Inv-loop μ-loop
 same-length c = c .before .loop .inv .sized
 
 returns : tie.Need-returns Inv-loop μ-loop
-returns c =
-    let inv = c .before .loop .inv in
-    (inv .sized, λ i h. inv .noted i (omega (arith, h, c .loop-test .left)))
+returns c = noted-all (c .before .loop .inv) (c .loop-test .left)
 
 pub note-ends-spec : {M : Type 1} → statement M
 note-ends-spec =

@@ -1,16 +1,14 @@
 -- `indexing::row_at` meets its contract: no product is too large.
 use Prim.Native.Nat.{_+_, _*_, _≤_}
 use native.Mathlib.Omega.{arith}
-use Rattle.network.specs.laws.Indexing.{row-near}
+use Rattle.network.specs.laws.Filling.{row-near}
 use borrow.Author.Needs.{needs}
 use Rattle.network.proofs.indexing.row_at.Statement.{statement}
 use Rattle.network.proofs.indexing.row_at.Tie as tie
 
 near : (c : tie.Start) → (c .args .column * c .args .header .phones ≤ 128)
     × ((c .args .column * c .args .header .phones + c .args .phone) * c .args .blocks ≤ 197632)
-near c =
-    row-near (c .args .header .phones) (c .args .blocks) (c .args .column) (c .args .phone) (c .pre .0) (c .pre .1)
-    (c .pre .2) (c .pre .3)
+near c = let (row, few) = c .pre in row-near row (c .args .phone) few
 
 wide-requires : tie.Need-wide-requires
 wide-requires c κs = search needs
@@ -26,7 +24,8 @@ wide-requires-2 c κs = search needs
 add-result : tie.Need-add-result
 add-result c =
     let start = c .before .before in
-    record { fits = rw (c .before .wide .ensures, c .wide2 .ensures) (omega (arith, near start .0, start .pre .3)) }
+    let (row, few) = start .pre in
+    record { fits = rw (c .before .wide .ensures, c .wide2 .ensures) (omega (arith, near start .0, few)) }
 
 mul-result-2 : tie.Need-mul-result-2
 mul-result-2 c =

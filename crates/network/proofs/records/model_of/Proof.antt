@@ -1,43 +1,65 @@
--- `records::model_of` meets its contract: the value of the leaf's record.
-use mathlib.Core.Path.{ap}
-use borrow.Author.Needs.{needs}
+-- `records::model_of` meets its contract: the value of the leaf that the record names.
+use mathlib.Core.Path.{_≡_, sym, ap, _∙_}
+use mathlib.Core.List.{List}
+use Prim.Native.Nat.{ℕ, _+_, _*_}
+use native.Mathlib.Omega.{arith}
+use lib.ListN.{drop}
+use lib.Seq.{getD-drop}
 use Rattle.definitions.specs.declared.Node.{Node}
+use Rattle.definitions.specs.Lists.{_!_}
+use Rattle.definitions.specs.BookReading.{nodeSize}
+use Rattle.definitions.specs.Combinations.{combinationSize}
+use Rattle.definitions.specs.Tables.{nodeOf}
+use Rattle.network.specs.RecordWords.{recordOf, leafWord}
+use borrow.Author.Needs.{needs}
 use Rattle.network.proofs.records.model_of.Statement.{statement}
 use Rattle.network.proofs.records.model_of.Tie as tie
 
-mul-leaf : tie.Need-mul-leaf
-mul-leaf c = search needs
+record-at-requires : tie.Need-record-at-requires
+record-at-requires c κs = c .before .before .pre .within
 
-add-leaf : tie.Need-add-leaf
-add-leaf c = search needs
+add-node-at : tie.Need-add-node-at
+add-node-at c = search needs
 
-add-leaf-2 : tie.Need-add-leaf-2
-add-leaf-2 c = search needs
+mul-node-at : tie.Need-mul-node-at
+mul-node-at c = search needs
 
-mul-leaf-2 : tie.Need-mul-leaf-2
-mul-leaf-2 c = search needs
+-- the word that is read
+abbrev entry : tie.After-record-at → tie.Start
+entry c = c .before .before .before
 
-shared-slice-read-leaf : tie.Need-shared-slice-read-leaf
-shared-slice-read-leaf c = search needs
+word-is : (c : tie.After-record-at)
+    → c .record-at .result .now ! (1 + entry c .args .state)
+    ≡ leafWord (entry c .args .combinations .now) (entry c .args .number) (entry c .args .state)
+word-is c =
+    let a = entry c .args in
+    ap (λ (l : List ℕ). l ! (1 + a .state)) (c .record-at .ensures .is)
+    ∙ sym (getD-drop 1 (recordOf combinationSize (a .combinations .now) (a .number)) (a .state) 0)
+
+shared-slice-read-node-at : tie.Need-shared-slice-read-node-at
+shared-slice-read-node-at c =
+    omega (arith, c .before .record-at .ensures .sized, entry (c .before) .pre .states)
 
 cast-node-at : tie.Need-cast-node-at
-cast-node-at c = search needs
+cast-node-at c = record { fits = omega (arith, word-is (c .before), entry (c .before) .pre .few) }
 
 node-at-requires : tie.Need-node-at-requires
 node-at-requires c κs = search needs
 
 returns : tie.Need-returns
-returns c = ap (λ (node : Node). node .value) (c .node-at .ensures)
+returns c =
+    let read = c .before .before in
+    ap (λ (node : Node). node .value) (c .node-at .ensures)
+    ∙ ap (λ (k : ℕ). nodeOf (drop (nodeSize * k) (entry read .args .nodes .now)) .value) (word-is read)
 
 pub model-of-spec : {M : Type 1} → statement M
 model-of-spec =
     tie.close
     (tie.spec
-    mul-leaf
-    add-leaf
-    add-leaf-2
-    mul-leaf-2
-    shared-slice-read-leaf
+    record-at-requires
+    add-node-at
+    mul-node-at
+    shared-slice-read-node-at
     cast-node-at
     node-at-requires
     returns)

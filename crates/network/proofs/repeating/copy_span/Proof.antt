@@ -13,9 +13,7 @@ abbrev μ-loop : tie.MeasureT-loop
 μ-loop arcs₀ count first many from i₀ arcs i = many - i
 
 loop-holds : tie.Need-loop-holds Inv-loop μ-loop
-loop-holds c =
-    let start = c .before in
-    copied-none _ _ _ _ _ (start .pre .0) (start .pre .1) (start .pre .2)
+loop-holds c = copied-none (c .before .pre) _
 
 add-copy-arc : tie.Need-add-copy-arc Inv-loop μ-loop
 add-copy-arc c = search needs
@@ -26,10 +24,10 @@ add-copy-arc-2 c = search needs
 copy-arc-requires : tie.Need-copy-arc-requires Inv-loop μ-loop
 copy-arc-requires c κs =
     let turn = c .before .before in
-    let start = turn .before .before in
-    let sized = copied-sized _ _ _ _ _ (start .pre .0) (start .pre .1) (start .pre .2) (turn .loop .inv) in
+    let s = turn .before .before .pre in
+    let sized = copied-sized s _ (turn .loop .inv) in
     let test = c .before .loop-test .taken in
-    (omega (arith, sized, test, start .pre .1, start .pre .2), omega (arith, sized, test, start .pre .2))
+    (omega (arith, sized, test, s .within, s .room), omega (arith, sized, test, s .room))
 
 add-i : tie.Need-add-i Inv-loop μ-loop
 add-i c = search needs
@@ -41,19 +39,14 @@ loop-again : tie.Need-loop-again Inv-loop μ-loop
 loop-again c =
     let copy = c .before .before in
     let turn = copy .before .before .before in
-    let start = turn .before .before in
-    copied-more _ _ _ _ _ (start .pre .0) (start .pre .1) (start .pre .2) (turn .loop .inv)
-    (copy .before .before .loop-test .taken) (copy .copy-arc .ensures)
+    copied-more (turn .before .before .pre) _ (turn .loop .inv) (copy .before .before .loop-test .taken)
+    (copy .copy-arc .ensures)
 
 same-length : tie.Need-same-length Inv-loop μ-loop
-same-length c =
-    let start = c .before .before .before in
-    copied-sized _ _ _ _ _ (start .pre .0) (start .pre .1) (start .pre .2) (c .before .loop .inv)
+same-length c = copied-sized (c .before .before .before .pre) _ (c .before .loop .inv)
 
 returns : tie.Need-returns Inv-loop μ-loop
-returns c =
-    let start = c .before .before .before in
-    copied-all _ _ _ _ _ (start .pre .0) (start .pre .1) (start .pre .2) (c .before .loop .inv) (c .loop-test .left)
+returns c = copied-all (c .before .before .before .pre) _ (c .before .loop .inv) (c .loop-test .left)
 
 pub copy-span-spec : {M : Type 1} → statement M
 copy-span-spec =

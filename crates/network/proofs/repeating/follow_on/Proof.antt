@@ -1,19 +1,21 @@
 -- `repeating::follow_on` meets its contract: the arcs copied, or entered and noted.
-use Prim.Native.Nat.{_+_, _*_, _≤_}
+use Prim.Native.Nat.{_≤_}
 use native.Mathlib.Omega.{arith}
-use lib.ListN.{length}
 use borrow.Author.Needs.{needs}
-use Rattle.definitions.specs.laws.Known.{header-ranges}
-use Rattle.network.specs.Spans.{spanSize}
-use Rattle.network.specs.laws.Repeating.{onward-place, onward-arcs, spans-kept}
-use Rattle.network.specs.laws.Repeating.{span-order, span-within, repeated-on}
-use Rattle.network.specs.laws.Repeating.{followed-on, followed-few, followed-spans, followed-none}
+use Rattle.network.specs.Spans.{SlotWithin}
+use Rattle.network.specs.Underway.{BetweenTurns}
+use Rattle.network.specs.laws.Followers.{narrow}
+use Rattle.network.specs.laws.Repeating.{onward-place, onward-arcs, span-order, span-within}
+use Rattle.network.specs.laws.Repeating.{repeated-on, followed-few, followed-noted, followed-refused}
 use Rattle.network.proofs.repeating.follow_on.Statement.{statement}
 use Rattle.network.proofs.repeating.follow_on.Tie as tie
 
 -- where the function begins, and where the slot is known
+abbrev began : tie.After-sizes → tie.Start
+began c = c .before .before .before .before .before .before .before .before .before
+
 abbrev entry : tie.After-slot-for → tie.Start
-entry c = c .before .before .before .before .before .before .before .before .before .before
+entry c = began (c .before .before .before)
 
 abbrev slotted : tie.After-repeats → tie.After-slot-for
 slotted c = c .before .before .before .before
@@ -28,20 +30,26 @@ entering c = c .before .before .before .before
 abbrev entered : tie.After-slice-known10 → tie.After-follow
 entered c = c .before .before .before .before .before .before
 
-thin : (c : tie.Start) → c .args .header .half ≤ 3
-thin c = header-ranges (c .args .header) (c .pre .0 .header-known) .half-range .high
+between : (c : tie.Start)
+    → BetweenTurns (c .args .header) (c .args .nodes .now) (c .args .combinations .now) (c .args .index .now)
+    (c .args .metastates .now) (c .args .arcs .now) (c .args .chains .now) (c .args .spans .now)
+    (c .args .expanded .sizes)
+between c = c .pre .expandable .between
 
-slot-there : (c : tie.After-slot-for)
-    → spanSize * c .slot-for .result + spanSize ≤ length (entry c .args .spans .now)
+thin : (c : tie.Start) → c .args .header .half ≤ 3
+thin c = narrow (between c .searchable .connectable .usable)
+
+slot-there : (c : tie.After-slot-for) → SlotWithin (entry c .args .spans .now) (c .slot-for .result)
 slot-there c = c .slot-for .ensures .0
 
 slot-for-requires : tie.Need-slot-for-requires
 slot-for-requires c κs =
-    let start = c .before .before .before .before .before .before .before .before .before in (thin start, start .pre .4)
+    let start = began (c .before .before) in (thin start, between start .slots)
 
 last-state-requires : tie.Need-last-state-requires
 last-state-requires c κs =
-    let start = entry c in (start .pre .0 .header-known, onward-place (start .pre .0) (start .pre .1) (start .pre .5))
+    let start = entry c in
+    (between start .searchable .connectable .usable .header-known, onward-place (start .pre))
 
 repeats-requires : tie.Need-repeats-requires
 repeats-requires c κs =
@@ -81,18 +89,20 @@ repeat-requires : tie.Need-repeat-requires
 repeat-requires c κs =
     let test = copying c in
     let slot = slotted (test .before) in
-    let p = entry slot .pre in
-    let (other, is, alike) = test .before .repeats .ensures (test .if1 .taken) in (
-      p .5 .holds .arc-words,
-      omega (
-        arith,
-        span-order (p .0) (p .1) (p .5) _ (slot-there slot) is alike,
-        c .before .before .wide .ensures,
-        c .wide2 .ensures,
-      ),
-      omega (arith, span-within (p .0) (p .1) (p .5) _ (slot-there slot) is alike, c .wide2 .ensures),
-      onward-arcs (p .0) (p .1) (p .5),
-    )
+    let s = entry slot .pre in
+    let (other, is, alike) = test .before .repeats .ensures (test .if1 .taken) in
+    record {
+      held = s .expandable .between .underway .kept .arc-words;
+      order =
+          omega (
+            arith,
+            span-order s _ (slot-there slot) is alike,
+            c .before .before .wide .ensures,
+            c .wide2 .ensures,
+          );
+      within = omega (arith, span-within s _ (slot-there slot) is alike, c .wide2 .ensures);
+      fit = onward-arcs s;
+    }
 
 same-length : tie.Need-same-length
 same-length c = search needs
@@ -109,17 +119,19 @@ returns c =
     let second = copy .before in
     let test = copying second in
     let slot = slotted (test .before) in
-    let p = entry slot .pre in
-    let (other, is, alike) = test .before .repeats .ensures (test .if1 .taken) in (
-      repeated-on (p .0) (p .1) (p .5) _ (slot-there slot) is alike (second .before .before .wide .ensures)
-          (second .wide2 .ensures) (test .before .before .before .before .last-state .ensures)
-          (copy .repeat .ensures),
-      spans-kept (p .0) (p .1) (p .5),
-    )
+    let (other, is, alike) = test .before .repeats .ensures (test .if1 .taken) in
+    repeated-on (entry slot .pre) _ (slot-there slot) is alike (second .before .before .wide .ensures)
+    (second .wide2 .ensures) (test .before .before .before .before .last-state .ensures)
+    (copy .repeat .ensures)
 
 follow-requires : tie.Need-follow-requires
 follow-requires c κs =
-    let p = entry (slotted (c .before .before .before .before)) .pre in (p .0, p .1, p .2, p .3, p .5 .holds)
+    let start = entry (slotted (c .before .before .before .before)) in
+    record {
+      searchable = between start .searchable;
+      underway = between start .underway;
+      shaped = start .pre .shaped;
+    }
 
 enum-known-step : tie.Need-enum-known-step
 enum-known-step c = search needs
@@ -130,14 +142,15 @@ note-span-requires c κs =
     let call = entered (arm .before .before) in
     let slot = slotted (entering call .before) in
     let start = entry slot in
-    let p = start .pre in
-    let last = entering call .before .before .before .before in (
-      slot-there slot,
-      onward-place (p .0) (p .1) (p .5),
-      omega (arith, onward-arcs (p .0) (p .1) (p .5)),
-      followed-few (p .0) (p .1) (p .5) (last .last-state .ensures) (call .follow .ensures) (thin start)
-          (arm .step .given .1),
-    )
+    let last = entering call .before .before .before .before in
+    record {
+      within = slot-there slot;
+      place-few = onward-place (start .pre);
+      first-few = omega (arith, onward-arcs (start .pre));
+      end-few =
+          followed-few (start .pre) (last .last-state .ensures) (call .follow .ensures) (thin start)
+          (arm .step .given .1);
+    }
 
 same-length-4 : tie.Need-same-length-4
 same-length-4 c = search needs
@@ -157,13 +170,9 @@ returns-2 c =
     let arm = noted .before .before .before in
     let call = entered (arm .before .before) in
     let slot = slotted (entering call .before) in
-    let p = entry slot .pre in
     let at = entering call .before .before .before .before .last-state .ensures in
-    let is = arm .step .given .1 in (
-      followed-on (p .0) (p .1) (p .5) at (call .follow .ensures) is,
-      followed-spans (p .0) (p .1) (p .5) at (call .follow .ensures) _ (slot-there slot) is
-          (noted .note-span .ensures),
-    )
+    followed-noted (entry slot .pre) at (call .follow .ensures) _ (slot-there slot) (arm .step .given .1)
+    (noted .note-span .ensures)
 
 enum-known-step-2 : tie.Need-enum-known-step-2
 enum-known-step-2 c = search needs
@@ -184,12 +193,9 @@ returns-3 : tie.Need-returns-3
 returns-3 c =
     let arm = c .before in
     let call = entered (arm .before .before) in
-    let p = entry (slotted (entering call .before)) .pre in
     let at = entering call .before .before .before .before .last-state .ensures in
-    let is = arm .step2 .given .1 in (
-      followed-on (p .0) (p .1) (p .5) at (call .follow .ensures) is,
-      followed-none (p .0) (p .1) (p .5) at (call .follow .ensures) is,
-    )
+    followed-refused (entry (slotted (entering call .before)) .pre) at (call .follow .ensures)
+    (arm .step2 .given .1)
 
 pub follow-on-spec : {M : Type 1} → statement M
 follow-on-spec =

@@ -24,10 +24,12 @@ word-at-requires-3 c κs = search needs
 
 returns : tie.Need-returns
 returns c =
-    λ p a b first second third.
-    in-all p (c .before .before .before .before .word-at .result) (c .before .before .word-at2 .result) (c .word-at3 .result)
-    (c .before .before .before .before .word-at .ensures p a b first)
-    (c .before .before .word-at2 .ensures p a b second) (c .word-at3 .ensures p a b third)
+    let second = c .before .before in
+    let first = second .before .before in
+    λ p a b all.
+    in-all p (first .word-at .result) (second .word-at2 .result) (c .word-at3 .result)
+    (first .word-at .ensures p a b (all .first)) (second .word-at2 .ensures p a b (all .second))
+    (c .word-at3 .ensures p a b (all .third))
 
 pub marked-in-spec : {M : Type 1} → statement M
 marked-in-spec =

@@ -1,4 +1,5 @@
--- `rows::next_marked` meets its contract. The loop's invariant: none before `number` has its bits set in all rows.
+-- `rows::next_marked` meets its contract. The loop's invariant: none before `number` has its bits set in all
+-- rows.
 use Prim.Native.Nat.{_-_}
 use mathlib.Core.Path.{refl}
 use native.Mathlib.Omega.{arith}
@@ -18,7 +19,7 @@ abbrev entry : tie.At-loop Inv-loop μ-loop → tie.Start Inv-loop μ-loop
 entry c = c .before .before
 
 loop-holds : tie.Need-loop-holds Inv-loop μ-loop
-loop-holds c = marked-start (c .before .pre .1)
+loop-holds c = marked-start (c .before .pre .within)
 
 cast-place : tie.Need-cast-place Inv-loop μ-loop
 cast-place c = search needs
@@ -29,7 +30,7 @@ add-place c = search needs
 marked-in-requires : tie.Need-marked-in-requires Inv-loop μ-loop
 marked-in-requires c κs =
     let start = entry (c .before) in
-    (start .pre .0, omega (arith, c .loop-test .taken, start .pre .2))
+    (start .pre .near, omega (arith, c .loop-test .taken, start .pre .few))
 
 next-member-requires : tie.Need-next-member-requires Inv-loop μ-loop
 next-member-requires c κs = search needs
@@ -37,7 +38,7 @@ next-member-requires c κs = search needs
 mul-other : tie.Need-mul-other Inv-loop μ-loop
 mul-other c =
     let turn = c .before .before in
-    record { fits = omega (arith, turn .loop-test .taken, entry (turn .before) .pre .2) }
+    record { fits = omega (arith, turn .loop-test .taken, entry (turn .before) .pre .few) }
 
 wide-requires : tie.Need-wide-requires Inv-loop μ-loop
 wide-requires c κs = search needs
@@ -49,7 +50,7 @@ add-other c =
       fits = omega (
         arith,
         turn .loop-test .taken,
-        entry (turn .before) .pre .2,
+        entry (turn .before) .pre .few,
         c .wide .ensures,
         c .before .next-member .ensures .within,
       );
@@ -63,7 +64,8 @@ returns c =
     let wide = c .before in
     let member = wide .before in
     let turn = member .before .before in
-    marked-next (turn .before .loop .inv) refl refl (member .before .marked-in .ensures) (member .next-member .ensures) _
+    marked-next (turn .before .loop .inv) refl refl (member .before .marked-in .ensures)
+    (member .next-member .ensures) _
     (omega arith) (omega (arith, turn .loop-test .taken)) (omega (arith, c .if1 .taken, wide .wide .ensures))
 
 returns-2 : tie.Need-returns-2 Inv-loop μ-loop
@@ -71,8 +73,10 @@ returns-2 c =
     let wide = c .before .before in
     let member = wide .before in
     let turn = member .before .before in
-    marked-next (turn .before .loop .inv) refl refl (member .before .marked-in .ensures) (member .next-member .ensures) _
-    (omega (arith, c .before .if1 .left)) (omega (arith, wide .wide .ensures, member .next-member .ensures .after))
+    marked-next (turn .before .loop .inv) refl refl (member .before .marked-in .ensures)
+    (member .next-member .ensures) _
+    (omega (arith, c .before .if1 .left))
+    (omega (arith, wide .wide .ensures, member .next-member .ensures .after))
     (omega (arith, wide .wide .ensures))
 
 loop-less : tie.Need-loop-less Inv-loop μ-loop
@@ -87,8 +91,10 @@ loop-again c =
     let wide = c .before .before in
     let member = wide .before in
     let turn = member .before .before in
-    marked-next (turn .before .loop .inv) refl refl (member .before .marked-in .ensures) (member .next-member .ensures) _
-    (omega (arith, c .before .if1 .left)) (omega (arith, wide .wide .ensures, member .next-member .ensures .after))
+    marked-next (turn .before .loop .inv) refl refl (member .before .marked-in .ensures)
+    (member .next-member .ensures) _
+    (omega (arith, c .before .if1 .left))
+    (omega (arith, wide .wide .ensures, member .next-member .ensures .after))
     (omega (arith, wide .wide .ensures))
 
 returns-3 : tie.Need-returns-3 Inv-loop μ-loop

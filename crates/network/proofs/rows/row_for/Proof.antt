@@ -12,10 +12,7 @@ wide-requires c κs = search needs
 
 returns : tie.Need-returns
 returns c =
-    let start = c .before .before .before .before in
-    let a = start .args in
-    no-row (a .header) (a .combinations .now) (a .index .now) (start .pre .0) (start .pre .1) (a .t5 .columns)
-    (start .pre .2)
+    let (s, left) = c .before .before .before .before .pre in no-row s
 
 mul-set : tie.Need-mul-set
 mul-set c = search needs
@@ -31,10 +28,7 @@ alone-requires c κs = search needs
 
 returns-2 : tie.Need-returns-2
 returns-2 c =
-    let start = c .before .before .before .before .before .before .before .before in
-    let a = start .args in
-    no-row (a .header) (a .combinations .now) (a .index .now) (start .pre .0) (start .pre .1) (a .t5 .columns)
-    (start .pre .2)
+    let (s, left) = c .before .before .before .before .before .before .before .before .pre in no-row s
 
 blocks-in-requires : tie.Need-blocks-in-requires
 blocks-in-requires c κs = search needs
@@ -43,15 +37,19 @@ row-at-requires : tie.Need-row-at-requires
 row-at-requires c κs =
     let alone = c .before .before in
     let start = alone .before .before .before .before .before .before .before in
-    let a = start .args in (
-      header-ranges (a .header) (start .pre .0 .header-known) .phones-range .high,
-      omega (
-        arith,
-        c .blocks-in .ensures,
-        start .pre .0 .few,
-        combinations-length (a .header) (a .combinations .now),
-      ),
-      start .pre .3,
+    let a = start .args in
+    let (s, left) = start .pre in (
+      record {
+        phones-few = header-ranges (a .header) (s .usable .header-known) .phones-range .high;
+        blocks-few =
+            omega (
+              arith,
+              c .blocks-in .ensures,
+              s .usable .few,
+              combinations-length (a .header) (a .combinations .now),
+            );
+        left = left;
+      },
       alone .before .next-member .ensures .within,
     )
 
@@ -62,10 +60,9 @@ returns-3 c =
     let alone = test .before in
     let member = alone .before in
     let left = member .before .before in
-    let start = left .before .before .before .before in
-    let a = start .args in
-    row-admits (a .header) (a .combinations .now) (a .index .now) (start .pre .0) (start .pre .1) (a .t5 .columns)
-    (start .pre .2) (omega (arith, left .if1 .left, left .before .wide .ensures)) (member .next-member .ensures .after)
+    let (s, few) = left .before .before .before .before .pre in
+    row-admits s
+    (omega (arith, left .if1 .left, left .before .wide .ensures)) (member .next-member .ensures .after)
     (alone .alone .ensures) (test .if2 .left) (blocks .blocks-in .ensures) (c .row-at .ensures .0)
     (c .row-at .ensures .1)
 

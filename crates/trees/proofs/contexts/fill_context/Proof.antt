@@ -4,7 +4,7 @@ use mathlib.Core.Path.{_≡_, _∙_}
 use Prim.Native.Nat.{_-_}
 use lib.ListN.{length}
 use borrow.Author.Needs.{needs}
-use Rattle.definitions.specs.laws.Contexts.{contextAt, context-length}
+use Rattle.definitions.specs.laws.Contexts.{contextAt, silent-context-length}
 use Rattle.lines.specs.laws.Filling.{Filled, filled-start, filled-more, filled-end}
 use Rattle.trees.proofs.contexts.fill_context.Statement.{statement}
 use Rattle.trees.proofs.contexts.fill_context.Tie as tie
@@ -22,7 +22,7 @@ as-many : (c : tie.Start Inv-loop μ-loop)
     ≡ length (c .args .context .now)
 as-many c =
     let a = c .args in
-    context-length (a .half) (a .sequence .now) (a .place) (search needs) ∙ search needs
+    silent-context-length (a .half) (a .sequence .now) (a .place) (search needs) ∙ search needs
 
 loop-holds : tie.Need-loop-holds Inv-loop μ-loop
 loop-holds c = filled-start _ _
