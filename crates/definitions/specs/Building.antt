@@ -21,10 +21,10 @@ pub record Space : Type 0 where
   pub arcs : ℕ
 
 -- "Only whole records of lent space count"; "At most 65535 metastates and 999999 arcs."
-unfoldable pub roomIn : Space → Room
-roomIn space =
+unfoldable pub roomIn : (half : ℕ) → Space → Room
+roomIn half space =
     record {
-      table = min (space .metastates / metastateSize) 65535;
+      table = min (space .metastates / metastateSize half) 65535;
       arcs = min (space .arcs / arcSize) 999999;
     }
 
@@ -32,7 +32,7 @@ roomIn space =
 unfoldable pub build : Header → Tables → Space → (limit : ℕ) → Outcome Built
 build header tables space limit =
     andThen (combine header tables (space .combinations))
-    (λ found. connect (rulesOf (tablesBook header tables) found) (roomIn space) limit)
+    (λ found. connect (rulesOf (tablesBook header tables) found) (roomIn (header .half) space) limit)
 
 -- The answer's numbers.
 abbrev pub networkIn : Built → Network
@@ -53,8 +53,8 @@ pub record Buffers : Type 0 where
 unfoldable pub buffersOf : Book → Space → Network → Buffers
 buffersOf book space net =
     record {
-      combinations = padded (space .combinations) (concatMap combinationWords (combinations book));
-      metastates = padded (space .metastates) (concatMap metastateWords (net .table));
+      combinations = padded (space .combinations) (concatMap (combinationWords (book .half)) (combinations book));
+      metastates = padded (space .metastates) (concatMap (metastateWords (book .half)) (net .table));
       arcs = padded (space .arcs) (concatMap arcWords (net .arcs));
     }
 

@@ -9,7 +9,8 @@ use Rattle.definitions.specs.declared.Header.{Header}
 use Rattle.definitions.specs.declared.Fault.the-variants.{Foreign, Choices}
 use Rattle.definitions.specs.Faults.{Outcome, answered, refused, judge, _unless_}
 use Rattle.definitions.specs.Lists.{if_then_else_, _!_, concatMap, upFrom, cleared, padded}
-use Rattle.definitions.specs.Matrices.{Matrix, matrixWords, rootMatrix, yesSide, noSide, valid, meet}
+use Rattle.definitions.specs.Matrices.{Matrix, matrixSize, matrixRecord, rootMatrix, yesSide, noSide}
+use Rattle.definitions.specs.Matrices.{valid, meet}
 use Rattle.definitions.specs.BookLines.{question, leaf, Asked}
 use Rattle.definitions.specs.Tables.{Book, rootOf, Tables, tablesBook}
 use Rattle.definitions.specs.ForeignTables.{tablesKnown}
@@ -84,15 +85,15 @@ unfoldable pub combinations : Book → List Combination
 combinations book = concatMap (λ phone. combinationsOf book phone) (upFrom 1 (book .phones))
 
 -- "each held as eleven 64-bit words: phone, three leaf nodes (0 beyond k), matrix"
-abbrev pub combinationSize : ℕ
-combinationSize = 11
+abbrev pub combinationSize : (half : ℕ) → ℕ
+combinationSize half = 4 + matrixSize half
 
-unfoldable pub combinationWords : Combination → List ℕ
-combinationWords c = c .phone ∷ padded 3 (c .leaves) ++ matrixWords (c .carried)
+unfoldable pub combinationWords : (half : ℕ) → Combination → List ℕ
+combinationWords half c = c .phone ∷ padded 3 (c .leaves) ++ matrixRecord half (c .carried)
 
 -- "Only whole records of lent space count"; "more combinations than the lent space or 65535"
-unfoldable pub combinationRoom : (space : ℕ) → ℕ
-combinationRoom space = min (space / combinationSize) 65535
+unfoldable pub combinationRoom : (half space : ℕ) → ℕ
+combinationRoom half space = min (space / combinationSize half) 65535
 
 -- the combinations of a book in tables, into lent space of so many words: 18, then 30
 unfoldable pub combine : Header → Tables → (space : ℕ) → Outcome (List Combination)
@@ -100,11 +101,11 @@ combine header tables space =
     let found : List Combination = combinations (tablesBook header tables) in
     judge 0
     (Foreign unless tablesKnown header tables
-    ∷ Choices unless leb (length found) (combinationRoom space)
+    ∷ Choices unless leb (length found) (combinationRoom (header .half) space)
     ∷ [])
     (answered found)
 
 -- "the words after the last record are 0"
-unfoldable pub combinationSpace : (space : ℕ) → Outcome (List Combination) → List ℕ
-combinationSpace space (answered found) = padded space (concatMap combinationWords found)
-combinationSpace space (refused r) = cleared space
+unfoldable pub combinationSpace : (half space : ℕ) → Outcome (List Combination) → List ℕ
+combinationSpace half space (answered found) = padded space (concatMap (combinationWords half) found)
+combinationSpace half space (refused r) = cleared space

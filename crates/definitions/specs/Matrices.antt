@@ -13,12 +13,22 @@ use Rattle.definitions.specs.PhoneSets.{has, alone, allPhones, without}
 abbrev pub Matrix : Type 0
 Matrix = List ℕ
 
--- "it is kept as seven 64-bit words, the unused ones 0"
-abbrev pub matrixSize : ℕ
-matrixSize = 7
+-- "it is kept as seven 64-bit words, the unused ones 0": a book's n is at most 3
+abbrev pub mostHalf : ℕ
+mostHalf = 3
+
+abbrev pub mostColumns : ℕ
+mostColumns = 7
 
 unfoldable pub matrixWords : Matrix → List ℕ
-matrixWords m = padded matrixSize m
+matrixWords m = padded mostColumns m
+
+-- how many words it takes in a record of a book with this n. Proofs know of it what laws/Sizes says.
+unfoldable pub matrixSize : (half : ℕ) → ℕ
+matrixSize half = mostColumns
+
+unfoldable pub matrixRecord : (half : ℕ) → Matrix → List ℕ
+matrixRecord half m = padded (matrixSize half) m
 
 -- "A root's matrix for phone p has all phones in every column but column n, which has p alone."
 unfoldable pub rootMatrix : (half phones p : ℕ) → Matrix

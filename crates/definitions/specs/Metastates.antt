@@ -2,11 +2,12 @@
 -- another and end.
 use mathlib.Core.List.{List, [], _∷_, map}
 use mathlib.Core.Bool.{Bool, _&&_}
-use Prim.Native.Nat.{ℕ, suc}
+use Prim.Native.Nat.{ℕ, suc, _+_}
 use lib.Dec.{eqb}
 use lib.ListN.{getD}
 use Rattle.definitions.specs.Lists.{if_then_else_, same}
-use Rattle.definitions.specs.Matrices.{Matrix, matrixWords, valid, meet, shift, startCut, endsHere}
+use Rattle.definitions.specs.Matrices.{Matrix, matrixSize, matrixRecord, valid, meet, shift}
+use Rattle.definitions.specs.Matrices.{startCut, endsHere}
 use Rattle.definitions.specs.Tables.{Book}
 use Rattle.definitions.specs.Lookup.{modelAt}
 use Rattle.definitions.specs.Combinations.{Combination}
@@ -20,11 +21,11 @@ unfoldable pub sameMetastate : Metastate → Metastate → Bool
 sameMetastate x y = eqb (x .number) (y .number) && same (x .carried) (y .carried)
 
 -- a metastate is "held as eight 64-bit words"
-abbrev pub metastateSize : ℕ
-metastateSize = 8
+abbrev pub metastateSize : (half : ℕ) → ℕ
+metastateSize half = 1 + matrixSize half
 
-unfoldable pub metastateWords : Metastate → List ℕ
-metastateWords x = x .number ∷ matrixWords (x .carried)
+unfoldable pub metastateWords : (half : ℕ) → Metastate → List ℕ
+metastateWords half x = x .number ∷ matrixRecord half (x .carried)
 
 abbrev pub noCombination : Combination
 noCombination = record { phone = 0; leaves = []; carried = [] }

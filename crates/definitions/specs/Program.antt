@@ -11,6 +11,7 @@ use Rattle.definitions.specs.Faults.{Outcome, answered, refused, numberO
 use Rattle.definitions.specs.Lines.{lineText}
 use Rattle.definitions.specs.BookLines.{headerOf}
 use Rattle.definitions.specs.BookReading.{Lent, nodeSize}
+use Rattle.definitions.specs.Matrices.{mostHalf}
 use Rattle.definitions.specs.Combinations.{combinationSize}
 use Rattle.definitions.specs.Arcs.{arcSize}
 use Rattle.definitions.specs.Metastates.{metastateSize}
@@ -23,12 +24,13 @@ use Rattle.definitions.specs.NetworkText.{networkText}
 abbrev pub programLent : Lent
 programLent = record { nodes = nodeSize * 1024; classes = 255; roots = 64 * 3 }
 
--- "512 combinations, 512 metastates and 2000 arcs, and a turn limit of 512"
+-- "512 combinations, 512 metastates and 2000 arcs, and a turn limit of 512"; space is lent before the book is
+-- read, so its records are those of the greatest half-width
 abbrev pub programSpace : Space
 programSpace =
     record {
-      combinations = combinationSize * 512;
-      metastates = metastateSize * 512;
+      combinations = combinationSize mostHalf * 512;
+      metastates = metastateSize mostHalf * 512;
       arcs = arcSize * 2000;
     }
 

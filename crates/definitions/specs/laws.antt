@@ -34,6 +34,7 @@ pub mod ModelsAlong
 pub mod PhoneSets
 pub mod Matrices
 pub mod SevenWords
+pub mod Sizes
 pub mod Leaves
 pub mod LeafMatrices
 pub mod NamedOnce

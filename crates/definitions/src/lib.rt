@@ -1,16 +1,16 @@
 // What every layer shares: the sizes of records, a book's header, a tree's node, a network's counts, and refusals by
 // fault. Header, node and counts are laid out as in C, since C programs hand them over.
+pub mod sizes;
+
 ghost use mathlib.Core.Path.{_≡_};
 ghost use Rattle.definitions.specs.Faults.{numberOf};
 
-// How many words a node, a combination, a metastate and an arc take.
+// How many words a node and an arc take, and a matrix where it is a value.
 pub const NODE_SIZE: usize = 5;
 
-pub const COMBINATION_SIZE: usize = 11;
-
-pub const METASTATE_SIZE: usize = 8;
-
 pub const ARC_SIZE: usize = 4;
+
+pub const MOST_COLUMNS: usize = 7;
 
 // The numbers of an H line.
 #[repr(C)]

@@ -32,7 +32,7 @@ pub extern "C" fn fulgwerz_combine(
         (length (now (combinations .entry))))
         ⌝ }
     ensures leaves { λ r. ⌜
-        now (combinations .exit) ≡ combinationSpace (length (now (combinations .entry)))
+        now (combinations .exit) ≡ combinationSpace (header .half) (length (now (combinations .entry)))
         (combine header (lentTables (now (nodes .entry)) (now (classes .entry)) (now (roots .entry)))
         (length (now (combinations .entry))))
         ⌝ }

@@ -5,7 +5,7 @@ use Prim.Native.Nat.{ℕ, suc, _+_, _*_}
 use lib.Dec.{ltb, eqb}
 use lib.ListN.{take, replicate}
 use Rattle.definitions.specs.Lists.{if_then_else_, _!_, upFrom}
-use Rattle.definitions.specs.Matrices.{Matrix, matrixSize, matrixWords}
+use Rattle.definitions.specs.Matrices.{Matrix, mostColumns, matrixWords}
 
 -- the columns of a book's matrices
 abbrev pub widthOf : (half : ℕ) → ℕ
@@ -30,4 +30,4 @@ shiftedColumn last all columns column =
     (if ltb last column then columns ! column else columns ! suc column)
 
 unfoldable pub shiftedWords : (last all : ℕ) → (columns : List ℕ) → List ℕ
-shiftedWords last all columns = map (shiftedColumn last all columns) (upFrom 0 matrixSize)
+shiftedWords last all columns = map (shiftedColumn last all columns) (upFrom 0 mostColumns)

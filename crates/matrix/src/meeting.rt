@@ -5,7 +5,7 @@ ghost use mathlib.Core.Path.{_≡_};
 ghost use Prim.Native.Nat.{_+_, _≤_, min};
 ghost use lib.ListN.{length, take, drop};
 ghost use Rattle.definitions.specs.Lists.{padded};
-ghost use Rattle.definitions.specs.Matrices.{matrixSize, meet, valid};
+ghost use Rattle.definitions.specs.Matrices.{mostColumns, meet, valid};
 
 pub fn meet(a: Matrix, b: Matrix) -> Matrix
     ensures { λ r. ⌜ r .columns ≡ meet (a .columns) (b .columns) ⌝ }
@@ -21,7 +21,7 @@ pub fn meet(a: Matrix, b: Matrix) -> Matrix
 
 // How many of the first `width` columns a matrix has.
 fn columns_in(width: usize) -> usize
-    ensures { λ r. ⌜ r ≡ min width matrixSize ⌝ }
+    ensures { λ r. ⌜ r ≡ min width mostColumns ⌝ }
 {
     if 7 < width {
         return 7;
@@ -32,10 +32,10 @@ fn columns_in(width: usize) -> usize
 // Whether the first columns of a matrix meet the words from a place on validly, where these words are all there; ends
 // at the first empty column.
 fn meets_there(words: &[u64], from: usize, m: Matrix, end: usize) -> bool
-    requires { ⌜ (from + end ≤ length (now words)) × (end ≤ matrixSize) ⌝ }
+    requires { ⌜ (from + end ≤ length (now words)) × (end ≤ mostColumns) ⌝ }
     ensures { λ r. ⌜
         r ≡ valid (take end (meet (m .columns)
-        (take matrixSize (padded matrixSize (drop from (now (words .entry)))))))
+        (take mostColumns (padded mostColumns (drop from (now (words .entry)))))))
         ⌝ }
 {
     let mut c = 0;
@@ -53,7 +53,7 @@ fn meets_there(words: &[u64], from: usize, m: Matrix, end: usize) -> bool
 pub fn meets_at(words: &[u64], from: usize, m: Matrix, width: usize) -> bool
     ensures { λ r. ⌜
         r ≡ valid (take width (meet (m .columns)
-        (take matrixSize (padded matrixSize (drop from (now (words .entry)))))))
+        (take mostColumns (padded mostColumns (drop from (now (words .entry)))))))
         ⌝ }
 {
     let end = columns_in(width);

@@ -5,7 +5,7 @@ ghost use mathlib.Core.Path.{_≡_};
 ghost use Prim.Native.Nat.{_<_};
 ghost use lib.ListN.{take};
 ghost use Rattle.definitions.specs.Lists.{_!_};
-ghost use Rattle.definitions.specs.Matrices.{matrixSize, matrixWords};
+ghost use Rattle.definitions.specs.Matrices.{mostColumns, matrixWords};
 ghost use Rattle.matrix.specs.Shapes.{columnsAround, shiftedColumn, shiftedWords};
 
 // The set in a column of a matrix that has n columns of one set, the centre, and n columns of another.
@@ -27,7 +27,7 @@ fn column_around(half: u32, left: u64, centre: u64, right: u64, column: usize) -
 
 // The matrix with one set in the n columns left of the centre, and one in the n columns right of it.
 pub fn around(half: u32, left: u64, centre: u64, right: u64) -> Matrix
-    ensures { λ r. ⌜ r .columns ≡ take matrixSize (matrixWords (columnsAround half left centre right)) ⌝ }
+    ensures { λ r. ⌜ r .columns ≡ take mostColumns (matrixWords (columnsAround half left centre right)) ⌝ }
 {
     let mut columns = [0u64; 7];
     let mut c = 0;
@@ -40,7 +40,7 @@ pub fn around(half: u32, left: u64, centre: u64, right: u64) -> Matrix
 
 // What a column is after the shift of the columns up to `last`.
 fn column_shifted(m: Matrix, last: usize, all: u64, column: usize) -> u64
-    requires { ⌜ column < matrixSize ⌝ }
+    requires { ⌜ column < mostColumns ⌝ }
     ensures { λ r. ⌜ r ≡ shiftedColumn last all (m .columns) column ⌝ }
 {
     if column == last {

@@ -5,13 +5,13 @@ ghost use mathlib.Core.Path.{_≡_};
 ghost use Prim.Native.Nat.{_+_, _≤_};
 ghost use lib.ListN.{length, take, drop};
 ghost use Rattle.definitions.specs.Lists.{_!_, padded};
-ghost use Rattle.definitions.specs.Matrices.{matrixSize};
+ghost use Rattle.definitions.specs.Matrices.{mostColumns};
 ghost use Rattle.matrix.specs.Words.{overwritten};
 
 // The matrix in seven words.
 pub fn whole_matrix(words: &[u64], from: usize) -> Matrix
-    requires { ⌜ from + matrixSize ≤ length (now words) ⌝ }
-    ensures { λ r. ⌜ r .columns ≡ take matrixSize (padded matrixSize (drop from (now (words .entry)))) ⌝ }
+    requires { ⌜ from + mostColumns ≤ length (now words) ⌝ }
+    ensures { λ r. ⌜ r .columns ≡ take mostColumns (padded mostColumns (drop from (now (words .entry)))) ⌝ }
 {
     let mut columns = [0u64; 7];
     let mut c = 0;
@@ -24,7 +24,7 @@ pub fn whole_matrix(words: &[u64], from: usize) -> Matrix
 
 // A number and the columns of a matrix, by place.
 pub fn word_at(number: u64, m: Matrix, place: usize) -> u64
-    requires { ⌜ place ≤ matrixSize ⌝ }
+    requires { ⌜ place ≤ mostColumns ⌝ }
     ensures { λ r. ⌜ r ≡ (number ∷ m .columns) ! place ⌝ }
 {
     if place == 0 {

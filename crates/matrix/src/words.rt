@@ -9,7 +9,7 @@ ghost use Prim.Native.Nat.{_+_};
 ghost use lib.Dec.{leb};
 ghost use lib.ListN.{length, take, drop};
 ghost use Rattle.definitions.specs.Lists.{padded, same};
-ghost use Rattle.definitions.specs.Matrices.{matrixSize};
+ghost use Rattle.definitions.specs.Matrices.{mostColumns};
 ghost use Rattle.matrix.specs.Words.{overwritten};
 
 // Whether so many words from a place on are all there.
@@ -27,7 +27,7 @@ pub fn are_there(words: &[u64], from: usize, count: usize) -> bool
 
 // The matrix in words of which some may not be there, one by one.
 fn matrix_part(words: &[u64], from: usize) -> Matrix
-    ensures { λ r. ⌜ r .columns ≡ take matrixSize (padded matrixSize (drop from (now (words .entry)))) ⌝ }
+    ensures { λ r. ⌜ r .columns ≡ take mostColumns (padded mostColumns (drop from (now (words .entry)))) ⌝ }
 {
     let mut columns = [0u64; 7];
     if words.len() <= from {
@@ -47,7 +47,7 @@ fn matrix_part(words: &[u64], from: usize) -> Matrix
 
 // The matrix in the seven words from a place on; words that are not there count as 0.
 pub fn matrix_at(words: &[u64], from: usize) -> Matrix
-    ensures { λ r. ⌜ r .columns ≡ take matrixSize (padded matrixSize (drop from (now (words .entry)))) ⌝ }
+    ensures { λ r. ⌜ r .columns ≡ take mostColumns (padded mostColumns (drop from (now (words .entry)))) ⌝ }
 {
     if are_there(words, from, 7) {
         return whole_matrix(words, from);
@@ -84,15 +84,15 @@ pub fn put_numbered(words: &mut [u64], at: usize, number: u64, m: Matrix)
     put_part(words, at, number, m);
 }
 
-// Whether eight words are this number and this matrix.
+// Whether words are this number and the first columns of this matrix, as many as there are words for.
 pub fn is_numbered(words: &[u64], number: u64, m: Matrix) -> bool
-    ensures { λ r. ⌜ r ≡ same (now (words .entry)) (number ∷ m .columns) ⌝ }
+    ensures { λ r. ⌜ r ≡ same (now (words .entry)) (take (length (now (words .entry))) (number ∷ m .columns)) ⌝ }
 {
-    if words.len() != 8 {
+    if 8 < words.len() {
         return false;
     }
     let mut i = 0;
-    while i < 8 {
+    while i < words.len() {
         if words[i] != word_at(number, m, i) {
             return false;
         }

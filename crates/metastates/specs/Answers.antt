@@ -37,9 +37,9 @@ pub record Clear (space ends : List ℕ) : Type 0 where
   pub ends-clear : ends ≡ cleared 65
 
 abbrev pub allIn : Book → (space : List ℕ) → Outcome (List Combination)
-allIn book space = addedIn (length space) 0 (combinations book)
+allIn book space = addedIn (book .half) (length space) 0 (combinations book)
 
 -- what adding them to such space answers and leaves, with how many there are after each phone
 pub record AllAdded (book : Book) (space : List ℕ) (answer : Adding) (space′ ends′ : List ℕ) : Type 0 where
-  pub grown : Grown space 0 (allIn book space) answer space′
+  pub grown : Grown (book .half) space 0 (allIn book space) answer space′
   pub noted : (found : List Combination) → allIn book space ≡ answered found → ends′ ≡ padded 65 (endsOf book)

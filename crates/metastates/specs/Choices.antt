@@ -6,7 +6,7 @@ use Prim.Native.Nat.{ℕ, _+_, _≤_}
 use lib.Dec.{T}
 use lib.ListN.{length, set, take, getD}
 use Rattle.definitions.specs.Lists.{padded}
-use Rattle.definitions.specs.Matrices.{Matrix, matrixWords, valid, meet}
+use Rattle.definitions.specs.Matrices.{Matrix, mostColumns, matrixWords, valid, meet}
 use Rattle.definitions.specs.Combinations.{Leaf, Combination, choose}
 use Rattle.definitions.specs.laws.Searching.{FirstFrom}
 use Rattle.matrix.specs.Shapes.{HasWidth}
@@ -27,7 +27,7 @@ combinationOf width choice =
 
 -- a choice that may be made: valid, with 0 beyond its leaves and columns
 pub record Chosen (width : ℕ) (choice : Choice) : Type 0 where
-  pub narrow : width ≤ 7
+  pub narrow : width ≤ mostColumns
   pub leaves : choice .leaves ≡ padded 3 (leavesTaken choice)
   pub matrix : HasWidth width (choice .matrix .columns)
   pub holds : T (valid (matrixMet width choice))

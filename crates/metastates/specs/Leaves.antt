@@ -6,13 +6,13 @@ use Prim.Native.Nat.{ℕ, _+_, _*_, _/_, _≤_, max}
 use lib.Dec.{T, leb, eqb}
 use lib.ListN.{length, take, drop}
 use Rattle.definitions.specs.Lists.{if_then_else_, _!_, concatMap, upFrom, select, records}
-use Rattle.definitions.specs.Matrices.{matrixSize, matrixWords}
+use Rattle.definitions.specs.Matrices.{mostColumns, matrixWords}
 use Rattle.definitions.specs.Tables.{Book}
 use Rattle.definitions.specs.Combinations.{Leaf, leavesOf}
 
--- a number and a matrix, eight words
+-- a number and a matrix
 abbrev pub leafSize : ℕ
-leafSize = 8
+leafSize = 1 + mostColumns
 
 -- ---- the table: 1 and its matrix in the record of each leaf's node
 
@@ -29,7 +29,7 @@ unfoldable pub isMarked : (table : List ℕ) → (node : ℕ) → Bool
 isMarked table node = not (eqb (table ! (leafSize * node)) 0)
 
 unfoldable pub listedAt : (table : List ℕ) → (node : ℕ) → List ℕ
-listedAt table node = node ∷ take matrixSize (drop (leafSize * node + 1) table)
+listedAt table node = node ∷ take mostColumns (drop (leafSize * node + 1) table)
 
 -- the used records in order
 unfoldable pub listed : (table : List ℕ) → List ℕ

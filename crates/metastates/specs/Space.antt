@@ -11,30 +11,31 @@ use Rattle.definitions.specs.Combinations.{Combination, combinationSize, combin
 use Rattle.metastates.specs.declared.Adding.{Adding}
 use Rattle.metastates.specs.declared.Adding.the-variants as adding
 
--- space that holds so many records, and 0 after them
-pub record Holding (space : List ℕ) (count : ℕ) : Type 0 where
-  pub roomy : count ≤ combinationRoom (length space)
-  pub rest : space ≡ padded (length space) (take (combinationSize * count) space)
+-- space that holds so many records of a book with this half-width, and 0 after them
+pub record Holding (half : ℕ) (space : List ℕ) (count : ℕ) : Type 0 where
+  pub roomy : count ≤ combinationRoom half (length space)
+  pub rest : space ≡ padded (length space) (take (combinationSize half * count) space)
 
 -- combinations added to so many, in lent space of so many words: 30 where they have no room
-unfoldable pub addedIn : (space count : ℕ) → (new : List Combination) → Outcome (List Combination)
-addedIn space count new =
-    judge 0 (Choices unless leb (count + length new) (combinationRoom space) ∷ []) (answered new)
+unfoldable pub addedIn : (half space count : ℕ) → (new : List Combination) → Outcome (List Combination)
+addedIn half space count new =
+    judge 0 (Choices unless leb (count + length new) (combinationRoom half space) ∷ []) (answered new)
 
 unfoldable pub addingOf : (count : ℕ) → Outcome (List Combination) → Adding
 addingOf count (answered new) = adding.Count (count + length new)
 addingOf count (refused r) = adding.Stop (r .fault)
 
 -- the words before, how many records they hold, the outcome, the answer, and the words after
-pub record Grown (before : List ℕ) (count : ℕ) (outcome : Outcome (List Combination)) (answer : Adding)
+pub record Grown (half : ℕ) (before : List ℕ) (count : ℕ) (outcome : Outcome (List Combination)) (answer : Adding)
     (after : List ℕ) : Type 0 where
   pub answers : answer ≡ addingOf count outcome
   pub holds : (new : List Combination) → outcome ≡ answered new
       → after ≡ padded (length before)
-      (take (combinationSize * count) before ++ concatMap combinationWords new)
+      (take (combinationSize half * count) before ++ concatMap (combinationWords half) new)
   pub sized : length after ≡ length before
 
 -- what adding these combinations answers and leaves
-abbrev pub Added : (before : List ℕ) → (count : ℕ) → (new : List Combination) → (answer : Adding)
+abbrev pub Added : (half : ℕ) → (before : List ℕ) → (count : ℕ) → (new : List Combination) → (answer : Adding)
     → (after : List ℕ) → Type 0
-Added before count new answer after = Grown before count (addedIn (length before) count new) answer after
+Added half before count new answer after =
+    Grown half before count (addedIn half (length before) count new) answer after

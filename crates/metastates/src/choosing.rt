@@ -2,8 +2,9 @@
 use crate::Adding;
 use crate::Choice;
 use crate::LEAF_SIZE;
-use definitions::COMBINATION_SIZE;
 use definitions::Fault;
+use definitions::sizes::combination_size;
+use definitions::wide;
 use matrix::Matrix;
 use matrix::meeting::meet;
 use matrix::meeting::meets_at;
@@ -12,19 +13,20 @@ ghost use mathlib.Core.List.{[], _∷_, _++_};
 ghost use mathlib.Core.Path.{_≡_};
 ghost use Prim.Native.Nat.{_+_, _*_, _≤_, _<_};
 ghost use lib.ListN.{length, take, drop};
-ghost use Rattle.definitions.specs.Combinations.{combinationSize, combinationRoom};
+ghost use Rattle.definitions.specs.Combinations.{combinationRoom};
 ghost use Rattle.definitions.specs.Lists.{_!_};
-ghost use Rattle.matrix.specs.Shapes.{HasWidth};
+ghost use Rattle.definitions.specs.Matrices.{mostColumns};
+ghost use Rattle.matrix.specs.Shapes.{widthOf, HasWidth};
 ghost use Rattle.metastates.specs.Choices.{Chosen, combinationOf, WithLeaf, FirstFit};
 ghost use Rattle.metastates.specs.Choices.{Choosable, chosenFrom};
 ghost use Rattle.metastates.specs.Leaves.{leafSize, leavesIn, IsList};
 ghost use Rattle.metastates.specs.Space.{Holding, Added};
 
 // How many combinations the lent words have room for.
-pub fn room_in(words: usize) -> usize
-    ensures { λ r. ⌜ r ≡ combinationRoom words ⌝ }
+pub fn room_in(half: u32, words: usize) -> usize
+    ensures { λ r. ⌜ r ≡ combinationRoom half words ⌝ }
 {
-    let room = words / COMBINATION_SIZE;
+    let room = words / combination_size(half);
     if 65535 < room {
         return 65535;
     }
@@ -33,7 +35,7 @@ pub fn room_in(words: usize) -> usize
 
 // A word of a combination's record: phone, three leaf nodes, matrix.
 fn word_of(choice: Choice, place: usize) -> u64
-    requires { ⌜ place < combinationSize ⌝ }
+    requires { ⌜ place < 4 + mostColumns ⌝ }
     ensures { λ r. ⌜ r ≡ (choice .phone ∷ (choice .leaves ++ choice .matrix .columns)) ! place ⌝ }
 {
     if place == 0 {
@@ -46,10 +48,13 @@ fn word_of(choice: Choice, place: usize) -> u64
     m.columns[place - 4]
 }
 
-// Writes the eleven words of a combination.
+// Writes as many words of a combination as a record has.
 fn put_choice(words: &mut [u64], choice: Choice)
-    requires { ⌜ length (now words) ≡ combinationSize ⌝ }
-    ensures { λ r. ⌜ now (words .exit) ≡ choice .phone ∷ (choice .leaves ++ choice .matrix .columns) ⌝ }
+    requires { ⌜ length (now words) ≤ 4 + mostColumns ⌝ }
+    ensures { λ r. ⌜
+        now (words .exit)
+        ≡ take (length (now (words .entry))) (choice .phone ∷ (choice .leaves ++ choice .matrix .columns))
+        ⌝ }
 {
     let mut i = 0;
     while i < words.len() {
@@ -59,37 +64,40 @@ fn put_choice(words: &mut [u64], choice: Choice)
 }
 
 // Adds a combination.
-fn add_choice(width: usize, choice: Choice, space: &mut [u64], count: usize) -> Adding
-    requires { ⌜ Holding (now space) count × Chosen width choice ⌝ }
+fn add_choice(half: u32, choice: Choice, space: &mut [u64], count: usize) -> Adding
+    requires { ⌜ Holding half (now space) count × Chosen (widthOf half) choice ⌝ }
     ensures { λ r. ⌜
-        Added (now (space .entry)) count (combinationOf width choice ∷ []) r (now (space .exit))
+        Added half (now (space .entry)) count (combinationOf (widthOf half) choice ∷ []) r (now (space .exit))
         ⌝ }
 {
-    if room_in(space.len()) <= count {
+    if room_in(half, space.len()) <= count {
         return Adding::Stop(Fault::Choices);
     }
-    let at = COMBINATION_SIZE * count;
-    let end = at + COMBINATION_SIZE;
-    put_choice(&mut space[at..end], choice);
+    let size = combination_size(half);
+    let at = size * count;
+    put_choice(&mut space[at..at + size], choice);
     Adding::Count(count + 1)
 }
 
 // The matrix in the record at a place of a list of leaves.
 fn leaf_matrix(leaves: &[u64], place: usize) -> Matrix
     requires { ⌜ leafSize * place + leafSize ≤ length (now leaves) ⌝ }
-    ensures { λ r. ⌜ r .columns ≡ take 7 (drop (leafSize * place + 1) (now (leaves .entry))) ⌝ }
+    ensures { λ r. ⌜ r .columns ≡ take mostColumns (drop (leafSize * place + 1) (now (leaves .entry))) ⌝ }
 {
     matrix_at(leaves, LEAF_SIZE * place + 1)
 }
 
 // The first place from one on whose leaf meets a matrix validly, or the number of leaves.
-fn next_fit(leaves: &[u64], from: usize, m: Matrix, width: usize) -> usize
+fn next_fit(leaves: &[u64], from: usize, m: Matrix, half: u32) -> usize
     requires { ⌜
-        (width ≤ 7) × IsList width (now leaves) × (from ≤ length (leavesIn width (now leaves)))
-        × HasWidth width (m .columns)
+        (widthOf half ≤ mostColumns) × IsList (widthOf half) (now leaves)
+        × (from ≤ length (leavesIn (widthOf half) (now leaves))) × HasWidth (widthOf half) (m .columns)
         ⌝ }
-    ensures { λ r. ⌜ FirstFit (take width (m .columns)) (leavesIn width (now (leaves .entry))) from r ⌝ }
+    ensures { λ r. ⌜
+        FirstFit (take (widthOf half) (m .columns)) (leavesIn (widthOf half) (now (leaves .entry))) from r
+        ⌝ }
 {
+    let width = 2 * wide(half) + 1;
     let mut place = from;
     while place < leaves.len() / LEAF_SIZE {
         if meets_at(leaves, LEAF_SIZE * place + 1, m, width) {
@@ -101,12 +109,12 @@ fn next_fit(leaves: &[u64], from: usize, m: Matrix, width: usize) -> usize
 }
 
 // The choice with the leaf at a place taken too.
-fn with_leaf(width: usize, choice: Choice, leaves: &[u64], place: usize) -> Choice
+fn with_leaf(half: u32, choice: Choice, leaves: &[u64], place: usize) -> Choice
     requires { ⌜
-        Chosen width choice × IsList width (now leaves) × (choice .taken < 3)
-        × (place < length (leavesIn width (now leaves)))
+        Chosen (widthOf half) choice × IsList (widthOf half) (now leaves) × (choice .taken < 3)
+        × (place < length (leavesIn (widthOf half) (now leaves)))
         ⌝ }
-    ensures { λ r. ⌜ WithLeaf width choice (now (leaves .entry)) place r ⌝ }
+    ensures { λ r. ⌜ WithLeaf (widthOf half) choice (now (leaves .entry)) place r ⌝ }
 {
     let mut nodes = choice.leaves;
     let at = choice.taken;
@@ -129,29 +137,30 @@ pub fn choose(
     second: &[u64],
     third: &[u64],
     trees: u32,
-    width: usize,
+    half: u32,
     choice: Choice,
     space: &mut [u64],
     count: usize,
 ) -> Adding
     requires { ⌜
-        Choosable width trees (now first) (now second) (now third) choice × Holding (now space) count
+        Choosable (widthOf half) trees (now first) (now second) (now third) choice
+        × Holding half (now space) count
         ⌝ }
     ensures { λ r. ⌜
-        Added (now (space .entry)) count
-        (chosenFrom width trees (now (first .entry)) (now (second .entry)) (now (third .entry)) choice)
+        Added half (now (space .entry)) count
+        (chosenFrom (widthOf half) trees (now (first .entry)) (now (second .entry)) (now (third .entry)) choice)
         r (now (space .exit))
         ⌝ }
 {
     if trees == 0 {
-        return add_choice(width, choice, space, count);
+        return add_choice(half, choice, space, count);
     }
     let m = choice.matrix;
     let mut total = count;
-    let mut place = next_fit(first, 0, m, width);
+    let mut place = next_fit(first, 0, m, half);
     while place < first.len() / LEAF_SIZE {
-        let next = with_leaf(width, choice, first, place);
-        let adding = choose(second, third, third, trees - 1, width, next, space, total);
+        let next = with_leaf(half, choice, first, place);
+        let adding = choose(second, third, third, trees - 1, half, next, space, total);
         match adding {
             Adding::Count(more) => {
                 total = more;
@@ -160,7 +169,7 @@ pub fn choose(
                 return Adding::Stop(fault);
             }
         }
-        place = next_fit(first, place + 1, m, width);
+        place = next_fit(first, place + 1, m, half);
     }
     Adding::Count(total)
 }

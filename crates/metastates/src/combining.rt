@@ -43,10 +43,10 @@ fn choose_phone(
     requires { ⌜
         Fit header (now nodes) (now classes) (now roots) × IsPhone header phone
         × Working (header .nodes) (now table) (now first) (now second) (now third)
-        × Holding (now space) count
+        × Holding (header .half) (now space) count
         ⌝ }
     ensures space { λ r. ⌜
-        Added (now (space .entry)) count
+        Added (header .half) (now (space .entry)) count
         (combinationsOf (bookWith header (now (nodes .entry)) (now (classes .entry)) (now (roots .entry)))
         phone) r (now (space .exit))
         ⌝ }
@@ -67,13 +67,12 @@ fn choose_phone(
         leaves: [0, 0, 0],
         matrix: top,
     };
-    let width = 2 * wide(header.half) + 1;
     choose(
         &first[..LEAF_SIZE * a],
         &second[..LEAF_SIZE * b],
         &third[..LEAF_SIZE * c],
         header.states,
-        width,
+        header.half,
         start,
         space,
         count,
@@ -220,7 +219,7 @@ pub fn combine(
         (length (now (space .entry))))
         ⌝ }
     ensures leaves { λ r. ⌜
-        now (space .exit) ≡ combinationSpace (length (now (space .entry)))
+        now (space .exit) ≡ combinationSpace (header .half) (length (now (space .entry)))
         (combine header (lentTables (now (nodes .entry)) (now (classes .entry)) (now (roots .entry)))
         (length (now (space .entry))))
         ⌝ }

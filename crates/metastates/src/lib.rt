@@ -5,11 +5,12 @@ pub mod combining;
 mod walking;
 
 use definitions::Fault;
+use definitions::MOST_COLUMNS;
 use definitions::Refusal;
 use matrix::Matrix;
 
 // How many words a leaf takes in a list of leaves: its node and its matrix.
-const LEAF_SIZE: usize = 8;
+const LEAF_SIZE: usize = 1 + MOST_COLUMNS;
 
 // What combining answers: how many combinations there are, or the refusal.
 pub enum Combined {

@@ -90,7 +90,7 @@ module _ {X : Type 0} (code : Code X) (heads : ℕ) where
     pub nexts : (i : ℕ) → i < length table → Latest table (headAt table i) i (chains ! (heads + i))
 
 -- words of elements that can be looked for along chains
-pub record Searchable {X : Type 0} (code : Code X) (words chains : List ℕ) : Type 0 where
+pub record Findable {X : Type 0} (code : Code X) (words chains : List ℕ) : Type 0 where
   pub flat : Flat code (elementsIn code words) words
   pub linked : Linked code (headsIn chains) chains (elementsIn code words)
 

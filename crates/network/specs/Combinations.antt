@@ -32,7 +32,8 @@ combinationIn header words =
 -- the combinations in whole records
 unfoldable pub combinationsIn : Header → (words : List ℕ) → List Combination
 combinationsIn header words =
-    map (combinationIn header) (records combinationSize (length words / combinationSize) words)
+    map (combinationIn header)
+    (records (combinationSize (header .half)) (length words / combinationSize (header .half)) words)
 
 -- what connecting needs of the book: its nodes, and not its classes and roots
 abbrev pub nodesBook : Header → (nodes : List ℕ) → Book
@@ -60,7 +61,7 @@ pub record IsCombination (header : Header) (c : Combination) : Type 0 where
 pub record Usable (header : Header) (words : List ℕ) : Type 0 where
   pub header-known : T (headerKnown header)
   pub few : length (combinationsIn header words) ≤ 65535
-  pub flat : words ≡ concatMap combinationWords (combinationsIn header words)
+  pub flat : words ≡ concatMap (combinationWords (header .half)) (combinationsIn header words)
   pub each : (number : ℕ) → number < length (combinationsIn header words)
       → IsCombination header (numbered (combinationsIn header words) number)
 

@@ -1,16 +1,14 @@
--- Filling an index: what each step asks of the numbers and words that it is given, and what it leaves in the
--- index.
+-- Filling an index: what each step asks of the numbers and words that it is given, and what it leaves.
 use mathlib.Core.Path.{_≡_}
 use mathlib.Core.List.{List}
-use Prim.Native.Nat.{ℕ, _/_, _≤_, _<_}
+use Prim.Native.Nat.{ℕ, _≤_, _<_}
 use lib.Dec.{T}
 use lib.ListN.{length}
 use Rattle.definitions.specs.declared.Header.{Header}
 use Rattle.definitions.specs.Lists.{_!_}
 use Rattle.definitions.specs.PhoneSets.{has}
 use Rattle.definitions.specs.ForeignTables.{headerKnown}
-use Rattle.definitions.specs.Combinations.{combinationSize}
-use Rattle.network.specs.RecordWords.{RecordWithin, columnWord}
+use Rattle.network.specs.RecordWords.{countIn, IsListed, columnWord}
 use Rattle.network.specs.Indexing.{endsSize, MarkedBelow, Marks}
 
 -- ---- what is asked
@@ -31,12 +29,12 @@ pub record Markable (header : Header) (words : List ℕ) (blocks number : ℕ) :
   pub narrow : Narrow header
   pub blocks-few : blocks ≤ 1024
   pub number-few : number ≤ 65535
-  pub within : RecordWithin combinationSize words number
+  pub within : IsListed (header .half) words number
 
 -- combinations whose ends are given, and an index with room for the ends
 pub record Fillable (header : Header) (words ends index : List ℕ) : Type 0 where
   pub header-known : T (headerKnown header)
-  pub few : length words / combinationSize ≤ 65535
+  pub few : countIn (header .half) words ≤ 65535
   pub ends-sized : length ends ≡ endsSize
   pub room : endsSize ≤ length index
 
@@ -62,10 +60,11 @@ pub record PhonesMarked (phones blocks number column set : ℕ) (index₀ : List
   pub marked : MarkedBelow phones blocks number column set phone index
 
 -- and in the rows of its columns before one
-pub record ColumnsMarked (phones blocks : ℕ) (words : List ℕ) (number : ℕ) (index₀ : List ℕ) (column : ℕ)
+pub record ColumnsMarked (header : Header) (blocks : ℕ) (words : List ℕ) (number : ℕ) (index₀ : List ℕ) (column : ℕ)
     (index : List ℕ) : Type 0 where
   pub marking : Marking index₀ index
-  pub marked : (c : ℕ) → c < column → MarkedBelow phones blocks number c (columnWord words number c) 65 index
+  pub marked : (c : ℕ) → c < column
+      → MarkedBelow (header .phones) blocks number c (columnWord (header .half) words number c) 65 index
 
 -- the combinations before one are marked
 pub record CombinationsMarked (header : Header) (words index₀ : List ℕ) (number : ℕ)
@@ -82,4 +81,4 @@ pub record Noted (ends index₀ : List ℕ) (place : ℕ) (index : List ℕ) : T
 -- all ends are noted, and all combinations are marked
 pub record Filled (header : Header) (words ends index₀ index : List ℕ) : Type 0 where
   pub ends-noted : Noted ends index₀ endsSize index
-  pub marks : Marks header words (length words / combinationSize) index
+  pub marks : Marks header words (countIn (header .half) words) index

@@ -1,6 +1,6 @@
 -- An index of combinations: where those of each phone end, then rows of bits. The row of a column and a phone
--- has the bit of each combination that has the phone in that column. A word of a row is a set of places, 1 to
--- 64.
+-- has the bit of each combination that has the phone in that column. A word of a row is a set of places,
+-- 1 to 64.
 use mathlib.Core.Path.{_≡_}
 use mathlib.Core.List.{List}
 use mathlib.Core.Bool.{false}
@@ -10,9 +10,8 @@ use lib.ListN.{length}
 use Rattle.definitions.specs.declared.Header.{Header}
 use Rattle.definitions.specs.Lists.{_!_}
 use Rattle.definitions.specs.PhoneSets.{has}
-use Rattle.definitions.specs.Combinations.{combinationSize}
 use Rattle.network.specs.Combinations.{combinationsIn, EndsAt}
-use Rattle.network.specs.RecordWords.{columnWord}
+use Rattle.network.specs.RecordWords.{countIn, columnWord}
 
 -- how many words the ends take, and how many combinations have their bits in one word
 abbrev pub endsSize : ℕ
@@ -22,8 +21,8 @@ abbrev pub blockSize : ℕ
 blockSize = 64
 
 -- how many words a row takes
-abbrev pub blocksIn : (words : List ℕ) → ℕ
-blocksIn words = length words / combinationSize / blockSize + 1
+abbrev pub blocksIn : (half : ℕ) → (words : List ℕ) → ℕ
+blocksIn half words = countIn half words / blockSize + 1
 
 -- where the row of a column and a phone begins
 abbrev pub rowAt : (phones blocks column p : ℕ) → ℕ
@@ -33,8 +32,7 @@ rowAt phones blocks column p = endsSize + (column * phones + p) * blocks
 abbrev pub farthest : ℕ
 farthest = 262144
 
--- a row that does not begin too far: there are few phones, rows take few words, and the column is left of the
--- centre
+-- a row that does not begin too far: few phones, rows of few words, and a column left of the centre
 pub record NearRow (phones blocks column : ℕ) : Type 0 where
   pub phones-few : phones ≤ 64
   pub blocks-few : blocks ≤ 1024
@@ -56,7 +54,8 @@ pub record MarkedBelow (phones blocks number column set below : ℕ) (index : Li
 abbrev pub Marks : Header → (words : List ℕ) → (count : ℕ) → (index : List ℕ) → Type 0
 Marks header words count index =
     (number column : ℕ) → number < count → column < header .half
-    → MarkedBelow (header .phones) (blocksIn words) number column (columnWord words number column) 65 index
+    → MarkedBelow (header .phones) (blocksIn (header .half) words) number column
+    (columnWord (header .half) words number column) 65 index
 
 pub record Indexed (header : Header) (words index : List ℕ) : Type 0 where
   pub sized : endsSize ≤ length index

@@ -1,17 +1,19 @@
 -- A network in lent words: its metastates and arcs, read back and held.
 use mathlib.Core.Path.{_≡_}
-use mathlib.Core.List.{List}
-use Prim.Native.Nat.{ℕ, _/_, _<_, min}
+use mathlib.Core.List.{List, _∷_}
+use Prim.Native.Nat.{ℕ, _/_, _≤_, _<_, min}
 use lib.ListN.{length, take, drop}
 use Rattle.definitions.specs.Lists.{_!_}
 use Rattle.definitions.specs.Arcs.{arcSize}
+use Rattle.definitions.specs.Matrices.{matrixWords}
 use Rattle.definitions.specs.Metastates.{Metastate, metastateSize, metastateWords}
 use Rattle.definitions.specs.Growing.{Room}
 use Rattle.definitions.specs.Connecting.{Network, noMetastate}
 use Rattle.definitions.specs.Building.{roomIn}
 use Rattle.definitions.specs.laws.Members.{isIn}
 use Rattle.network.specs.declared.Sizes.{Sizes}
-use Rattle.network.specs.Chains.{Code, keyOf}
+use Rattle.network.specs.Chains.{Code, keyOf, headsIn}
+use Rattle.network.specs.RecordWords.{RecordWithin}
 use Rattle.network.specs.Kept.{grownHeld, Kept}
 use Rattle.matrix.specs.Shapes.{widthOf, matrixIn}
 
@@ -27,10 +29,10 @@ abbrev pub metastateCode : (half : ℕ) → Code Metastate
 metastateCode half =
     record {
       nothing = noMetastate;
-      size = metastateSize;
-      words = metastateWords;
+      size = metastateSize half;
+      words = metastateWords half;
       read = metastateIn (widthOf half);
-      key = λ x. keyOf (metastateWords x);
+      key = λ x. keyOf (x .number ∷ matrixWords (x .carried));
     }
 
 -- the network that so many records hold
@@ -45,16 +47,23 @@ sizesOf net = record { metastates = length (net .table); arcs = length (net .arc
 abbrev pub arcRoom : (arcs : List ℕ) → ℕ
 arcRoom arcs = min (length arcs / arcSize) 999999
 
-abbrev pub metastateRoom : (metastates : List ℕ) → ℕ
-metastateRoom metastates = min (length metastates / metastateSize) 65535
+abbrev pub metastateRoom : (half : ℕ) → (metastates : List ℕ) → ℕ
+metastateRoom half metastates = min (length metastates / metastateSize half) 65535
 
 -- the room in lent words
-abbrev pub roomOf : (metastates arcs : List ℕ) → Room
-roomOf metastates arcs =
-    roomIn (record { combinations = 0; metastates = length metastates; arcs = length arcs })
+abbrev pub roomOf : (half : ℕ) → (metastates arcs : List ℕ) → Room
+roomOf half metastates arcs =
+    roomIn half (record { combinations = 0; metastates = length metastates; arcs = length arcs })
+
+-- a place for one metastate more: its record, and its link
+pub record HasPlace (half : ℕ) (metastates chains : List ℕ) (place : ℕ) : Type 0 where
+  pub within : RecordWithin (metastateSize half) metastates place
+  pub link : place < headsIn chains
+  pub few : place < 65535
+  pub narrow : half ≤ 3
 
 -- lent words that hold a network; its metastates are numbered below `count` and have matrices of one width
 pub record Holds (half count : ℕ) (net : Network) (metastates arcs chains : List ℕ) : Type 0 where
-  pub kept : Kept (metastateCode half) (roomOf metastates arcs) net metastates arcs chains
+  pub kept : Kept (metastateCode half) (roomOf half metastates arcs) net metastates arcs chains
   pub numbers : (x : Metastate) → isIn x (net .table) → x .number < count
   pub widths : (x : Metastate) → isIn x (net .table) → length (x .carried) ≡ widthOf half

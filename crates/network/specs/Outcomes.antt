@@ -23,14 +23,14 @@ metastateOf half follower =
 abbrev pub entered : Header → (nodes words metastates arcs : List ℕ) → Sizes → (from : ℕ) → Follower
     → Outcome Network
 entered header nodes words metastates arcs sizes from follower =
-    perform (machineIn header nodes words) (roomOf metastates arcs)
+    perform (machineIn header nodes words) (roomOf (header .half) metastates arcs)
     (networkHeld (header .half) sizes metastates arcs) (enter from (metastateOf (header .half) follower))
 
 -- several
 abbrev pub enteringAll : Header → (nodes words : List ℕ) → (from : ℕ) → (metastates arcs : List ℕ)
     → Network → List Metastate → Outcome Network
 enteringAll header nodes words from metastates arcs net xs =
-    performAll (machineIn header nodes words) (roomOf metastates arcs) net (map (enter from) xs)
+    performAll (machineIn header nodes words) (roomOf (header .half) metastates arcs) net (map (enter from) xs)
 
 -- the followers of a shifted matrix, from a state
 abbrev pub followedFrom : Header → (nodes words metastates arcs : List ℕ) → Sizes → (from : ℕ)
@@ -42,7 +42,7 @@ followedFrom header nodes words metastates arcs sizes from columns =
 -- the start metastates
 abbrev pub startedIn : Header → (nodes words metastates arcs : List ℕ) → Outcome Network
 startedIn header nodes words metastates arcs =
-    performAll (machineIn header nodes words) (roomOf metastates arcs) noNetwork
+    performAll (machineIn header nodes words) (roomOf (header .half) metastates arcs) noNetwork
     (startEvents (rulesIn header nodes words))
 
 -- the followers of the metastate at a place, by its shifted matrix
@@ -55,16 +55,16 @@ followedOn header nodes words metastates arcs sizes place columns =
 abbrev pub expandedAt : Header → (nodes words metastates arcs : List ℕ) → Sizes → (place : ℕ)
     → Outcome Network
 expandedAt header nodes words metastates arcs sizes place =
-    expand (machineIn header nodes words) (roomOf metastates arcs) place
+    expand (machineIn header nodes words) (roomOf (header .half) metastates arcs) place
     (networkHeld (header .half) sizes metastates arcs)
 
 -- all turns after the start, up to the limit
 abbrev pub turnedFrom : Header → (nodes words metastates arcs : List ℕ) → Sizes → (limit : ℕ) → Outcome Built
 turnedFrom header nodes words metastates arcs sizes limit =
-    turnsFrom (machineIn header nodes words) (roomOf metastates arcs) limit 0
+    turnsFrom (machineIn header nodes words) (roomOf (header .half) metastates arcs) limit 0
     (networkHeld (header .half) sizes metastates arcs)
 
 -- the start and the turns
 abbrev pub connectedIn : Header → (nodes words metastates arcs : List ℕ) → (limit : ℕ) → Outcome Built
 connectedIn header nodes words metastates arcs limit =
-    connect (rulesIn header nodes words) (roomOf metastates arcs) limit
+    connect (rulesIn header nodes words) (roomOf (header .half) metastates arcs) limit

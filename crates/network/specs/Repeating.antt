@@ -1,5 +1,4 @@
--- Copying the arcs of a span once more, with another source: what its steps ask, and what they leave and
--- answer.
+-- Copying the arcs of a span, with another source: what the steps of it ask, and what they leave and answer.
 use mathlib.Core.Path.{_≡_}
 use mathlib.Core.List.{List, [], _∷_, _++_}
 use mathlib.Core.Bool.{Bool, true}
@@ -15,6 +14,7 @@ use Rattle.definitions.specs.Metastates.{metastateSize}
 use Rattle.matrix.specs.Shapes.{shiftedWords}
 use Rattle.matrix.specs.laws.Words.{firstSeven}
 use Rattle.network.specs.declared.Sizes.{Sizes}
+use Rattle.network.specs.RecordWords.{recordOf}
 use Rattle.network.specs.declared.Step.{Step}
 use Rattle.network.specs.declared.Step.the-variants as step
 use Rattle.network.specs.Networks.{arcRoom}
@@ -74,4 +74,4 @@ Repeats header metastates spans slot columns answer =
     answer ≡ true
     → (place : ℕ) × (placeIn spans slot ≡ suc place)
     × (shiftedWords (2 * header .half) (allPhones (min (header .phones) 64))
-    (firstSeven (drop (metastateSize * place + 1) metastates)) ≡ columns)
+    (firstSeven (drop 1 (recordOf (metastateSize (header .half)) metastates place))) ≡ columns)

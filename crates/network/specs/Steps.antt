@@ -1,6 +1,6 @@
 -- What a step of a build leaves and answers, by what the definition performs.
 use mathlib.Core.Path.{_≡_}
-use mathlib.Core.List.{List, [], _++_}
+use mathlib.Core.List.{List, [], _∷_, _++_}
 use mathlib.Core.Bool.{Bool}
 use Prim.Native.Nat.{ℕ, _+_, _*_, _<_}
 use lib.Dec.{ltb}
@@ -10,16 +10,18 @@ use Rattle.definitions.specs.declared.Header.{Header}
 use Rattle.definitions.specs.Faults.{Outcome, answered, refused}
 use Rattle.definitions.specs.Lists.{if_then_else_, concatMap, padded, cleared}
 use Rattle.definitions.specs.Arcs.{Arc, arcSize, arcWords, firstState}
-use Rattle.definitions.specs.Metastates.{Metastate, metastateWords, modelsOf}
+use Rattle.definitions.specs.Metastates.{Metastate, metastateSize, metastateWords, modelsOf}
 use Rattle.definitions.specs.Connecting.{ownArcs, finalArcs, arcInto, Network, Built}
 use Rattle.definitions.specs.Building.{networkIn}
 use Rattle.definitions.specs.declared.Refusal.{Refusal}
 use Rattle.network.specs.declared.Sizes.{Sizes}
+use Rattle.network.specs.declared.Follower.{Follower}
 use Rattle.network.specs.declared.Step.{Step}
 use Rattle.network.specs.declared.Step.the-variants as step
 use Rattle.network.specs.declared.Arcs.{Arcs}
 use Rattle.network.specs.declared.Build.{Build}
 use Rattle.network.specs.Answers.{buildOf}
+use Rattle.network.specs.Chains.{keyOf, headsIn, linkedTo}
 use Rattle.network.specs.Combinations.{combinationsIn, nodesBook, rulesIn}
 use Rattle.network.specs.Networks.{sizesOf, arcRoom, Holds}
 use Rattle.network.specs.Spans.{Spanned}
@@ -107,26 +109,37 @@ plainOf header nodes words place x =
     ownOf header nodes words place x
     ++ finalArcs (rulesIn header nodes words) place x
 
+-- ---- a metastate
+
+-- after it was put at a place of the table and at the front of its chain
+pub record MetastateAdded (half : ℕ) (x : Follower) (place : ℕ) (metastates chains metastates′ chains′ : List ℕ)
+    : Type 0 where
+  pub put : metastates′
+      ≡ take (metastateSize half * place) metastates
+      ++ take (metastateSize half) (x .number ∷ x .met .columns)
+      ++ drop (metastateSize half * place + metastateSize half) metastates
+  pub linked : chains′ ≡ linkedTo (headsIn chains) chains place (keyOf (x .number ∷ x .met .columns))
+
 -- ---- connecting
 
 -- what connecting leaves and answers
-pub record Connected (states : ℕ) (metastates arcs : List ℕ) (outcome : Outcome Built) (answer : Build)
+pub record Connected (header : Header) (metastates arcs : List ℕ) (outcome : Outcome Built) (answer : Build)
     (metastates′ arcs′ : List ℕ) : Type 0 where
-  pub answers : answer ≡ buildOf states outcome
+  pub answers : answer ≡ buildOf (header .states) outcome
   pub metastate-words : (built : Built) → outcome ≡ answered built
-      → metastates′ ≡ padded (length metastates) (concatMap metastateWords (networkIn built .table))
+      → metastates′ ≡ padded (length metastates) (concatMap (metastateWords (header .half)) (networkIn built .table))
   pub arc-words : (built : Built) → outcome ≡ answered built
       → arcs′ ≡ padded (length arcs) (concatMap arcWords (networkIn built .arcs))
   pub metastates-sized : length metastates′ ≡ length metastates
   pub arcs-sized : length arcs′ ≡ length arcs
 
 -- the same with the space of combinations, and all cleared where it is refused
-pub record BuiltIn (states : ℕ) (combinations metastates arcs : List ℕ) (outcome : Outcome Built)
+pub record BuiltIn (header : Header) (combinations metastates arcs : List ℕ) (outcome : Outcome Built)
     (answer : Build) (combinations′ metastates′ arcs′ : List ℕ) : Type 0 where
-  pub answers : answer ≡ buildOf states outcome
+  pub answers : answer ≡ buildOf (header .states) outcome
   pub kept : (built : Built) → outcome ≡ answered built → combinations′ ≡ combinations
   pub metastate-words : (built : Built) → outcome ≡ answered built
-      → metastates′ ≡ padded (length metastates) (concatMap metastateWords (networkIn built .table))
+      → metastates′ ≡ padded (length metastates) (concatMap (metastateWords (header .half)) (networkIn built .table))
   pub arc-words : (built : Built) → outcome ≡ answered built
       → arcs′ ≡ padded (length arcs) (concatMap arcWords (networkIn built .arcs))
   pub combinations-cleared : (r : Refusal) → outcome ≡ refused r

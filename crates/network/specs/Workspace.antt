@@ -20,9 +20,9 @@ pub record Ready (header : Header) (nodes words ends metastates arcs : List ℕ)
 
 -- cleared words for chains, with more heads than the metastates have room for, cleared words for spans, and
 -- words for an index
-pub record Workspace (metastates chains spans index : List ℕ) : Type 0 where
+pub record Workspace (half : ℕ) (metastates chains spans index : List ℕ) : Type 0 where
   pub chains-clear : chains ≡ cleared (length chains)
-  pub heads : metastateRoom metastates < headsIn chains
+  pub heads : metastateRoom half metastates < headsIn chains
   pub slots : spanSize ≤ length spans
   pub spans-clear : spans ≡ cleared (length spans)
   pub ends-room : endsSize ≤ length index

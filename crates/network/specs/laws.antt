@@ -3,6 +3,7 @@
 -- the build as a whole; lent arcs and the arcs that leave a state.
 pub mod KnownArcs
 pub mod RecordWords
+pub mod CutRecords
 pub mod Keys
 pub mod Finding
 pub mod Linking

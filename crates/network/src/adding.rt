@@ -1,5 +1,5 @@
-// Adding arcs and metastates to a network within its room: 31 for a new metastate is judged before 32 for the
-// arc into it.
+// Adding arcs and metastates to a network within its room: 31 for a new metastate is judged before 32 for
+// the arc into it.
 use crate::Arcs;
 use crate::Follower;
 use crate::Sizes;
@@ -11,23 +11,20 @@ use crate::records::phone_of;
 use definitions::ARC_SIZE;
 use definitions::Fault;
 use definitions::Header;
-use definitions::METASTATE_SIZE;
+use definitions::sizes::metastate_size;
 use definitions::wide;
-use matrix::Matrix;
 use matrix::words::put_numbered;
-ghost use mathlib.Core.List.{[], _∷_, _++_};
+ghost use mathlib.Core.List.{[], _∷_};
 ghost use mathlib.Core.Path.{_≡_};
 ghost use Prim.Native.Nat.{_+_, _*_, _/_, _≤_, _<_, min};
 ghost use lib.Dec.{T, leb};
-ghost use lib.ListN.{length, take, drop};
+ghost use lib.ListN.{length, take};
 ghost use Rattle.definitions.specs.Arcs.{arcSize, lastState};
 ghost use Rattle.definitions.specs.ForeignTables.{headerKnown};
-ghost use Rattle.definitions.specs.Metastates.{metastateSize};
 ghost use Rattle.lines.specs.Putting.{putAt};
-ghost use Rattle.network.specs.Chains.{keyOf, headsIn, linkedTo};
-ghost use Rattle.network.specs.Networks.{arcRoom};
+ghost use Rattle.network.specs.Networks.{arcRoom, metastateRoom, HasPlace};
 ghost use Rattle.network.specs.Outcomes.{entered};
-ghost use Rattle.network.specs.Steps.{StepLeft, ArcsAppended, ArcAdded, intoArc};
+ghost use Rattle.network.specs.Steps.{StepLeft, ArcsAppended, ArcAdded, MetastateAdded, intoArc};
 ghost use Rattle.network.specs.Underway.{PlacedArc, Entering};
 
 // How many arcs the lent words have room for.
@@ -42,10 +39,10 @@ pub fn arc_room(words: usize) -> usize
 }
 
 // How many metastates the lent words have room for.
-fn metastate_room(words: usize) -> usize
-    ensures { λ r. ⌜ r ≡ min (words / metastateSize) 65535 ⌝ }
+pub fn metastate_room(half: u32, metastates: &[u64]) -> usize
+    ensures { λ r. ⌜ r ≡ metastateRoom half (now (metastates .entry)) ⌝ }
 {
-    let room = words / METASTATE_SIZE;
+    let room = metastates.len() / metastate_size(half);
     if 65535 < room {
         return 65535;
     }
@@ -102,8 +99,8 @@ pub fn last_state(header: Header, place: usize) -> u32
     last as u32
 }
 
-// Appends the arc from a state to the first state of the metastate at a place, with its first model and
-// phone.
+// Appends the arc from a state into the metastate at a place: to its first state, with its first model and
+// its phone.
 fn enter_at(
     header: Header,
     nodes: &[u32],
@@ -124,8 +121,8 @@ fn enter_at(
         return Step::Stop(Fault::Tangle);
     }
     let to = 2 + place * wide(header.states);
-    let model = model_of(nodes, combinations, number, 0);
-    let phone = phone_of(combinations, number);
+    let model = model_of(header.half, nodes, combinations, number, 0);
+    let phone = phone_of(header.half, combinations, number);
     put_arc(arcs, sizes.arcs, from, to as u32, model, phone);
     Step::Next(Sizes {
         metastates: sizes.metastates,
@@ -134,23 +131,25 @@ fn enter_at(
 }
 
 // Puts a new metastate at the end of the table and at the front of its chain.
-fn add_metastate(metastates: &mut [u64], chains: &mut [u32], place: usize, number: usize, m: Matrix)
-    requires { ⌜
-        (metastateSize * place + metastateSize ≤ length (now metastates))
-        × (place < headsIn (now chains)) × (place < 65535)
-        ⌝ }
-    ensures metastates { λ r. ⌜
-        now (metastates .exit)
-        ≡ take (metastateSize * place) (now (metastates .entry)) ++ (number ∷ m .columns)
-        ++ drop (metastateSize * place + metastateSize) (now (metastates .entry))
-        ⌝ }
-    ensures chains { λ r. ⌜
-        now (chains .exit)
-        ≡ linkedTo (headsIn (now (chains .entry))) (now (chains .entry)) place (keyOf (number ∷ m .columns))
+fn add_metastate(
+    half: u32,
+    metastates: &mut [u64],
+    chains: &mut [u32],
+    place: usize,
+    follower: Follower,
+)
+    requires { ⌜ HasPlace half (now metastates) (now chains) place ⌝ }
+    ensures { λ r. ⌜
+        MetastateAdded half follower place (now (metastates .entry)) (now (chains .entry))
+        (now (metastates .exit)) (now (chains .exit))
         ⌝ }
 {
-    put_numbered(metastates, METASTATE_SIZE * place, number as u64, m);
-    link(chains, place, number as u64, m);
+    let size = metastate_size(half);
+    let at = size * place;
+    let number = follower.number as u64;
+    let m = follower.met;
+    put_numbered(&mut metastates[at..at + size], 0, number, m);
+    link(chains, place, number, m);
 }
 
 // Appends the arc from a state into a metastate, which is added first if it is new.
@@ -178,7 +177,7 @@ pub fn enter(
 {
     let number = follower.number;
     let m = follower.met;
-    let used = METASTATE_SIZE * sizes.metastates;
+    let used = metastate_size(header.half) * sizes.metastates;
     let found = find(header.half, &metastates[..used], chains, number as u64, m);
     if found != 0 {
         return enter_at(
@@ -193,10 +192,10 @@ pub fn enter(
         );
     }
     let place = sizes.metastates;
-    if metastate_room(metastates.len()) <= place {
+    if metastate_room(header.half, metastates) <= place {
         return Step::Stop(Fault::Crowd);
     }
-    add_metastate(metastates, chains, place, number, m);
+    add_metastate(header.half, metastates, chains, place, follower);
     let next = Sizes {
         metastates: place + 1,
         arcs: sizes.arcs,

@@ -1,8 +1,8 @@
 // The build from lent tables into lent space: 18, then 30, then 31 or 32 as construction meets them.
 use crate::Build;
 use crate::connecting::connect;
-use definitions::COMBINATION_SIZE;
 use definitions::Header;
+use definitions::sizes::combination_size;
 use lines::clearing::clear_wide_words;
 use lines::clearing::clear_words;
 use metastates::Combined;
@@ -29,18 +29,19 @@ fn connect_in(
     limit: u32,
 ) -> Build
     requires { ⌜
-        (combinationSize * count ≤ length (now combinations))
-        × Ready header (now nodes) (take (combinationSize * count) (now combinations)) (now ends)
+        (combinationSize (header .half) * count ≤ length (now combinations))
+        × Ready header (now nodes) (take (combinationSize (header .half) * count) (now combinations)) (now ends)
         (now metastates) (now arcs)
         ⌝ }
     ensures { λ r. ⌜
-        BuiltIn (header .states) (now (combinations .entry)) (now (metastates .entry)) (now (arcs .entry))
-        (connectedIn header (now (nodes .entry)) (take (combinationSize * count) (now (combinations .entry)))
+        BuiltIn header (now (combinations .entry)) (now (metastates .entry)) (now (arcs .entry))
+        (connectedIn header (now (nodes .entry))
+        (take (combinationSize (header .half) * count) (now (combinations .entry)))
         (now (metastates .entry)) (now (arcs .entry)) limit)
         r (now (combinations .exit)) (now (metastates .exit)) (now (arcs .exit))
         ⌝ }
 {
-    let used = COMBINATION_SIZE * count;
+    let used = combination_size(header.half) * count;
     let answer = connect(
         header,
         nodes,

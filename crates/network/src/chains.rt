@@ -3,15 +3,17 @@
 // metastate's head is its key, cut to the number of heads. A key takes in the columns one by one, turned by 26 bits
 // for each, so that the phones of neighbouring columns seldom meet; its remainder by 65521, the largest prime below
 // 65536, spreads.
-use definitions::METASTATE_SIZE;
+use crate::records::record_at;
+use definitions::MOST_COLUMNS;
+use definitions::sizes::metastate_size;
 use definitions::wide;
 use matrix::Matrix;
 use matrix::words::is_numbered;
 ghost use mathlib.Core.List.{_∷_};
 ghost use mathlib.Core.Path.{_≡_};
-ghost use Prim.Native.Nat.{_<_};
+ghost use Prim.Native.Nat.{_≤_, _<_};
 ghost use Rattle.matrix.specs.Shapes.{widthOf, HasWidth};
-ghost use Rattle.network.specs.Chains.{elementsIn, keyOf, headOf, headsIn, linkedTo, Searchable, Found};
+ghost use Rattle.network.specs.Chains.{elementsIn, keyOf, headOf, headsIn, linkedTo, Findable, Found};
 ghost use Rattle.network.specs.Networks.{metastateWith, metastateCode};
 
 // The key of a metastate.
@@ -20,7 +22,7 @@ pub fn key_of(number: u64, m: Matrix) -> usize
 {
     let mut key = number;
     let mut c = 0;
-    while c < 7 {
+    while c < MOST_COLUMNS {
         key = (key << 26) ^ (key >> 38) ^ m.columns[c];
         c += 1;
     }
@@ -38,18 +40,19 @@ fn head_of(heads: usize, number: u64, m: Matrix) -> usize
 // The place of a metastate in the table, counted from 1, or 0 where it is new.
 pub fn find(half: u32, metastates: &[u64], chains: &[u32], number: u64, m: Matrix) -> usize
     requires { ⌜
-        Searchable (metastateCode half) (now metastates) (now chains) × HasWidth (widthOf half) (m .columns)
+        Findable (metastateCode half) (now metastates) (now chains) × HasWidth (widthOf half) (m .columns)
+        × (half ≤ 3)
         ⌝ }
     ensures { λ r. ⌜
         Found (metastateCode half) (elementsIn (metastateCode half) (now (metastates .entry)))
         (metastateWith half number (m .columns)) r
         ⌝ }
 {
+    let size = metastate_size(half);
     let heads = chains.len() / 2;
     let mut at = wide(chains[head_of(heads, number, m)]);
     while at != 0 {
-        let from = METASTATE_SIZE * (at - 1);
-        if is_numbered(&metastates[from..from + METASTATE_SIZE], number, m) {
+        if is_numbered(record_at(metastates, size, at - 1), number, m) {
             return at;
         }
         at = wide(chains[heads + at - 1]);

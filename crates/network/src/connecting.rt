@@ -9,8 +9,10 @@ use crate::Totals;
 use crate::Turn;
 use crate::adding::add_arcs;
 use crate::adding::last_state;
+use crate::adding::metastate_room;
 use crate::following::follow;
 use crate::indexing::fill_index;
+use crate::records::metastate_at;
 use crate::records::model_of;
 use crate::records::phone_of;
 use crate::repeating::follow_on;
@@ -18,7 +20,6 @@ use definitions::ARC_SIZE;
 use definitions::Counts;
 use definitions::Fault;
 use definitions::Header;
-use definitions::METASTATE_SIZE;
 use definitions::Refusal;
 use definitions::wide;
 use matrix::Matrix;
@@ -26,7 +27,6 @@ use matrix::sets::all_phones;
 use matrix::shaping::around;
 use matrix::shaping::shift;
 use matrix::testing::ends_here;
-use matrix::words::matrix_at;
 ghost use mathlib.Core.List.{List, [], _∷_, _++_};
 ghost use mathlib.Core.Path.{_≡_};
 ghost use Prim.Native.Nat.{_<_};
@@ -78,7 +78,7 @@ fn own_arcs(
     };
     let mut state = 1;
     while state < states {
-        let model = model_of(nodes, combinations, number, state);
+        let model = model_of(header.half, nodes, combinations, number, state);
         new = with_arc(new, first + state - 1, first + state, model);
         state += 1;
     }
@@ -101,7 +101,7 @@ fn plain_arcs(
         ⌝ }
 {
     let own = own_arcs(header, nodes, combinations, place, number);
-    if phone_of(combinations, number) != 1 {
+    if phone_of(header.half, combinations, number) != 1 {
         return own;
     }
     if !ends_here(m, header.half) {
@@ -136,10 +136,8 @@ fn expand(
 {
     let place = turn.place;
     let sizes = turn.sizes;
-    let from = METASTATE_SIZE * place;
-    let number = metastates[from] as usize;
-    let m = matrix_at(metastates, from + 1);
-    let new = plain_arcs(header, nodes, combinations, place, number, m);
+    let q = metastate_at(header.half, metastates, place);
+    let new = plain_arcs(header, nodes, combinations, place, q.number, q.met);
     if !add_arcs(arcs, sizes.arcs, new) {
         return Step::Stop(Fault::Tangle);
     }
@@ -147,7 +145,7 @@ fn expand(
         metastates: sizes.metastates,
         arcs: sizes.arcs + new.count,
     };
-    let shifted = shift(m, 2 * wide(header.half), all_phones(header.phones));
+    let shifted = shift(q.met, 2 * wide(header.half), all_phones(header.phones));
     follow_on(
         header,
         nodes,
@@ -199,11 +197,11 @@ fn start(
         metastates,
         arcs,
         chains,
-        none,
         Source {
             state: 0,
-            shifted: before,
+            sizes: none,
         },
+        before,
     )
 }
 
@@ -245,7 +243,7 @@ fn take_turns(
         (now chains) (now spans) sizes
         ⌝ }
     ensures { λ r. ⌜
-        Connected (header .states) (now (metastates .entry)) (now (arcs .entry))
+        Connected header (now (metastates .entry)) (now (arcs .entry))
         (turnedFrom header (now (nodes .entry)) (now (combinations .entry)) (now (metastates .entry))
         (now (arcs .entry)) sizes limit)
         r (now (metastates .exit)) (now (arcs .exit))
@@ -303,10 +301,10 @@ fn connect_with(
 ) -> Build
     requires { ⌜
         Ready header (now nodes) (now combinations) (now ends) (now metastates) (now arcs)
-        × Workspace (now metastates) (now chains) (now spans) (now index)
+        × Workspace (header .half) (now metastates) (now chains) (now spans) (now index)
         ⌝ }
     ensures { λ r. ⌜
-        Connected (header .states) (now (metastates .entry)) (now (arcs .entry))
+        Connected header (now (metastates .entry)) (now (arcs .entry))
         (connectedIn header (now (nodes .entry)) (now (combinations .entry)) (now (metastates .entry))
         (now (arcs .entry)) limit)
         r (now (metastates .exit)) (now (arcs .exit))
@@ -348,13 +346,13 @@ pub fn connect(
 ) -> Build
     requires { ⌜ Ready header (now nodes) (now combinations) (now ends) (now metastates) (now arcs) ⌝ }
     ensures { λ r. ⌜
-        Connected (header .states) (now (metastates .entry)) (now (arcs .entry))
+        Connected header (now (metastates .entry)) (now (arcs .entry))
         (connectedIn header (now (nodes .entry)) (now (combinations .entry)) (now (metastates .entry))
         (now (arcs .entry)) limit)
         r (now (metastates .exit)) (now (arcs .exit))
         ⌝ }
 {
-    if metastates.len() < 32768 {
+    if metastate_room(header.half, metastates) < 4096 {
         let mut chains = [0u32; 8192];
         let mut few = [0u32; 12288];
         let mut short = [0u64; 4096];

@@ -1,18 +1,16 @@
-// The combinations whose matrices meet a shifted matrix validly, and the arcs to the metastates that they
-// give.
+// The combinations whose matrices meet a shifted matrix validly, and the arcs to the metastates they give.
 use crate::Follower;
-use crate::Sizes;
 use crate::Source;
 use crate::Step;
 use crate::adding::enter;
 use crate::indexing::next_member;
+use crate::records::count_of;
 use crate::records::matrix_of;
 use crate::records::meets;
 use crate::records::phone_of;
 use crate::rows::Rows;
 use crate::rows::next_marked;
 use crate::rows::rows_for;
-use definitions::COMBINATION_SIZE;
 use definitions::Header;
 use definitions::wide;
 use matrix::Matrix;
@@ -36,10 +34,10 @@ fn follows(header: Header, combinations: &[u64], number: usize, shifted: Matrix)
         ⌝ }
 {
     let centre = shifted.columns[wide(header.half)];
-    if !has_phone(centre, phone_of(combinations, number)) {
+    if !has_phone(centre, phone_of(header.half, combinations, number)) {
         return false;
     }
-    meets(combinations, number, shifted, 2 * wide(header.half) + 1)
+    meets(header.half, combinations, number, shifted)
 }
 
 // Where to look after a combination: at the next, or, where the centre lacks its phone, at the first of the
@@ -58,13 +56,13 @@ fn after(
         ⌝ }
 {
     let centre = shifted.columns[wide(header.half)];
-    let phone = phone_of(combinations, number);
+    let phone = phone_of(header.half, combinations, number);
     if has_phone(centre, phone) {
         return number + 1;
     }
     let next = next_member(centre, phone + 1);
     if header.phones < next {
-        return combinations.len() / COMBINATION_SIZE;
+        return count_of(header.half, combinations);
     }
     index[wide(next) - 1] as usize
 }
@@ -85,7 +83,7 @@ fn next_follower(
         (combinationsIn header (now (combinations .entry))) from r
         ⌝ }
 {
-    let count = combinations.len() / COMBINATION_SIZE;
+    let count = count_of(header.half, combinations);
     let mut number = next_marked(index, rows, from, count);
     while number < count {
         if follows(header, combinations, number, shifted) {
@@ -106,27 +104,27 @@ pub fn follow(
     metastates: &mut [u64],
     arcs: &mut [u32],
     chains: &mut [u32],
-    sizes: Sizes,
     source: Source,
+    shifted: Matrix,
 ) -> Step
     requires { ⌜
         Following header (now nodes) (now combinations) (now index) (now metastates) (now arcs)
-        (now chains) sizes (source .shifted .columns)
+        (now chains) (source .sizes) (shifted .columns)
         ⌝ }
     ensures { λ r. ⌜
         StepLeft header (now (combinations .entry)) (now (metastates .entry)) (now (arcs .entry))
         (now (chains .entry))
         (followedFrom header (now (nodes .entry)) (now (combinations .entry)) (now (metastates .entry))
-        (now (arcs .entry)) sizes (source .state) (source .shifted .columns))
+        (now (arcs .entry)) (source .sizes) (source .state) (shifted .columns))
         r (now (metastates .exit)) (now (arcs .exit)) (now (chains .exit))
         ⌝ }
 {
-    let shifted = source.shifted;
     let rows = rows_for(header, combinations, index, shifted);
-    let mut now = sizes;
+    let count = count_of(header.half, combinations);
+    let mut now = source.sizes;
     let mut number = next_follower(header, combinations, index, rows, 0, shifted);
-    while number < combinations.len() / COMBINATION_SIZE {
-        let own = matrix_of(combinations, number);
+    while number < count {
+        let own = matrix_of(header.half, combinations, number);
         let met = meet(shifted, own);
         let step = enter(
             header,

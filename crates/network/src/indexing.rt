@@ -2,17 +2,18 @@
 // There is a row for each column left of the centre and each phone; it has a bit for each combination, set
 // where that column has the phone. Each word of a row is a set of places, 1 to 64. What has no room in the
 // index is left out.
+use crate::records::count_of;
 use crate::records::record_at;
-use definitions::COMBINATION_SIZE;
 use definitions::Header;
+use definitions::sizes::combination_size;
 use definitions::wide;
 use matrix::sets::alone;
 ghost use mathlib.Core.Path.{_≡_};
-ghost use Prim.Native.Nat.{_/_, _≤_};
+ghost use Prim.Native.Nat.{_≤_};
 ghost use lib.ListN.{length};
-ghost use Rattle.definitions.specs.Combinations.{combinationSize};
 ghost use Rattle.network.specs.Filling.{Narrow, InRows, Markable, Fillable, PlaceMarked, PhonesMarked};
 ghost use Rattle.network.specs.Filling.{ColumnsMarked, CombinationsMarked, Noted, Filled};
+ghost use Rattle.network.specs.RecordWords.{countIn};
 ghost use Rattle.network.specs.Indexing.{endsSize, blocksIn, rowAt, farthest, NearRow, NextMember};
 
 // How many combinations have their bits in one word, and how many words the ends take.
@@ -37,10 +38,10 @@ pub fn next_member(set: u64, from: u32) -> u32
 }
 
 // How many words a row takes.
-pub fn blocks_in(combinations: &[u64]) -> usize
-    ensures { λ r. ⌜ r ≡ blocksIn (now (combinations .entry)) ⌝ }
+pub fn blocks_in(half: u32, combinations: &[u64]) -> usize
+    ensures { λ r. ⌜ r ≡ blocksIn half (now (combinations .entry)) ⌝ }
 {
-    combinations.len() / COMBINATION_SIZE / BLOCK_SIZE + 1
+    count_of(half, combinations) / BLOCK_SIZE + 1
 }
 
 // Where the row of a column and a phone begins.
@@ -94,36 +95,30 @@ fn mark_columns(
 )
     requires { ⌜ Markable header (now combinations) blocks number ⌝ }
     ensures { λ r. ⌜
-        ColumnsMarked (header .phones) blocks (now (combinations .entry)) number (now (index .entry))
+        ColumnsMarked header blocks (now (combinations .entry)) number (now (index .entry))
         (header .half) (now (index .exit))
         ⌝ }
 {
-    let record = record_at(combinations, COMBINATION_SIZE, number);
+    let record = record_at(combinations, combination_size(header.half), number);
     let mut column = 0;
     while column < wide(header.half) {
-        mark_column(
-            header,
-            blocks,
-            number,
-            column,
-            record[4 + column],
-            index,
-        );
+        mark_column(header, blocks, number, column, record[4 + column], index);
         column += 1;
     }
 }
 
 // Sets the bits of all combinations.
 fn mark_all(header: Header, combinations: &[u64], index: &mut [u64])
-    requires { ⌜ Narrow header × (length (now combinations) / combinationSize ≤ 65535) ⌝ }
+    requires { ⌜ Narrow header × (countIn (header .half) (now combinations) ≤ 65535) ⌝ }
     ensures { λ r. ⌜
         CombinationsMarked header (now (combinations .entry)) (now (index .entry))
-        (length (now (combinations .entry)) / combinationSize) (now (index .exit))
+        (countIn (header .half) (now (combinations .entry))) (now (index .exit))
         ⌝ }
 {
-    let blocks = blocks_in(combinations);
+    let blocks = blocks_in(header.half, combinations);
+    let count = count_of(header.half, combinations);
     let mut number = 0;
-    while number < combinations.len() / COMBINATION_SIZE {
+    while number < count {
         mark_columns(header, combinations, blocks, number, index);
         number += 1;
     }

@@ -47,17 +47,16 @@ enum Step {
     Stop(Fault),
 }
 
-// A combination that follows, and the matrix that it meets the shifted matrix in: the metastate that arcs
-// lead to.
+// A combination that follows, and the matrix that it meets the shifted matrix in: a metastate to enter.
 struct Follower {
     number: usize,
     met: Matrix,
 }
 
-// Where arcs to followers leave from: a state, and the matrix that a combination must meet to follow.
+// Where arcs leave from: a state, and how large the network is by now.
 struct Source {
     state: u32,
-    shifted: Matrix,
+    sizes: Sizes,
 }
 
 // A metastate whose turn it is: its place, and how large the network is before.

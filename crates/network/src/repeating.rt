@@ -12,15 +12,16 @@ use crate::adding::last_state;
 use crate::adding::put_arc;
 use crate::chains::key_of;
 use crate::following::follow;
+use crate::records::metastate_at;
 use definitions::ARC_SIZE;
 use definitions::Fault;
 use definitions::Header;
-use definitions::METASTATE_SIZE;
+use definitions::MOST_COLUMNS;
+use definitions::sizes::metastate_size;
 use definitions::wide;
 use matrix::Matrix;
 use matrix::sets::all_phones;
 use matrix::shaping::shift;
-use matrix::words::matrix_at;
 ghost use mathlib.Core.Path.{_≡_};
 ghost use Prim.Native.Nat.{_+_, _*_, _≤_, _<_};
 ghost use lib.ListN.{length};
@@ -42,7 +43,7 @@ fn alike(a: Matrix, b: Matrix) -> bool
     ensures { λ r. ⌜ r ≡ same (a .columns) (b .columns) ⌝ }
 {
     let mut c = 0;
-    while c < 7 {
+    while c < MOST_COLUMNS {
         if a.columns[c] != b.columns[c] {
             return false;
         }
@@ -107,12 +108,12 @@ fn repeats(header: Header, metastates: &[u64], spans: &[u32], slot: usize, shift
     if place == 0 {
         return false;
     }
-    if metastates.len() / METASTATE_SIZE < place {
+    if metastates.len() / metastate_size(header.half) < place {
         return false;
     }
-    let m = matrix_at(metastates, METASTATE_SIZE * (place - 1) + 1);
+    let q = metastate_at(header.half, metastates, place - 1);
     let all = all_phones(header.phones);
-    alike(shift(m, 2 * wide(header.half), all), shifted)
+    alike(shift(q.met, 2 * wide(header.half), all), shifted)
 }
 
 // The slot for a shifted matrix: where it is noted, or the first empty one of the next few, or else the one
@@ -190,11 +191,8 @@ pub fn follow_on(
         metastates,
         arcs,
         chains,
-        sizes,
-        Source {
-            state: from,
-            shifted,
-        },
+        Source { state: from, sizes },
+        shifted,
     );
     match step {
         Step::Next(next) => {

@@ -47,7 +47,7 @@ fn row_for(
     if set != alone(phone) {
         return index.len();
     }
-    row_at(header, blocks_in(combinations), column, phone)
+    row_at(header, blocks_in(header.half, combinations), column, phone)
 }
 
 // The rows for a matrix.

@@ -2,10 +2,9 @@
 use crate::Output;
 use builder::building::build_book;
 use definitions::ARC_SIZE;
-use definitions::COMBINATION_SIZE;
 use definitions::Counts;
 use definitions::Fault;
-use definitions::METASTATE_SIZE;
+use definitions::MOST_COLUMNS;
 use definitions::NODE_SIZE;
 use definitions::Refusal;
 use definitions::number;
@@ -64,8 +63,8 @@ fn print_built(text: &[u8], output: &mut [u8]) -> usize
     let mut nodes = [0u32; 1024 * NODE_SIZE];
     let mut classes = [0u64; 255];
     let mut roots = [0u32; 192];
-    let mut combinations = [0u64; 512 * COMBINATION_SIZE];
-    let mut metastates = [0u64; 512 * METASTATE_SIZE];
+    let mut combinations = [0u64; 512 * (4 + MOST_COLUMNS)];
+    let mut metastates = [0u64; 512 * (1 + MOST_COLUMNS)];
     let mut arcs = [0u32; 2000 * ARC_SIZE];
     let answer = build_book(
         text,

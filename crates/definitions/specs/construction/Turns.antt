@@ -12,6 +12,7 @@ use Rattle.definitions.specs.Faults.{answered}
 use Rattle.definitions.specs.Tables.{Tables, tablesBook}
 use Rattle.definitions.specs.Combinations.{combine}
 use Rattle.definitions.specs.Arcs.{Arc}
+use Rattle.definitions.specs.Matrices.{matrixSize}
 use Rattle.definitions.specs.Growing.{Grown, Event, plain, enter, Machine, placeFrom, Room, addArc}
 use Rattle.definitions.specs.Growing.{addBoth, Done, stopped, grownIn, begun, perform, performAll}
 use Rattle.definitions.specs.Growing.{expand, grow}
@@ -106,16 +107,16 @@ connected-room room rules = grown-room (connecting rules) metastates-told room (
 
 -- a build with a turn for each metastate that has room is never stopped
 pub build-never-stopped : (header : Header) (tables : Tables) (space : Space) (limit : ℕ)
-    → roomIn space .table ≤ limit
+    → roomIn (header .half) space .table ≤ limit
     → (done : ℕ) (last : Network) → build header tables space limit ≡ answered (stopped done last) → ⊥
 unfolding build
 build-never-stopped header tables space limit l done last e =
     let (found, combines, connects) = andThen-answered (combine header tables (space .combinations)) _ _ e in
     let rules : Rules = rulesOf (tablesBook header tables) found in
-    never-stopped (connecting rules) metastates-told (roomIn space) (none-room (roomIn space)) limit l done last
-    connects
+    let room : Room = roomIn (header .half) space in
+    never-stopped (connecting rules) metastates-told room (none-room room) limit l done last connects
 
 pub program-never-stopped : (header : Header) (tables : Tables) (done : ℕ) (last : Network)
     → build header tables programSpace programTurns ≡ answered (stopped done last) → ⊥
-unfolding roomIn
+unfolding roomIn matrixSize
 program-never-stopped header tables = build-never-stopped header tables programSpace programTurns (lit≤ tt)

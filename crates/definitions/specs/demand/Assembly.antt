@@ -46,7 +46,7 @@ module _ (header : Header) (tables : Tables) (space : Space) where
       combined found combines .0
 
   pub build-connects : (limit : ℕ) (built : Built) → build header tables space limit ≡ answered built
-      → connect (bookRules (tablesBook header tables)) (roomIn space) limit ≡ answered built
+      → connect (bookRules (tablesBook header tables)) (roomIn (header .half) space) limit ≡ answered built
   unfolding build
   build-connects limit built e =
       let choices = combine header tables (space .combinations) in
@@ -70,7 +70,7 @@ module _ (lent : Lent) (text : List ℕ) (lines : List BookLine) (accepted : rea
     pub built-from : BuiltFrom (bookOf lines) net
     built-from = record {
       sound = accepted-sound lent text lines accepted;
-      room = roomIn space;
+      room = roomIn (headerOf lines .half) space;
       limit = limit;
       turns = turns;
       connects =

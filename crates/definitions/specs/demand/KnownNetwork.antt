@@ -105,16 +105,16 @@ module _ (book : Book) (sound : Sound book) (few-states : book .states ≤ 3) (f
         first (x ∷ ws) way = (x, way .0)
 
     pub connected-known : (space : Space) (limit : ℕ) (built : Built)
-        → connect (bookRules book) (roomIn space) limit ≡ answered built
+        → connect (bookRules book) (roomIn (book .half) space) limit ≡ answered built
         → T (networkKnown (countsIn (book .states) (networkIn built))
         (buffersOf book space (networkIn built) .arcs))
     unfolding countsIn buffersOf roomIn
     connected-known space limit built e =
         let net : Network = networkIn built in
-        let (turns, left) = build-expanded (bookRules book) (roomIn space) limit built e in
-        let room = connected-room (roomIn space) (bookRules book) limit built e in
+        let (turns, left) = build-expanded (bookRules book) (roomIn (book .half) space) limit built e in
+        let room = connected-room (roomIn (book .half) space) (bookRules book) limit built e in
         let fits : ((x : Metastate) → isIn x (net .table) → MetastateFits (bookRules book) x) =
-        λ x h. constructed-fits x (table-constructed book sound (roomIn space) limit built e x h) in
+        λ x h. constructed-fits x (table-constructed book sound (roomIn (book .half) space) limit built e x h) in
         let done : List Metastate = take turns (net .table) in
         let (start, starting) = some-start in
         let (metastates, arcs) = some-there (bookRules book) done net left start starting in

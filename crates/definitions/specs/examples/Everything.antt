@@ -22,7 +22,8 @@ use Rattle.definitions.specs.ForeignTables.{rootTableKnown, namedOnce, t
 use Rattle.definitions.specs.Lookup.{modelAt, answers, walk, reached, lookupKnown, isContext}
 use Rattle.definitions.specs.Lookup.{leafLookup, leafLookupInTable}
 use Rattle.definitions.specs.PhoneSets.{has, alone, allPhones, without, setOf}
-use Rattle.definitions.specs.Matrices.{matrixWords, rootMatrix, yesSide, noSide, valid, meet, shift}
+use Rattle.definitions.specs.Matrices.{matrixWords, matrixSize, matrixRecord, rootMatrix, yesSide, noSide}
+use Rattle.definitions.specs.Matrices.{valid, meet, shift}
 use Rattle.definitions.specs.Matrices.{startCut, endsHere}
 use Rattle.definitions.specs.Tables.{rootOf, bookIn, contentsOf, tablesContents}
 use Rattle.definitions.specs.Combinations.{leavesBelow, isBefore, insertLeaf, ascending}
@@ -76,5 +77,5 @@ unfolding every atLeastOne firstWhere mapOption select lastPasses concatMap upFr
     networkText writeNetwork windows around contextsWithin rootLine nodeLine putInClass answersByLines
     walkByLines reachedByLines modelGiven together modelsAlong treesGive silentEnds modelOf transcription
     isUtterance transcribe buildRead buildBook tablesAfter buffersAfter textOfBuilt networkOf refusalText
-    printed program addElement grow grownIn finalLast
+    printed program addElement grow grownIn finalLast matrixSize matrixRecord
 everything = tt

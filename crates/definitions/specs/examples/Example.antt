@@ -72,12 +72,12 @@ lent = record { nodes = nodeSize * 4; classes = 1; roots = 2 }
 unfoldable pub tables : Tables
 tables = tablesLeft lent (readBook lent input)
 
--- space for so many combinations, metastates and arcs
+-- space for so many combinations, metastates and arcs, in records of the example
 unfoldable pub spaceFor : (combinations metastates arcs : ℕ) → Space
 spaceFor combinations metastates arcs =
     record {
-      combinations = combinationSize * combinations;
-      metastates = metastateSize * metastates;
+      combinations = combinationSize 1 * combinations;
+      metastates = metastateSize 1 * metastates;
       arcs = arcSize * arcs;
     }
 

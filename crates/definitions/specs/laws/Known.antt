@@ -257,7 +257,9 @@ module _ (lent : Lent) (text : List ℕ) (lines : List BookLine) (e : readBook l
   -- so nothing but too many combinations is refused where an accepted book's tables are combined
   pub accepted-not-foreign : (space : ℕ)
       → combine (headerOf lines) (tablesLeft lent (readBook lent text)) space
-      ≡ judge 0 (Choices unless leb (length (combinations (bookOf lines))) (combinationRoom space) ∷ [])
+      ≡ judge 0
+      (Choices unless leb (length (combinations (bookOf lines))) (combinationRoom (headerOf lines .half) space)
+      ∷ [])
       (answered (combinations (bookOf lines)))
   unfolding combine judge
   accepted-not-foreign space =

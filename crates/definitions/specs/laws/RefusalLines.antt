@@ -211,7 +211,7 @@ unfolding build combine
 build-line header tables space limit =
     steps-lines 0 (combine header tables (space .combinations)) _
     (judge-lines 0 0 _ (answered (combinations (tablesBook header tables))) (omega arith) tt)
-    (λ found. grow-line (machineOf (tablesBook header tables) found) (roomIn space) limit)
+    (λ found. grow-line (machineOf (tablesBook header tables) found) (roomIn (header .half) space) limit)
 
 -- ---- reading and building
 

@@ -11,7 +11,7 @@ use lib.ListN.{length, take, drop, List·getD-eq-default}
 use lib.Seq.{take-all, length-take-le, getD-drop, getD-take}
 use borrow.Author.Tests.{leb-true, leb-false, eqb-true, eqb-false}
 use Rattle.definitions.specs.Lists.{_!_, every}
-use Rattle.definitions.specs.Matrices.{Matrix, matrixSize, meet, valid}
+use Rattle.definitions.specs.Matrices.{Matrix, mostColumns, meet, valid}
 use Rattle.definitions.specs.laws.Matrices.{meet-column}
 use Rattle.definitions.specs.laws.Members.{in-at, in-every}
 use Rattle.definitions.specs.laws.Tests.{by-test}
@@ -22,27 +22,27 @@ module _ (m : Matrix) (words : List ℕ) (from : ℕ) where
   abbrev pub metAt : Matrix
   metAt = meet m (firstSeven (drop from words))
 
-  pub met-column : (c : ℕ) → c < matrixSize → metAt ! c ≡ bitAnd (m ! c) (words ! (from + c))
+  pub met-column : (c : ℕ) → c < mostColumns → metAt ! c ≡ bitAnd (m ! c) (words ! (from + c))
   met-column c h =
       meet-column m (firstSeven (drop from words)) c
       ∙ ap (bitAnd (m ! c)) (sym (seven-at (drop from words) c h) ∙ getD-drop from words c 0)
 
-  module _ (sized : length m ≡ matrixSize) where
-    pub met-sized : length metAt ≡ matrixSize
-    met-sized = meet-sized matrixSize m (firstSeven (drop from words)) sized (seven-length (drop from words))
+  module _ (sized : length m ≡ mostColumns) where
+    pub met-sized : length metAt ≡ mostColumns
+    met-sized = meet-sized mostColumns m (firstSeven (drop from words)) sized (seven-length (drop from words))
 
     -- there are no more than seven columns
-    pub met-cut : (width end : ℕ) → end ≡ min width matrixSize → take end metAt ≡ take width metAt
-    met-cut width end e = by-test (leb width matrixSize)
+    pub met-cut : (width end : ℕ) → end ≡ min width mostColumns → take end metAt ≡ take width metAt
+    met-cut width end e = by-test (leb width mostColumns)
         (λ t.
-        let all : end ≡ width = omega (arith, leb-true width matrixSize t) in
+        let all : end ≡ width = omega (arith, leb-true width mostColumns t) in
         ap (λ (n : ℕ). take n metAt) all)
         (λ t.
-        let more = leb-false width matrixSize t in
+        let more = leb-false width mostColumns t in
         take-all end metAt (omega (arith, met-sized)) ∙ sym (take-all width metAt (omega (arith, met-sized))))
 
     -- a word that is not there makes an empty column
-    module _ (end : ℕ) (few : end ≤ matrixSize) (short : length words < from + end) where
+    module _ (end : ℕ) (few : end ≤ mostColumns) (short : length words < from + end) where
       abbrev missing : ℕ
       missing = length words - from
 

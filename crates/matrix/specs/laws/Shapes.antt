@@ -11,7 +11,7 @@ use lib.Seq.{length-take-le, take-all, getD-at, getD-append-add, getD-take, getD
 use borrow.Author.Tests.{eqb-true, eqb-false, ltb-true, ltb-false, le-leb, lt-ltb, le-ltb, eq-eqb, ne-eqb}
 use Rattle.definitions.specs.Lists.{if_then_else_, _!_}
 use Rattle.definitions.specs.PhoneSets.{alone, allPhones}
-use Rattle.definitions.specs.Matrices.{Matrix, matrixSize, matrixWords, rootMatrix, shift}
+use Rattle.definitions.specs.Matrices.{Matrix, mostColumns, matrixWords, rootMatrix, shift}
 use Rattle.definitions.specs.laws.Tests.{by-test}
 use Rattle.definitions.specs.laws.Lists.{map-upFrom-length, map-upFrom-at}
 use Rattle.definitions.specs.laws.SevenWords.{words-length, words-shift}
@@ -41,11 +41,11 @@ module _ (half left centre right : ℕ) where
   around-length = simp (length-append, length-replicate) (omega arith)
 
   pub around-words : half ≤ 3
-      → take matrixSize (matrixWords (columnsAround half left centre right))
+      → take mostColumns (matrixWords (columnsAround half left centre right))
       ≡ matrixWords (columnsAround half left centre right)
   around-words h =
       let m : Matrix = columnsAround half left centre right in
-      take-all matrixSize (matrixWords m) (omega (arith, words-length m (omega (arith, around-length))))
+      take-all mostColumns (matrixWords m) (omega (arith, words-length m (omega (arith, around-length))))
 
   -- the columns, by place
   pub around-left : (column : ℕ) → column < half → left ≡ columnsAround half left centre right ! column
@@ -70,13 +70,13 @@ module _ (half left centre right : ℕ) where
       (omega (arith, around-length)))
 
   -- the seven words
-  pub around-seven : length (take matrixSize (matrixWords (columnsAround half left centre right))) ≡ matrixSize
+  pub around-seven : length (take mostColumns (matrixWords (columnsAround half left centre right))) ≡ mostColumns
   unfolding matrixWords
   around-seven = seven-length (columnsAround half left centre right)
 
-  pub around-at : (column : ℕ) → column < matrixSize
+  pub around-at : (column : ℕ) → column < mostColumns
       → columnsAround half left centre right ! column
-      ≡ take matrixSize (matrixWords (columnsAround half left centre right)) ! column
+      ≡ take mostColumns (matrixWords (columnsAround half left centre right)) ! column
   unfolding matrixWords
   around-at column h = seven-at (columnsAround half left centre right) column h
 
@@ -84,7 +84,7 @@ module _ (half left centre right : ℕ) where
 pub root-shaped : (half phones p : ℕ) → half ≤ 3 → phones ≤ 64 → p ≤ phones
     → {all centre : ℕ} {columns : List ℕ} → all ≡ allPhones (min phones 64)
     → centre ≡ (if leb p 64 then alone p else 0)
-    → columns ≡ take matrixSize (matrixWords (columnsAround half all centre all))
+    → columns ≡ take mostColumns (matrixWords (columnsAround half all centre all))
     → columns ≡ matrixWords (rootMatrix half phones p)
 root-shaped half phones p narrow few high {all} {centre} a e s =
     let most : min phones 64 ≡ phones = omega arith in
@@ -113,18 +113,18 @@ module _ (last all : ℕ) (columns : List ℕ) where
       → 0 ≡ shiftedColumn last all columns column
   shifted-end column h k = sym (List·getD-eq-default columns 0 {n = suc column} k) ∙ shifted-next column h
 
-  pub shifted-length : length (shiftedWords last all columns) ≡ matrixSize
+  pub shifted-length : length (shiftedWords last all columns) ≡ mostColumns
   unfolding shiftedWords
-  shifted-length = map-upFrom-length (shiftedColumn last all columns) 0 matrixSize
+  shifted-length = map-upFrom-length (shiftedColumn last all columns) 0 mostColumns
 
-  pub shifted-at : (column : ℕ) → column < matrixSize
+  pub shifted-at : (column : ℕ) → column < mostColumns
       → shiftedColumn last all columns column ≡ shiftedWords last all columns ! column
   unfolding shiftedWords
   shifted-at column h =
-      sym (map-upFrom-at (shiftedColumn last all columns) 0 matrixSize column column h (omega arith))
+      sym (map-upFrom-at (shiftedColumn last all columns) 0 mostColumns column column h (omega arith))
 
 -- the shift of seven words, part by part
-module _ (last all : ℕ) (words : List ℕ) (e : length words ≡ matrixSize) (h : last < matrixSize) where
+module _ (last all : ℕ) (words : List ℕ) (e : length words ≡ mostColumns) (h : last < mostColumns) where
   parts : List ℕ
   parts = take last (drop 1 words) ++ (all ∷ drop (suc last) words)
 
@@ -158,7 +158,7 @@ module _ (last all : ℕ) (words : List ℕ) (e : length words ≡ matrixSize) (
       (λ t. by-test (eqb c last) (λ u. parts-last c (eqb-true c last u))
       (λ u. parts-back c (omega (arith, ltb-false c last t, eqb-false c last u))))
 
-  parts-length : length parts ≡ matrixSize
+  parts-length : length parts ≡ mostColumns
   unfolding parts
   parts-length = simp (length-append, front-length, length-drop) (omega arith)
 
@@ -169,7 +169,7 @@ module _ (last all : ℕ) (words : List ℕ) (e : length words ≡ matrixSize) (
       (λ c l. sym (shifted-at last all words c (omega (arith, shifted-length last all words))) ∙ parts-at c)
 
 -- the shift of a matrix's words is that of the matrix
-pub shift-words : (phones last : ℕ) (m : Matrix) → last < matrixSize → length m ≡ suc last
+pub shift-words : (phones last : ℕ) (m : Matrix) → last < mostColumns → length m ≡ suc last
     → shiftedWords last (allPhones phones) (matrixWords m) ≡ matrixWords (shift phones m)
 shift-words phones last m h e =
     shifted-parts last (allPhones phones) (matrixWords m) (words-length m (omega arith)) h

@@ -6,7 +6,7 @@ use Prim.Native.Nat.{ℕ, _≤_}
 use native.Mathlib.Omega.{arith}
 use lib.ListN.{length, take, length-take}
 use lib.Seq.{length-take-le}
-use Rattle.definitions.specs.Matrices.{Matrix, matrixSize, matrixWords, meet}
+use Rattle.definitions.specs.Matrices.{Matrix, mostColumns, matrixWords, meet}
 use Rattle.definitions.specs.laws.Matrices.{meet-length}
 use Rattle.definitions.specs.laws.SevenWords.{words-length, words-take, words-meet}
 use Rattle.matrix.specs.Shapes.{HasWidth}
@@ -19,7 +19,7 @@ module _ (m : Matrix) {width : ℕ} (e : length m ≡ width) {columns : List ℕ
   pub has-width : HasWidth width columns
   has-width = w ∙ ap matrixWords (sym matrix-back)
 
-module _ {width : ℕ} (narrow : width ≤ matrixSize) {columns : List ℕ} (w : HasWidth width columns) where
+module _ {width : ℕ} (narrow : width ≤ mostColumns) {columns : List ℕ} (w : HasWidth width columns) where
   pub width-taken : length (take width columns) ≡ width
   width-taken =
       let seven = ap length w ∙ words-length (take width columns) (simp length-take (omega arith)) in

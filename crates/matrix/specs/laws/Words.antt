@@ -1,17 +1,18 @@
 -- Laws about words that a loop writes: the seven words of a matrix, and words written from a place on over others.
 -- The proofs of the functions that do so use them.
-use mathlib.Core.Path.{_≡_, refl, sym, ap, _∙_}
-use mathlib.Core.List.{List, [], _∷_, _++_}
-use Prim.Native.Nat.{ℕ, zero, suc, _+_, _-_, _≤_, _<_}
+use mathlib.Core.Path.{_≡_, refl, sym, ap, ap₂, _∙_}
+use mathlib.Core.List.{List, [], _∷_, _++_, append-nil}
+use Prim.Native.Nat.{ℕ, zero, suc, _+_, _-_, _*_, _≤_, _<_}
 use native.Mathlib.Omega.{arith}
 use native.Mathlib.Numerals.{add-one}
 use lib.ListN.{length-set, length, set, take, drop, length-append, length-drop, length-replicate}
 use lib.ListN.{take-append-drop, drop-of-length-le}
 use lib.Seq.{paste, paste-zero, paste-suc, take-append-le, length-take-le, take-all, drop-append-add, getD-take}
 use Rattle.definitions.specs.Lists.{_!_, cleared, padded}
-use Rattle.definitions.specs.Matrices.{matrixSize}
+use Rattle.definitions.specs.Matrices.{Matrix, mostColumns, matrixWords, matrixRecord}
 use Rattle.definitions.specs.laws.Lists.{drop-cleared}
-use Rattle.definitions.specs.laws.SevenWords.{padded-column}
+use Rattle.definitions.specs.laws.SevenWords.{padded-column, words-length}
+use Rattle.definitions.specs.laws.Sizes.{record-value}
 use Rattle.lines.specs.laws.Filling.{Filled, filled-more, filled-end}
 use Rattle.matrix.specs.Words.{overwritten}
 
@@ -29,47 +30,54 @@ filled-rest {t} {d} {s} {i} f e = f .holds ∙ rw (← e) (take-append-drop i t)
 
 -- the first c of them are those of t
 abbrev pub Columns : (t : List ℕ) → (c : ℕ) → (s : List ℕ) → Type 0
-Columns t c s = Filled t (cleared matrixSize) c s
+Columns t c s = Filled t (cleared mostColumns) c s
 
-module _ {t s : List ℕ} {c : ℕ} (e : length t ≡ matrixSize) (f : Columns t c s) where
-  pub columns-more : {v : ℕ} → c < matrixSize → v ≡ t ! c → Columns t (c + 1) (set s c v)
+module _ {t s : List ℕ} {c : ℕ} (e : length t ≡ mostColumns) (f : Columns t c s) where
+  pub columns-more : {v : ℕ} → c < mostColumns → v ≡ t ! c → Columns t (c + 1) (set s c v)
   columns-more h q = filled-more e f (omega (arith, f .sized)) q
 
-  pub columns-end : matrixSize ≤ c → s ≡ t
+  pub columns-end : mostColumns ≤ c → s ≡ t
   columns-end h = filled-end e f (omega (arith, f .sized))
 
 -- ---- the seven words that words begin, 0 where there are no more
 
 abbrev pub firstSeven : (words : List ℕ) → List ℕ
-firstSeven words = take matrixSize (padded matrixSize words)
+firstSeven words = take mostColumns (padded mostColumns words)
 
-pub seven-length : (words : List ℕ) → length (firstSeven words) ≡ matrixSize
+pub seven-length : (words : List ℕ) → length (firstSeven words) ≡ mostColumns
 unfolding padded
 seven-length words =
-    length-take-le matrixSize (padded matrixSize words)
+    length-take-le mostColumns (padded mostColumns words)
     (simp (length-append, length-replicate) (omega arith))
 
-pub seven-at : (words : List ℕ) (c : ℕ) → c < matrixSize → words ! c ≡ firstSeven words ! c
+pub seven-at : (words : List ℕ) (c : ℕ) → c < mostColumns → words ! c ≡ firstSeven words ! c
 seven-at words c h =
-    sym (getD-take matrixSize (padded matrixSize words) c 0 h ∙ padded-column matrixSize words c)
+    sym (getD-take mostColumns (padded mostColumns words) c 0 h ∙ padded-column mostColumns words c)
 
 -- all that is there is read
-pub seven-rest : (words : List ℕ) (c : ℕ) → length words ≤ c → c ≤ matrixSize
-    → drop c (firstSeven words) ≡ drop c (cleared matrixSize)
+pub seven-rest : (words : List ℕ) (c : ℕ) → length words ≤ c → c ≤ mostColumns
+    → drop c (firstSeven words) ≡ drop c (cleared mostColumns)
 unfolding padded
 seven-rest words c h k =
     let n : ℕ = length words in
-    let z : List ℕ = cleared (matrixSize - n) in
-    let all : length (words ++ z) ≤ matrixSize = simp (length-append, length-replicate) (omega arith) in
-    let left : matrixSize - n - (c - n) ≡ matrixSize - c = omega arith in
-    ap (λ (l : List ℕ). drop c l) (take-all matrixSize (words ++ z) all) ∙ drop-past words z c h
-    ∙ drop-cleared (c - n) (matrixSize - n) ∙ ap (λ (i : ℕ). cleared i) left ∙ sym (drop-cleared c matrixSize)
+    let z : List ℕ = cleared (mostColumns - n) in
+    let all : length (words ++ z) ≤ mostColumns = simp (length-append, length-replicate) (omega arith) in
+    let left : mostColumns - n - (c - n) ≡ mostColumns - c = omega arith in
+    ap (λ (l : List ℕ). drop c l) (take-all mostColumns (words ++ z) all) ∙ drop-past words z c h
+    ∙ drop-cleared (c - n) (mostColumns - n) ∙ ap (λ (i : ℕ). cleared i) left ∙ sym (drop-cleared c mostColumns)
+
+-- those of a record are the matrix as a value
+pub record-seven : (half : ℕ) → half ≤ 3 → (m : Matrix) → length m ≡ 2 * half + 1
+    → firstSeven (matrixRecord half m) ≡ matrixWords m
+record-seven half few m e =
+    ap (take mostColumns) (record-value half few m e)
+    ∙ take-all mostColumns (matrixWords m) (omega (arith, words-length m (omega (arith, e, few))))
 
 -- where seven words are there, they are the matrix
-pub seven-there : (words : List ℕ) (from : ℕ) → from + matrixSize ≤ length words
-    → firstSeven (drop from words) ≡ take matrixSize (drop from words)
+pub seven-there : (words : List ℕ) (from : ℕ) → from + mostColumns ≤ length words
+    → firstSeven (drop from words) ≡ take mostColumns (drop from words)
 unfolding padded
-seven-there words from h = take-append-le matrixSize (drop from words) _ (rw length-drop (omega arith))
+seven-there words from h = take-append-le mostColumns (drop from words) _ (rw length-drop (omega arith))
 
 -- a number stands before the columns
 pub after-number : (number : ℕ) (columns : List ℕ) (place : ℕ) → (place ≡ 0 → ⊥)
@@ -85,6 +93,15 @@ pub overwritten-there : (words : List ℕ) (at : ℕ) (new : List ℕ) {size : �
     → at + size ≤ length words → overwritten words at new ≡ take at words ++ new ++ drop (at + size) words
 unfolding overwritten
 overwritten-there words at new e h = rw (e, take-all (length words - at) new (omega arith))
+
+-- words that are no more than the new ones become the first of these
+pub overwritten-all : (words new : List ℕ) {size : ℕ} → length words ≡ size → size ≤ length new
+    → overwritten words 0 new ≡ take size new
+unfolding overwritten
+overwritten-all words new {size} e h =
+    let few : length words - 0 ≡ size = omega (arith, e) in
+    ap₂ (λ (k : ℕ) (l : List ℕ). take k new ++ l) few (drop-of-length-le words {i = 0 + length new} (omega arith))
+    ∙ append-nil _
 
 -- words s, before the loop d, with the first i of the new ones written
 pub record Written (d : List ℕ) (at : ℕ) (new : List ℕ) (i : ℕ) (s : List ℕ) : Type 0 where

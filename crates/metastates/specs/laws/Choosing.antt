@@ -15,7 +15,7 @@ use lib.Seq.{take-append-le, length-take-le, take-suc, take-add, take-all, getD-
 use lib.Seq.{set-split, drop-append-add, append-snoc}
 use borrow.Author.Tests.{eqb-true}
 use Rattle.definitions.specs.Lists.{every, concatMap, cleared, padded}
-use Rattle.definitions.specs.Matrices.{Matrix, valid, meet}
+use Rattle.definitions.specs.Matrices.{Matrix, matrixSize, valid, meet}
 use Rattle.definitions.specs.declared.Fault.{Fault}
 use Rattle.definitions.specs.Combinations.{Leaf, Combination, choose}
 use Rattle.definitions.specs.laws.Tests.{by-test, if-true}
@@ -26,7 +26,7 @@ use Rattle.matrix.specs.laws.Widths.{width-taken, met-matrix, met-width}
 use Rattle.metastates.specs.declared.Choice.{Choice}
 use Rattle.metastates.specs.declared.Adding.{Adding}
 use Rattle.metastates.specs.declared.Adding.the-variants as adding
-use Rattle.metastates.specs.Leaves.{leavesIn}
+use Rattle.metastates.specs.Leaves.{leavesIn, leafSize}
 use Rattle.metastates.specs.Choices.{Chosen, Choosable, FirstFit, leavesTaken, matrixMet, combinationOf}
 use Rattle.metastates.specs.Choices.{treesIn, chosenFrom, noLeaf, fitsAt, WithLeaf}
 use Rattle.metastates.specs.Space.{Holding, Added}
@@ -152,9 +152,10 @@ choosing-last {width} first second third {choice} chosen e =
 -- ---- the loop over the leaves of the first tree
 
 -- what a choice begins: at least one tree is left
-pub record Beginning (width trees : ℕ) (first second third : List ℕ) (choice : Choice) : Type 0 where
+pub record Beginning (half width trees : ℕ) (first second third : List ℕ) (choice : Choice) : Type 0 where
   pub asked : Choosable width trees first second third choice
   pub three : length (choice .leaves) ≡ 3
+  pub held : width ≤ matrixSize half
   pub some : trees ≡ 0 → ⊥
 
 -- the trees that are left after the first
@@ -173,8 +174,8 @@ leafGives width trees second third choice l =
     choose (choice .phone) (leavesTaken choice ++ (l .node ∷ [])) (meet (matrixMet width choice) (l .carried))
     (treesIn width (trees - 1) second third third)
 
-module _ {width trees : ℕ} {first second third : List ℕ} {choice : Choice}
-    (b : Beginning width trees first second third choice) where
+module _ {half width trees : ℕ} {first second third : List ℕ} {choice : Choice}
+    (b : Beginning half width trees first second third choice) where
   abbrev gives : Leaf → List Combination
   gives = leafGives width trees second third choice
 
@@ -207,7 +208,7 @@ module _ {width trees : ℕ} {first second third : List ℕ} {choice : Choice}
       let same : length m ≡ length n = met-length ∙ sym own in
       choose-none width (choice .phone) _ (meet m n) rest rest-wide (meet-length m n same ∙ met-length) e
 
-  gives-sized : (leaves : List Leaf) → Sized (concatMap gives leaves)
+  gives-sized : (leaves : List Leaf) → Sized half (concatMap gives leaves)
   unfolding choose
   gives-sized leaves =
       let last : List Leaf = leavesIn width third in
@@ -215,7 +216,7 @@ module _ {width trees : ℕ} {first second third : List ℕ} {choice : Choice}
       let fits : length (leavesTaken choice) + length (leaves ∷ rest) ≤ 3 =
       omega (arith, taken-length, trees-left, b .asked .few, b .some) in
       choose-sized (choice .phone) (leavesTaken choice) (matrixMet width choice) (leaves ∷ rest) fits
-      (omega (arith, met-length, b .asked .chosen .narrow))
+      (omega (arith, met-length, b .held))
 
   -- the whole is what all leaves of the first tree give
   all-given : chosenFrom width trees first second third choice ≡ concatMap gives tree
@@ -232,20 +233,20 @@ givenBefore width trees first second third choice place =
     concatMap (leafGives width trees second third choice) (take place (leavesIn width first))
 
 -- these leaves have given theirs, and there was room for them
-pub record Choosing (width trees : ℕ) (first second third : List ℕ) (choice : Choice) (before : List ℕ)
+pub record Choosing (half width trees : ℕ) (first second third : List ℕ) (choice : Choice) (before : List ℕ)
     (count : ℕ) (space : List ℕ) (total place : ℕ) : Type 0 where
-  pub begins : Beginning width trees first second third choice
-  pub holding : Holding before count
+  pub begins : Beginning half width trees first second third choice
+  pub holding : Holding half before count
   pub within : place ≤ length (leavesIn width first)
   pub found : place < length (leavesIn width first)
       → fitsAt (matrixMet width choice) (leavesIn width first) place ≡ true
-  pub grown : Added before count (givenBefore width trees first second third choice place)
+  pub grown : Added half before count (givenBefore width trees first second third choice place)
       (adding.Count total) space
 
-module _ {width trees : ℕ} {first second third : List ℕ} {choice : Choice} {before : List ℕ} {count : ℕ} where
-  pub choosing-start : Beginning width trees first second third choice → Holding before count → {place : ℕ}
+module _ {half width trees : ℕ} {first second third : List ℕ} {choice : Choice} {before : List ℕ} {count : ℕ} where
+  pub choosing-start : Beginning half width trees first second third choice → Holding half before count → {place : ℕ}
       → FirstFit (matrixMet width choice) (leavesIn width first) 0 place
-      → Choosing width trees first second third choice before count before count place
+      → Choosing half width trees first second third choice before count before count place
   unfolding concatMap
   choosing-start b h fit = record {
     begins = b;
@@ -257,25 +258,25 @@ module _ {width trees : ℕ} {first second third : List ℕ} {choice : Choice} {
   }
 
   module _ {space : List ℕ} {total place : ℕ}
-      (inv : Choosing width trees first second third choice before count space total place) where
+      (inv : Choosing half width trees first second third choice before count space total place) where
     abbrev all : List Leaf
     all = leavesIn width first
 
     abbrev done : (place : ℕ) → List Combination
     done place = givenBefore width trees first second third choice place
 
-    pub choosing-end : length first / 8 ≤ place
-        → Added before count (chosenFrom width trees first second third choice)
+    pub choosing-end : length first / leafSize ≤ place
+        → Added half before count (chosenFrom width trees first second third choice)
         (adding.Count total) space
     choosing-end h =
         let every-leaf : length all ≤ place = rw leaves-length h in
         rw (all-given (inv .begins)) (rw (take-all place all every-leaf) at (inv .grown))
 
     -- a turn
-    pub choosing-inside : place < length first / 8 → place < length all
+    pub choosing-inside : place < length first / leafSize → place < length all
     choosing-inside h = rw leaves-length h
 
-    pub choosing-holding : Holding space total
+    pub choosing-holding : Holding half space total
     choosing-holding =
         grown-holding (inv .holding) (done place) (inv .grown) refl
         (gives-sized (inv .begins) (take place all))
@@ -305,8 +306,8 @@ module _ {width trees : ℕ} {first second third : List ℕ} {choice : Choice} {
           rw (w .0, leaves, matrix)
 
       module _ {after : List ℕ} {answer : Adding}
-          (g : Added space total (chosenFrom width (trees - 1) second third third next) answer after) where
-        one-more : Added before count (done (place + 1)) answer after
+          (g : Added half space total (chosenFrom width (trees - 1) second third third next) answer after) where
+        one-more : Added half before count (done (place + 1)) answer after
         one-more =
             rw (taken-one (leafGives width trees second third choice) all place inside, ← leaf-given)
             (grown-then (inv .holding) (done place) (inv .grown) refl
@@ -314,7 +315,7 @@ module _ {width trees : ℕ} {first second third : List ℕ} {choice : Choice} {
 
         -- no room
         pub choosing-over : {fault : Fault} → answer ≡ adding.Stop fault
-            → Added before count (chosenFrom width trees first second third choice)
+            → Added half before count (chosenFrom width trees first second third choice)
             (adding.Stop fault) after
         choosing-over stops =
             let gives = leafGives width trees second third choice in
@@ -327,7 +328,7 @@ module _ {width trees : ℕ} {first second third : List ℕ} {choice : Choice} {
 
         pub choosing-again : {sum : ℕ} → answer ≡ adding.Count sum → {last : ℕ}
             → FirstFit (matrixMet width choice) all (place + 1) last
-            → Choosing width trees first second third choice before count after sum last
+            → Choosing half width trees first second third choice before count after sum last
         choosing-again counts fit = record {
           begins = inv .begins;
           holding = inv .holding;
@@ -335,6 +336,6 @@ module _ {width trees : ℕ} {first second third : List ℕ} {choice : Choice} {
           found = fit .found;
           grown =
               rw (passed-over _ _ (leafGives width trees second third choice) (gives-none (inv .begins)) fit)
-              (subst (λ (a : Adding). Added before count (done (place + 1)) a after)
+              (subst (λ (a : Adding). Added half before count (done (place + 1)) a after)
               counts one-more);
         }

@@ -12,7 +12,7 @@ use lib.ListN.{length, set, take, drop, length-append, length-drop, length-set}
 use lib.Seq.{length-take-le, take-at, drop-drop, getD-drop, getD-set-same, getD-set-other, drop-set-lt}
 use borrow.Author.Tests.{eq-eqb, ne-eqb, eqb-true, eqb-false, ltb-true, ltb-false}
 use Rattle.definitions.specs.Lists.{_!_, concatMap, upFrom, select}
-use Rattle.definitions.specs.Matrices.{matrixSize}
+use Rattle.definitions.specs.Matrices.{mostColumns}
 use Rattle.definitions.specs.laws.Lists.{concatMap-append, upFrom-snoc, upFrom-parts}
 use Rattle.definitions.specs.laws.Members.{of-upFrom}
 use Rattle.definitions.specs.laws.Selected.{select-here, select-past, select-append, select-none}
@@ -24,9 +24,9 @@ use Rattle.metastates.specs.Leaves.{leafSize, isMarked, listedAt, listed
 -- ---- a record copied
 
 module _ (table : List ℕ) (node : ℕ) (inside : leafSize * node + leafSize ≤ length table) where
-  words-sized : length (take matrixSize (drop (leafSize * node + 1) table)) ≡ matrixSize
+  words-sized : length (take mostColumns (drop (leafSize * node + 1) table)) ≡ mostColumns
   words-sized =
-      length-take-le matrixSize (drop (leafSize * node + 1) table)
+      length-take-le mostColumns (drop (leafSize * node + 1) table)
       (omega (arith, length-drop (leafSize * node + 1) table))
 
   listed-sized : length (listedAt table node) ≡ leafSize
@@ -75,7 +75,7 @@ module _ (t d : List ℕ) (room : length t ≤ length d) (node count : ℕ) (tab
     ahead-listed : listedAt table node ≡ listedAt t node
     unfolding listedAt
     ahead-listed =
-        ap (λ (l : List ℕ). node ∷ take matrixSize l)
+        ap (λ (l : List ℕ). node ∷ take mostColumns l)
         (sym (drop-drop 1 (leafSize * node) table) ∙ ap (drop 1) (p .ahead) ∙ drop-drop 1 (leafSize * node) t)
 
     ahead-next : drop (leafSize * (node + 1)) table ≡ drop (leafSize * (node + 1)) t

@@ -1,10 +1,10 @@
 -- Laws about what combining answers and leaves, one for each way that the code returns: 18, then 30, else the
 -- combinations.
-use mathlib.Core.Path.{_≡_, _∙_}
+use mathlib.Core.Path.{_≡_, ap, _∙_}
 use mathlib.Core.List.{List}
 use mathlib.Core.Bool.{true, false}
 use Prim.Native.Nat.{ℕ}
-use native.Mathlib.Nat.{zero-add}
+use native.Mathlib.Nat.{zero-add, mul-zero}
 use native.Mathlib.Omega.{arith}
 use lib.ListN.{length}
 use Rattle.definitions.specs.declared.Header.{Header}
@@ -12,9 +12,9 @@ use Rattle.definitions.specs.declared.Fault.{Fault}
 use Rattle.definitions.specs.declared.Fault.the-variants.{Foreign}
 use Rattle.definitions.specs.Faults.{answered, refuse, judge}
 use Rattle.definitions.specs.Lists.{cleared}
-use Rattle.definitions.specs.Tables.{Tables, Book, tablesBook}
+use Rattle.definitions.specs.Tables.{Tables, Book, bookIn, tablesContents, tablesBook}
 use Rattle.definitions.specs.ForeignTables.{tablesKnown}
-use Rattle.definitions.specs.Combinations.{Combination, combinations, combinationSpace, combine}
+use Rattle.definitions.specs.Combinations.{Combination, combinations, combinationSize, combinationSpace, combine}
 use Rattle.metastates.specs.declared.Adding.{Adding}
 use Rattle.metastates.specs.declared.Adding.the-variants as adding
 use Rattle.metastates.specs.declared.Combined.{Combined}
@@ -29,7 +29,7 @@ module _ (header : Header) (tables : Tables) (size : ℕ) (answer : Combined) (e
   Ends =
       (answer ≡ combinedOf (combine header tables size))
       × ((ends ≡ endsLeft (tablesBook header tables) (combine header tables size))
-      × (left ≡ combinationSpace size (combine header tables size)))
+      × (left ≡ combinationSpace (header .half) size (combine header tables size)))
 
   -- what it answers by a fault
   abbrev Refuses : Fault → Type 0
@@ -52,13 +52,20 @@ module _ (header : Header) (tables : Tables) (size : ℕ) (answer : Combined) (e
       abbrev found : List Combination
       found = combinations book
 
-      -- 18 is passed, so only the room is left to judge
-      combine-is : combine header tables size ≡ addedIn (length before) 0 found
-      unfolding combine judge addedIn
-      combine-is = rw (h, own, s, zero-add (length found))
+      same-half : header .half ≡ book .half
+      unfolding tablesBook bookIn tablesContents
+      same-half = ap (λ (b : Book). b .half) own
 
-      none : Holding before 0
-      none = holding-none before clear
+      -- 18 is passed, so only the room is left to judge
+      combine-header : combine header tables size ≡ addedIn (header .half) (length before) 0 found
+      unfolding combine judge addedIn
+      combine-header = rw (h, own, s, zero-add (length found))
+
+      combine-is : combine header tables size ≡ addedIn (book .half) (length before) 0 found
+      combine-is = combine-header ∙ ap (λ (k : ℕ). addedIn k (length before) 0 found) same-half
+
+      none : Holding (book .half) before 0
+      none = holding-none (book .half) before clear
 
       pub ends-stopped : {fault : Fault} → adds ≡ adding.Stop fault → Refuses fault → left ≡ cleared size
           → Ends
@@ -69,8 +76,14 @@ module _ (header : Header) (tables : Tables) (size : ℕ) (answer : Combined) (e
           → ends ≡ noted → left ≡ after → Ends
       unfolding combinedOf endsLeft combinationSpace
       ends-combined {total} counts a n l =
-          let is : addedIn (length before) 0 found ≡ answered found =
+          let is : addedIn (book .half) (length before) 0 found ≡ answered found =
           grown-answered none found (all .grown) counts in
           let same : total ≡ length found = omega (arith, grown-all none found (all .grown) counts) in
           let words = all .grown .holds found is in
-          rw (combine-is, is, own) (a ∙ rw same, (n ∙ all .noted found is, l ∙ words ∙ rw s))
+          rw (combine-is, is, own) (
+            a ∙ rw same,
+            (
+              n ∙ all .noted found is,
+              l ∙ words ∙ rw (s, same-half, mul-zero (combinationSize (book .half))),
+            ),
+          )

@@ -2,13 +2,13 @@
 -- matrix of each stand, how wide it is, and how it meets another in seven words.
 use mathlib.Core.Path.{_≡_, sym, ap, _∙_}
 use mathlib.Core.List.{List, []}
-use Prim.Native.Nat.{ℕ, suc, _+_, _-_, _*_, _/_, _≤_, _<_}
+use Prim.Native.Nat.{ℕ, suc, _+_, _*_, _/_, _≤_, _<_}
 use native.Mathlib.Omega.{arith}
 use lib.Dec.{lit<}
 use lib.ListN.{length, take, drop, getD, length-map, length-take, length-drop}
 use lib.Seq.{drop-drop, getD-drop, getD-take}
 use Rattle.definitions.specs.Lists.{_!_, concatMap, records}
-use Rattle.definitions.specs.Matrices.{Matrix, matrixSize, matrixWords, valid, meet}
+use Rattle.definitions.specs.Matrices.{Matrix, mostColumns, matrixWords, valid, meet}
 use Rattle.definitions.specs.Combinations.{Leaf}
 use Rattle.definitions.specs.laws.Lists.{concatMap-map, map-at, drop-take}
 use Rattle.definitions.specs.laws.Records.{records-length, record-at, record-again}
@@ -53,14 +53,14 @@ module _ (width : ℕ) (words : List ℕ) where
         sym (ap (λ (l : Leaf). l .node) leaf-is ∙ getD-take leafSize words-from 0 0 (omega arith)
         ∙ getD-drop (leafSize * place) words 0 0 ∙ rw first)
 
-    pub leaf-width : width ≤ matrixSize → length (leafAt .carried) ≡ width
+    pub leaf-width : width ≤ mostColumns → length (leafAt .carried) ≡ width
     unfolding leafIn
     leaf-width narrow =
         ap (λ (l : Leaf). length (l .carried)) leaf-is
         ∙ simp (length-take, length-drop) (omega (arith, leaf-within))
 
     -- where the words are such a list, its matrix stands as seven words
-    module _ (narrow : width ≤ matrixSize) (is : IsList width words) where
+    module _ (narrow : width ≤ mostColumns) (is : IsList width words) where
       again : List ℕ → List ℕ
       again part = leafWords (leafIn width part)
 
@@ -74,17 +74,17 @@ module _ (width : ℕ) (words : List ℕ) where
       unfolding again leavesIn
       flat = is ∙ concatMap-map leafWords (leafIn width) parts
 
-      pub leaf-columns : take matrixSize (drop (leafSize * place + 1) words) ≡ matrixWords (leafAt .carried)
+      pub leaf-columns : take mostColumns (drop (leafSize * place + 1) words) ≡ matrixWords (leafAt .carried)
       unfolding again leafWords
       leaf-columns =
           let from : List ℕ = drop (leafSize * place) words in
-          ap (take matrixSize) (sym (drop-drop 1 (leafSize * place) words)) ∙ sym (drop-take 1 matrixSize from)
+          ap (take mostColumns) (sym (drop-drop 1 (leafSize * place) words)) ∙ sym (drop-take 1 mostColumns from)
           ∙ ap (drop 1) (sym (record-again again leafSize (lit< tt) again-length words flat place listed))
           ∙ ap (λ (l : Leaf). matrixWords (l .carried)) (sym leaf-is)
 
       -- the test of what it and seven words of a matrix of that width meet in
       pub met-valid : {columns leaf met : List ℕ} → HasWidth width columns
-          → leaf ≡ take matrixSize (drop (leafSize * place + 1) words) → met ≡ meet columns leaf
+          → leaf ≡ take mostColumns (drop (leafSize * place + 1) words) → met ≡ meet columns leaf
           → valid (take width met) ≡ fitsAt (take width columns) (leavesIn width words) place
       met-valid {columns} w l q =
           ap valid
@@ -94,7 +94,7 @@ module _ (width : ℕ) (words : List ℕ) where
 abbrev pub Wide : (width : ℕ) → List Leaf → Type 0
 Wide width leaves = (l : Leaf) → isIn l leaves → length (l .carried) ≡ width
 
-pub list-wide : (width : ℕ) (words : List ℕ) → width ≤ matrixSize → Wide width (leavesIn width words)
+pub list-wide : (width : ℕ) (words : List ℕ) → width ≤ mostColumns → Wide width (leavesIn width words)
 list-wide width words narrow l i =
     let (place, h, e) = place-of l (leavesIn width words) noLeaf i in
     ap (λ (k : Leaf). length (k .carried)) (sym e) ∙ leaf-width width words place h narrow

@@ -16,6 +16,7 @@ use Rattle.definitions.specs.Combinations.{leavesOf}
 use Rattle.definitions.specs.laws.Judging.{refused-not-answered}
 use Rattle.definitions.specs.laws.Lists.{concatMap-append, concatMap-snoc, upFrom-parts, upFrom-snoc}
 use Rattle.definitions.specs.laws.Lists.{map-upFrom-length, padded-length}
+use Rattle.definitions.specs.laws.Sizes.{columns-held}
 use Rattle.definitions.specs.laws.Matrices.{root-length}
 use Rattle.metastates.specs.declared.Adding.{Adding}
 use Rattle.metastates.specs.declared.Adding.the-variants as adding
@@ -53,18 +54,18 @@ module _ (book : Book) where
       ∙ ap (concatMap (λ p. combinationsOf book p)) (sym (upFrom-parts 1 phone (book .phones - phone)))
       ∙ ap (ofPhones book) whole
 
-  of-sized : book .half ≤ 3 → book .states ≤ 3 → (phones : ℕ) → Sized (ofPhones book phones)
+  of-sized : book .half ≤ 3 → book .states ≤ 3 → (phones : ℕ) → Sized (book .half) (ofPhones book phones)
   unfolding combinationsOf
   of-sized narrow few phones = sized-each _ (upFrom 1 phones) λ p.
       choose-sized p [] (rootMatrix (book .half) (book .phones) p) _
       (omega (arith, map-upFrom-length (λ state. leavesOf book p state) 1 (book .states)))
-      (omega (arith, root-length (book .half) (book .phones) p))
+      (omega (arith, root-length (book .half) (book .phones) p, columns-held (book .half) narrow))
 
 -- ---- the combinations of the phones before one, and how many there were after each of them
 
 -- a book in its ranges, and lent space without a record
 pub record Beginning (book : Book) (before : List ℕ) : Type 0 where
-  pub none : Holding before 0
+  pub none : Holding (book .half) before 0
   pub narrow : book .half ≤ 3
   pub few : book .states ≤ 3
   pub most : book .phones ≤ 64
@@ -74,7 +75,7 @@ pub record PhonesAdded (book : Book) (before : List ℕ) (phone : ℕ) (space en
   pub begins : Beginning book before
   pub low : 1 ≤ phone
   pub high : phone ≤ suc (book .phones)
-  pub grown : Added before 0 (ofPhones book (phone - 1)) (adding.Count count) space
+  pub grown : Added (book .half) before 0 (ofPhones book (phone - 1)) (adding.Count count) space
   pub noted : ends ≡ padded 65 (map (endOf book) (upFrom 0 phone))
 
 pub added-start : {book : Book} {before ends : List ℕ} → Beginning book before → Clear before ends
@@ -102,9 +103,9 @@ noted-more f size phone v h e =
     rw (left, set-at used 0 (cleared (size - (phone + 1))) v phone counted, all, more, e, append-assoc)
 
 -- there is room for at most 65535
-room-most : (words total : ℕ) → total ≤ combinationRoom words → total ≤ 65535
+room-most : (half words total : ℕ) → total ≤ combinationRoom half words → total ≤ 65535
 unfolding combinationRoom
-room-most words total h = omega arith
+room-most half words total h = omega arith
 
 module _ {book : Book} {before : List ℕ} {phone : ℕ} {space ends : List ℕ} {count : ℕ}
     (s : PhonesAdded book before phone space ends count)
@@ -121,32 +122,32 @@ module _ {book : Book} {before : List ℕ} {phone : ℕ} {space ends : List ℕ}
         let last : phone - 1 ≡ book .phones = omega (arith, s .high) in
         let all : phone ≡ suc (book .phones) = omega (arith, s .high) in record {
           grown =
-              subst (λ (n : ℕ). Added before 0 (ofPhones book n) (adding.Count count) space)
+              subst (λ (n : ℕ). Added (book .half) before 0 (ofPhones book n) (adding.Count count) space)
               last (s .grown);
           noted = λ found e. s .noted ∙ ap (λ (n : ℕ). padded 65 (map (endOf book) (upFrom 0 n))) all;
         }
 
-    so-far-sized : Sized (ofPhones book (phone - 1))
+    so-far-sized : Sized (book .half) (ofPhones book (phone - 1))
     so-far-sized = of-sized book (s .begins .narrow) (s .begins .few) (phone - 1)
 
-    pub added-holding : Holding space count
+    pub added-holding : Holding (book .half) space count
     added-holding = grown-holding (s .begins .none) (ofPhones book (phone - 1)) (s .grown) refl so-far-sized
 
     -- the combinations of one phone more
     module _ (within : phone ≤ book .phones) {after : List ℕ} {answer : Adding}
-        (g : Added space count (combinationsOf book phone) answer after)
+        (g : Added (book .half) space count (combinationsOf book phone) answer after)
       where
-        so-far : Added before 0 (ofPhones book phone) answer after
+        so-far : Added (book .half) before 0 (ofPhones book phone) answer after
         so-far =
-            subst (λ (l : List Combination). Added before 0 l answer after)
+            subst (λ (l : List Combination). Added (book .half) before 0 l answer after)
             (of-more book phone (s .low))
             (grown-then (s .begins .none) (ofPhones book (phone - 1)) (s .grown) refl so-far-sized _ g)
 
         pub added-over : {fault : Fault} → answer ≡ adding.Stop fault
             → AllAdded book before (adding.Stop fault) after ends
         added-over {fault} stops =
-            let all : Added before 0 (combinations book) (adding.Stop fault) after =
-            subst (λ (l : List Combination). Added before 0 l (adding.Stop fault) after)
+            let all : Added (book .half) before 0 (combinations book) (adding.Stop fault) after =
+            subst (λ (l : List Combination). Added (book .half) before 0 l (adding.Stop fault) after)
             (of-all book phone within) (grown-over (s .begins .none) (ofPhones book phone) so-far stops _) in
             let refused = grown-refused (s .begins .none) (combinations book) all refl in record {
               grown = all;
@@ -156,7 +157,7 @@ module _ {book : Book} {before : List ℕ} {phone : ℕ} {space ends : List ℕ}
         module _ {total : ℕ} (counts : answer ≡ adding.Count total) where
           pub added-few : total ≤ 65535
           added-few =
-              room-most (length before) total
+              room-most (book .half) (length before) total
               (grown-within (s .begins .none) (ofPhones book phone) so-far counts)
 
           -- all are counted
@@ -173,7 +174,7 @@ module _ {book : Book} {before : List ℕ} {phone : ℕ} {space ends : List ℕ}
                 high = omega arith;
                 grown =
                     rw last
-                    (subst (λ (a : Adding). Added before 0 (ofPhones book phone) a after)
+                    (subst (λ (a : Adding). Added (book .half) before 0 (ofPhones book phone) a after)
                     counts so-far);
                 noted =
                     rw (s .noted, p, q)

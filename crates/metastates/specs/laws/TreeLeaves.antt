@@ -13,7 +13,7 @@ use Rattle.definitions.specs.Lists.{if_then_else_, _!_, concatMap}
 use Rattle.definitions.specs.BookLines.{rootCount}
 use Rattle.definitions.specs.Tables.{Book, rootOf}
 use Rattle.definitions.specs.PhoneSets.{alone, allPhones}
-use Rattle.definitions.specs.Matrices.{Matrix, matrixSize, matrixWords, rootMatrix}
+use Rattle.definitions.specs.Matrices.{Matrix, mostColumns, matrixWords, rootMatrix}
 use Rattle.definitions.specs.Combinations.{Leaf, leavesBelow, ascending, leavesOf, onYes, onNo}
 use Rattle.definitions.specs.laws.Books.{InRange}
 use Rattle.definitions.specs.laws.Members.{isIn, distinct, of-append, of-single, of-map}
@@ -107,7 +107,7 @@ pub record Top (header : Header) (phone : ℕ) (columns : List ℕ) : Type 0 whe
 pub top-words : (header : Header) → InRange header → (phone : ℕ) → phone ≤ header .phones
     → (all one : ℕ) (columns : List ℕ) → all ≡ allPhones (min (header .phones) 64)
     → one ≡ (if leb phone 64 then alone phone else 0)
-    → columns ≡ take matrixSize (matrixWords (columnsAround (header .half) all one all))
+    → columns ≡ take mostColumns (matrixWords (columnsAround (header .half) all one all))
     → Top header phone columns
 top-words header ranges phone h all one columns e f g =
     let half : ℕ = header .half in

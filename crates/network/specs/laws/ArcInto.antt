@@ -33,8 +33,8 @@ module _ {header : Header} {nodes words : List ℕ} {number place : ℕ}
     first-state = omega (arith, header-ranges header (usable .header-known) .states-range .low)
 
     module _ (from : ℕ) {states model phone : ℕ} (e : states ≡ header .states)
-        (f : model ≡ modelWord nodes words number 0)
-        (g : phone ≡ phoneWord words number) where
+        (f : model ≡ modelWord (header .half) words number nodes 0)
+        (g : phone ≡ phoneWord (header .half) words number) where
       into-words : from ∷ (2 + place * states) ∷ model ∷ phone ∷ []
           ≡ arcWords (intoArc header nodes words from number place)
       unfolding arcInto arcWords firstState bookWith phoneOf combinationOf

@@ -9,7 +9,7 @@ use Rattle.definitions.specs.declared.Header.{Header}
 use Rattle.definitions.specs.Lists.{records}
 use Rattle.definitions.specs.PhoneSets.{allPhones}
 use Rattle.definitions.specs.Arcs.{arcsIn}
-use Rattle.definitions.specs.Matrices.{Matrix, matrixSize, matrixWords}
+use Rattle.definitions.specs.Matrices.{Matrix, mostColumns, matrixWords}
 use Rattle.definitions.specs.Combinations.{Combination}
 use Rattle.definitions.specs.Metastates.{Metastate, starts, followersFrom}
 use Rattle.definitions.specs.Connecting.{startEvents, Network, noNetwork}
@@ -43,7 +43,7 @@ holds-none {half} {count} {metastates} {arcs} {chains} h =
 
 module _ {header : Header} {combinations : List ℕ} (usable : Usable header combinations) {all : ℕ}
     {columns : List ℕ} (a : all ≡ allPhones (min (header .phones) 64))
-    (e : columns ≡ take matrixSize (matrixWords (columnsAround (header .half) 1 1 all)))
+    (e : columns ≡ take mostColumns (matrixWords (columnsAround (header .half) 1 1 all)))
   where
     columns-are : columns ≡ matrixWords (beforeStart header)
     columns-are =

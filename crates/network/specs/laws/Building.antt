@@ -12,7 +12,7 @@ use Rattle.definitions.specs.declared.Refusal.{Refusal}
 use Rattle.definitions.specs.declared.Fault.the-variants.{Foreign, Choices}
 use Rattle.definitions.specs.Faults.{Outcome, answered, refused, Test, _unless_, andThen}
 use Rattle.definitions.specs.Lists.{concatMap, cleared, padded}
-use Rattle.definitions.specs.Tables.{Book, Tables, tablesBook}
+use Rattle.definitions.specs.Tables.{Book, Tables, tablesBook, bookIn, tablesContents}
 use Rattle.definitions.specs.ForeignTables.{tablesKnown}
 use Rattle.definitions.specs.Combinations.{Combination, combinations, combinationSize, combinationWords}
 use Rattle.definitions.specs.Combinations.{combinationRoom, combine, combinationSpace}
@@ -22,6 +22,7 @@ use Rattle.definitions.specs.Growing.{finished, stopped}
 use Rattle.definitions.specs.Connecting.{rulesOf, Network, Built, connect}
 use Rattle.definitions.specs.Building.{Space, roomIn, build, networkIn, buffersOf, noBuffers, buffersLeft}
 use Rattle.definitions.specs.laws.Judging.{passes-at, judge-answered}
+use Rattle.definitions.specs.laws.Records.{records-within}
 use Rattle.definitions.specs.laws.Lists.{padded-length, padded-take, clear-length, clear-itself}
 use Rattle.metastates.specs.declared.Combined.{Combined}
 use Rattle.metastates.specs.declared.Combined.the-variants as combined
@@ -61,12 +62,19 @@ refused-not-built states outcome r (stopped turns net) e k =
     let other : build.Refused r ≡ build.Stopped _ = e ∙ ap (buildOf states) k in
     let z : _≡_ {A = ℕ} 0 1 = cc in omega arith
 
-module _ {states : ℕ} {metastates arcs : List ℕ} {outcome : Outcome Built} {answer : Build}
-    {metastates₁ arcs₁ : List ℕ} (c : Connected states metastates arcs outcome answer metastates₁ arcs₁) where
+-- of outcomes that are equal, what is left of one is left of the other
+pub connected-as : {header : Header} {metastates arcs : List ℕ} {outcome own : Outcome Built} {answer : Build}
+    {metastates₁ arcs₁ : List ℕ} → Connected header metastates arcs outcome answer metastates₁ arcs₁
+    → outcome ≡ own → Connected header metastates arcs own answer metastates₁ arcs₁
+connected-as {header} {metastates} {arcs} {answer = answer} {metastates₁} {arcs₁} c e =
+    subst (λ (o : Outcome Built). Connected header metastates arcs o answer metastates₁ arcs₁) e c
+
+module _ {header : Header} {metastates arcs : List ℕ} {outcome : Outcome Built} {answer : Build}
+    {metastates₁ arcs₁ : List ℕ} (c : Connected header metastates arcs outcome answer metastates₁ arcs₁) where
   -- an answer that is no refusal
   kept : (combinations : List ℕ) (own : Build) → answer ≡ own
       → ((r : Refusal) → own ≡ build.Refused r → ⊥)
-      → BuiltIn states combinations metastates arcs outcome own combinations metastates₁ arcs₁
+      → BuiltIn header combinations metastates arcs outcome own combinations metastates₁ arcs₁
   unfolding buildOf
   kept combinations own e differs = record {
     answers = sym e ∙ c .answers;
@@ -79,16 +87,16 @@ module _ {states : ℕ} {metastates arcs : List ℕ} {outcome : Outcome Built} {
   }
     where
       never : (r : Refusal) → outcome ≡ refused r → ⊥
-      never r k = differs r (sym e ∙ c .answers ∙ ap (buildOf states) k)
+      never r k = differs r (sym e ∙ c .answers ∙ ap (buildOf (header .states)) k)
 
   pub finished-returns : {combinations : List ℕ} (totals : Totals) → answer ≡ build.Finished totals
-      → BuiltIn states combinations metastates arcs outcome (build.Finished totals)
+      → BuiltIn header combinations metastates arcs outcome (build.Finished totals)
       combinations metastates₁ arcs₁
   finished-returns totals e =
       kept _ (build.Finished totals) e (λ r k. let z : _≡_ {A = ℕ} 0 1 = cc in omega arith)
 
   pub stopped-returns : {combinations : List ℕ} (totals : Totals) → answer ≡ build.Stopped totals
-      → BuiltIn states combinations metastates arcs outcome (build.Stopped totals)
+      → BuiltIn header combinations metastates arcs outcome (build.Stopped totals)
       combinations metastates₁ arcs₁
   stopped-returns totals e =
       kept _ (build.Stopped totals) e (λ r k. let z : _≡_ {A = ℕ} 0 1 = cc in omega arith)
@@ -97,11 +105,11 @@ module _ {states : ℕ} {metastates arcs : List ℕ} {outcome : Outcome Built} {
   pub refused-returns : {combinations combinations₂ metastates₂ arcs₂ : List ℕ} (r : Refusal)
       → answer ≡ build.Refused r → combinations₂ ≡ cleared (length combinations)
       → metastates₂ ≡ cleared (length metastates₁) → arcs₂ ≡ cleared (length arcs₁)
-      → BuiltIn states combinations metastates arcs outcome (build.Refused r) combinations₂ metastates₂ arcs₂
+      → BuiltIn header combinations metastates arcs outcome (build.Refused r) combinations₂ metastates₂ arcs₂
   refused-returns r e f g h =
-      let own : build.Refused r ≡ buildOf states outcome = sym e ∙ c .answers in
+      let own : build.Refused r ≡ buildOf (header .states) outcome = sym e ∙ c .answers in
       let never : ((built : Built) → outcome ≡ answered built → ⊥) =
-      λ built. refused-not-built states outcome r built own in
+      λ built. refused-not-built (header .states) outcome r built own in
       record {
         answers = own;
         kept = λ built k. absurd (never built k);
@@ -125,7 +133,7 @@ module _ (header : Header) (nodes classes roots space : List ℕ) where
   found = combinations book
 
   abbrev words : List ℕ
-  words = concatMap combinationWords found
+  words = concatMap (combinationWords (header .half)) found
 
   abbrev combining : Outcome (List Combination)
   combining = combine header tables (length space)
@@ -133,7 +141,7 @@ module _ (header : Header) (nodes classes roots space : List ℕ) where
   -- where combining answers how many combinations there are
   record Counted (count : ℕ) : Type 0 where
     known : T (tablesKnown header tables)
-    room : length found ≤ combinationRoom (length space)
+    room : length found ≤ combinationRoom (header .half) (length space)
     count-is : count ≡ length found
     found-is : combining ≡ answered found
 
@@ -152,7 +160,7 @@ module _ (header : Header) (nodes classes roots space : List ℕ) where
         tests : List Test
         tests =
             Foreign unless tablesKnown header tables
-            ∷ Choices unless leb (length found) (combinationRoom (length space))
+            ∷ Choices unless leb (length found) (combinationRoom (header .half) (length space))
             ∷ []
 
         by : (o : Outcome (List Combination)) → combining ≡ o → Counted count
@@ -164,7 +172,8 @@ module _ (header : Header) (nodes classes roots space : List ℕ) where
             record {
               known = passes-at tests passed 0 (lit< tt);
               room =
-                  leb→le (length found) (combinationRoom (length space)) (passes-at tests passed 1 (lit< tt));
+                  leb→le (length found) (combinationRoom (header .half) (length space))
+                  (passes-at tests passed 1 (lit< tt));
               count-is = cc;
               found-is = f ∙ sym same;
             }
@@ -195,19 +204,25 @@ module _ (header : Header) (nodes classes roots space : List ℕ) where
     -- what combining answered and left
     module _ {answer : Combined} {ends space₁ : List ℕ}
         (e : answer ≡ combinedOf combining) (f : ends ≡ endsLeft book combining)
-        (g : space₁ ≡ combinationSpace (length space) combining) where
+        (g : space₁ ≡ combinationSpace (header .half) (length space) combining) where
       module _ (count : ℕ) (k : answer ≡ combined.Combinations count) where
         c : Counted count
         c = counted e count k
 
-        words-length : length words ≡ combinationSize * count
+        words-length : length words ≡ combinationSize (header .half) * count
         words-length =
             combinations-length header nodes classes roots (c .known)
-            ∙ ap (λ (n : ℕ). combinationSize * n) (sym (c .count-is))
+            ∙ ap (λ (n : ℕ). combinationSize (header .half) * n) (sym (c .count-is))
 
         within : length words ≤ length space
         unfolding combinationRoom
-        within = omega (arith, c .room, combinations-length header nodes classes roots (c .known))
+        within =
+            omega (
+              arith,
+              records-within (combinationSize (header .half)) (length found) {space = length space}
+                  (omega (arith, c .room)),
+              combinations-length header nodes classes roots (c .known),
+            )
 
         few : length found ≤ 65535
         unfolding combinationRoom
@@ -215,14 +230,14 @@ module _ (header : Header) (nodes classes roots space : List ℕ) where
 
         space-is : space₁ ≡ padded (length space) words
         unfolding combinationSpace
-        space-is = g ∙ ap (combinationSpace (length space)) (c .found-is)
+        space-is = g ∙ ap (combinationSpace (header .half) (length space)) (c .found-is)
 
         space-length : length space₁ ≡ length space
         space-length = ap length space-is ∙ padded-length (length space) words within
 
-        used : take (combinationSize * count) space₁ ≡ words
+        used : take (combinationSize (header .half) * count) space₁ ≡ words
         used =
-            ap (take (combinationSize * count)) space-is
+            ap (take (combinationSize (header .half) * count)) space-is
             ∙ padded-take (length space) _ words (sym words-length)
 
         ends-are : ends ≡ padded 65 (endsOf book)
@@ -230,8 +245,8 @@ module _ (header : Header) (nodes classes roots space : List ℕ) where
         ends-are = f ∙ ap (endsLeft book) (c .found-is)
 
         -- so connecting may go on
-        pub connect-ready : (combinationSize * count ≤ length space₁)
-            × Ready header nodes (take (combinationSize * count) space₁) ends metastates₁ arcs₁
+        pub connect-ready : (combinationSize (header .half) * count ≤ length space₁)
+            × Ready header nodes (take (combinationSize (header .half) * count) space₁) ends metastates₁ arcs₁
         connect-ready = (
           omega (arith, space-length, words-length, within),
           record {
@@ -247,11 +262,11 @@ module _ (header : Header) (nodes classes roots space : List ℕ) where
           },
         )
 
-        room-is : roomOf metastates₁ arcs₁ ≡ roomIn lent
+        room-is : roomOf (header .half) metastates₁ arcs₁ ≡ roomIn (header .half) lent
         unfolding roomIn
         room-is = rw (clear-length metastates metastates₁ m, clear-length arcs arcs₁ a)
 
-        found-back : combinationsIn header (take (combinationSize * count) space₁) ≡ found
+        found-back : combinationsIn header (take (combinationSize (header .half) * count) space₁) ≡ found
         found-back =
             ap (combinationsIn header) used ∙ combinations-back header nodes classes roots (c .known)
 
@@ -259,27 +274,27 @@ module _ (header : Header) (nodes classes roots space : List ℕ) where
         module _ (limit : ℕ) where
           abbrev connected : Outcome Built
           connected =
-              connectedIn header nodes (take (combinationSize * count) space₁) metastates₁ arcs₁ limit
+              connectedIn header nodes (take (combinationSize (header .half) * count) space₁) metastates₁ arcs₁ limit
 
           built-is : building limit ≡ connected
           unfolding build andThen
           built-is =
-              ap (λ o. andThen o (λ cs. connect (rulesOf book cs) (roomIn lent) limit)) (c .found-is)
-              ∙ connect-nodes header nodes classes roots found (roomIn lent) limit
+              ap (λ o. andThen o (λ cs. connect (rulesOf book cs) (roomIn (header .half) lent) limit)) (c .found-is)
+              ∙ connect-nodes header nodes classes roots found (roomIn (header .half) lent) limit
               ∙ sym
               (ap₂ (λ cs room. connect (rulesOf (nodesBook header nodes) cs) room limit) found-back room-is)
 
           module _ {own : Build} {space₂ metastates₂ arcs₂ : List ℕ}
-              (b : BuiltIn (header .states) space₁ metastates₁ arcs₁ connected own space₂ metastates₂ arcs₂)
+              (b : BuiltIn header space₁ metastates₁ arcs₁ connected own space₂ metastates₂ arcs₂)
             where
               left : (o : Outcome Built) → connected ≡ o
                   → lentBuffers space₂ metastates₂ arcs₂ ≡ buffersLeft book lent o
-              unfolding buffersLeft buffersOf noBuffers
+              unfolding buffersLeft buffersOf noBuffers tablesBook bookIn tablesContents
               left (answered built) q =
                   let net : Network = networkIn built in
                   buffers-equal (b .kept built q ∙ space-is)
                   (b .metastate-words built q
-                  ∙ ap (λ (n : ℕ). padded n (concatMap metastateWords (net .table)))
+                  ∙ ap (λ (n : ℕ). padded n (concatMap (metastateWords (header .half)) (net .table)))
                   (clear-length metastates metastates₁ m))
                   (b .arc-words built q
                   ∙ ap (λ (n : ℕ). padded n (concatMap arcWords (net .arcs))) (clear-length arcs arcs₁ a))
@@ -303,8 +318,8 @@ module _ (header : Header) (nodes classes roots space : List ℕ) where
       combine-returns limit r k =
           let refuses : combining ≡ refused r = turned-down e r k in
           let none : building limit ≡ refused r =
-          ap (λ o. andThen o (λ cs. connect (rulesOf book cs) (roomIn lent) limit)) refuses in (
+          ap (λ o. andThen o (λ cs. connect (rulesOf book cs) (roomIn (header .half) lent) limit)) refuses in (
             sym (ap (buildOf (header .states)) none),
-            buffers-equal (g ∙ ap (combinationSpace (length space)) refuses) m a
+            buffers-equal (g ∙ ap (combinationSpace (header .half) (length space)) refuses) m a
                 ∙ sym (ap (buffersLeft book lent) none),
           )

@@ -42,14 +42,15 @@ use Rattle.network.specs.laws.Spans.{no-spans-in}
 use Rattle.network.specs.laws.Outcomes.{next-answered, refused-left}
 
 -- cleared words are words to work with
-pub cleared-workspace : {metastates : List ℕ} (chains spans index : ℕ) → metastateRoom metastates < chains / 2
+pub cleared-workspace : {half : ℕ} {metastates : List ℕ} (chains spans index : ℕ)
+    → metastateRoom half metastates < chains / 2
     → spanSize ≤ spans → endsSize ≤ index → index ≤ farthest
-    → Workspace metastates (cleared chains) (cleared spans) (cleared index)
-cleared-workspace {metastates} chains spans index heads slots room small =
+    → Workspace half metastates (cleared chains) (cleared spans) (cleared index)
+cleared-workspace {half} {metastates} chains spans index heads slots room small =
     let sized : (size : ℕ) → length (cleared size) ≡ size = λ size. length-replicate {A = ℕ} size 0 in
     record {
       chains-clear = ap (λ (n : ℕ). cleared n) (sym (sized chains));
-      heads = subst (λ (n : ℕ). metastateRoom metastates < n / 2) (sym (sized chains)) heads;
+      heads = subst (λ (n : ℕ). metastateRoom half metastates < n / 2) (sym (sized chains)) heads;
       slots = subst (λ (n : ℕ). spanSize ≤ n) (sym (sized spans)) slots;
       spans-clear = ap (λ (n : ℕ). cleared n) (sym (sized spans));
       ends-room = omega (arith, sized index, room);
@@ -58,11 +59,11 @@ cleared-workspace {metastates} chains spans index heads slots room small =
 
 cleared-hold : {half count : ℕ} {metastates arcs chains : List ℕ} → metastates ≡ cleared (length metastates)
     → arcs ≡ cleared (length arcs) → chains ≡ cleared (length chains)
-    → metastateRoom metastates < headsIn chains
+    → metastateRoom half metastates < headsIn chains
     → Holds half count noNetwork metastates arcs chains
 cleared-hold {half} {count} {metastates} {arcs} {chains} e f g h =
-    let room : metastateRoom (cleared (length metastates)) < headsIn chains =
-    subst (λ (l : List ℕ). metastateRoom l < headsIn chains) e h in
+    let room : metastateRoom half (cleared (length metastates)) < headsIn chains =
+    subst (λ (l : List ℕ). metastateRoom half l < headsIn chains) e h in
     subst (λ (l : List ℕ). Holds half count noNetwork l arcs chains) (sym e)
     (subst (λ (l : List ℕ). Holds half count noNetwork (cleared (length metastates)) l chains)
     (sym f) (held-empty half count (length metastates) (length arcs) g room))
@@ -70,7 +71,8 @@ cleared-hold {half} {count} {metastates} {arcs} {chains} e f g h =
 -- ---- the index is filled
 
 module _ {header : Header} {nodes combinations ends metastates arcs chains spans index : List ℕ}
-    (r : Ready header nodes combinations ends metastates arcs) (w : Workspace metastates chains spans index)
+    (r : Ready header nodes combinations ends metastates arcs)
+    (w : Workspace (header .half) metastates chains spans index)
   where
     pub fillable : Fillable header combinations ends index
     fillable =
@@ -111,12 +113,12 @@ module _ {header : Header} {nodes combinations index metastates arcs chains : Li
     cs = combinationsIn header combinations
 
     abbrev room : Room
-    room = roomOf metastates arcs
+    room = roomOf (header .half) metastates arcs
 
     abbrev first : Outcome Network
     first = startedIn header nodes combinations metastates arcs
 
-    same-room : roomOf metastates′ arcs′ ≡ room
+    same-room : roomOf (header .half) metastates′ arcs′ ≡ room
     unfolding roomIn
     same-room = rw (left .metastates-sized, left .arcs-sized)
 
@@ -130,7 +132,7 @@ module _ {header : Header} {nodes combinations index metastates arcs chains : Li
       is-begun = next-answered (narrow (s .searchable .connectable .usable)) left a
 
       -- the first turn may be taken, and no spans are noted yet
-      pub start-between : {index₀ spans : List ℕ} → Workspace metastates chains spans index₀
+      pub start-between : {index₀ spans : List ℕ} → Workspace (header .half) metastates chains spans index₀
           → BetweenTurns header nodes combinations index metastates′ arcs′ chains′ spans sizes
       start-between w =
           record {
@@ -150,15 +152,15 @@ module _ {header : Header} {nodes combinations index metastates arcs chains : Li
           (sym is-begun)
 
       pub connected : (limit : ℕ) {built : Build} {metastates″ arcs″ : List ℕ}
-          → Connected (header .states) metastates′ arcs′
+          → Connected header metastates′ arcs′
           (turnedFrom header nodes combinations metastates′ arcs′ sizes limit) built metastates″ arcs″
-          → Connected (header .states) metastates arcs
+          → Connected header metastates arcs
           (connectedIn header nodes combinations metastates arcs limit) built metastates″ arcs″
       connected limit c =
           record {
             answers = c .answers ∙ ap (buildOf (header .states)) (turns-are limit);
             metastate-words = λ built k. c .metastate-words built (turns-are limit ∙ k)
-                ∙ ap (λ (n : ℕ). padded n (concatMap metastateWords (networkIn built .table)))
+                ∙ ap (λ (n : ℕ). padded n (concatMap (metastateWords (header .half)) (networkIn built .table)))
                 (left .metastates-sized);
             arc-words = λ built k. c .arc-words built (turns-are limit ∙ k)
                 ∙ ap (λ (n : ℕ). padded n (concatMap arcWords (networkIn built .arcs))) (left .arcs-sized);
@@ -169,13 +171,13 @@ module _ {header : Header} {nodes combinations index metastates arcs chains : Li
     -- ---- the start is refused
 
     pub start-refused : (limit : ℕ) {fault : Fault} → answer ≡ step.Stop fault
-        → Connected (header .states) metastates arcs
+        → Connected header metastates arcs
         (connectedIn header nodes combinations metastates arcs limit)
         (build.Refused (record { fault = fault; line = 0 })) metastates′ arcs′
     unfolding grow andThen
     start-refused limit {fault} a =
         let (r, is, same) = step-stop first fault (sym a ∙ left .answers) in
-        refused-left (header .states) r
+        refused-left header r
         (ap (λ (o : Outcome Network). andThen o (λ next. turnsFrom (machineOf book cs) room limit 0 next)) is)
         same
         (performs-line (machineOf book cs) room noNetwork (startEvents (rulesOf book cs)) r is)

@@ -5,7 +5,7 @@ use mathlib.Core.List.{List, [], _∷_, _++_}
 use mathlib.Core.Bool.{true, false}
 use Prim.Native.Nat.{ℕ, _+_, _-_, _*_, _≤_, _<_}
 use native.Mathlib.Omega.{arith}
-use lib.Dec.{ltb, lit<}
+use lib.Dec.{ltb}
 use lib.ListN.{length, take, drop, length-append, length-set}
 use borrow.Author.Tests.{ltb-true}
 use Rattle.definitions.specs.declared.Fault.{Fault}
@@ -24,23 +24,25 @@ use Rattle.definitions.specs.laws.Tests.{by-test}
 use Rattle.definitions.specs.laws.Judging.{pass-none, refused-not-answered}
 use Rattle.definitions.specs.laws.Metastates.{metastates-told}
 use Rattle.definitions.specs.laws.Limits.{withArc, withElement}
+use Rattle.definitions.specs.laws.Records.{record-within}
 use Rattle.definitions.specs.laws.Known.{header-ranges}
 use Rattle.network.specs.declared.Sizes.{Sizes}
 use Rattle.network.specs.declared.Follower.{Follower}
 use Rattle.network.specs.declared.Step.{Step}
 use Rattle.network.specs.declared.Step.the-variants as step
-use Rattle.network.specs.Chains.{elementsIn, Flat, keyOf, headsIn, linkedTo, Linked, Searchable, Found}
+use Rattle.network.specs.Chains.{elementsIn, Flat, headsIn, linkedTo, Linked, Findable, Found}
 use Rattle.matrix.specs.Shapes.{widthOf}
 use Rattle.matrix.specs.laws.Widths.{width-taken}
 use Rattle.network.specs.Combinations.{combinationsIn, nodesBook}
 use Rattle.network.specs.Networks.{metastateCode, networkHeld, sizesOf, arcRoom, metastateRoom}
-use Rattle.network.specs.Networks.{roomOf, Holds}
+use Rattle.network.specs.Networks.{roomOf, HasPlace, Holds}
 use Rattle.network.specs.Underway.{Placed, Entering}
 use Rattle.network.specs.Outcomes.{metastateOf, entered}
 use Rattle.network.specs.Steps.{stepOf, AfterStep, StepLeft, ArcAppended, ArcAnswered, ArcAdded, intoArc}
+use Rattle.network.specs.Steps.{MetastateAdded}
 use Rattle.network.specs.laws.KeptBack.{used-within, used-flat, used-elements}
 use Rattle.network.specs.laws.Entered.{entered-known, entered-crowded, entered-new}
-use Rattle.network.specs.laws.HeldBack.{metastate-row}
+use Rattle.network.specs.laws.HeldBack.{metastate-row, metastate-key}
 use Rattle.network.specs.laws.HoldsMore.{held-sizes, arc-within, holds-arc, holds-metastate}
 
 -- ---- what a step leaves
@@ -85,7 +87,7 @@ module _ (metastates₀ : List ℕ) {half count : ℕ} {net : Network} {metastat
       λ i. record { metastates = e i .metastates; arcs = one i }
 
   arc-entered : {outcome : Outcome Network} {answer : Step} {arcs′ : List ℕ}
-      → outcome ≡ addArc (roomOf metastates₀ arcs) a net
+      → outcome ≡ addArc (roomOf half metastates₀ arcs) a net
       → ArcAnswered sizes arcs answer → ArcAppended sizes a arcs arcs′
       → AfterStep half count metastates₀ arcs outcome answer metastates arcs′ chains
   unfolding roomIn addArc
@@ -129,8 +131,8 @@ module _ {header : Header} {nodes words metastates arcs chains : List ℕ} {size
   width : length (x .carried) ≡ widthOf half
   width = width-taken (omega (arith, few)) (s .shaped)
 
-  row : number ∷ columns ≡ metastateWords x
-  row = metastate-row half number columns (s .shaped)
+  row : take (metastateSize half) (number ∷ columns) ≡ metastateWords half x
+  row = metastate-row half number columns few (s .shaped)
 
   same-sizes : sizes ≡ sizesOf net
   same-sizes = sym (held-sizes half sizes metastates arcs)
@@ -140,23 +142,23 @@ module _ {header : Header} {nodes words metastates arcs chains : List ℕ} {size
 
   -- ---- what the calls ask
 
-  pub enter-used : metastateSize * sizes .metastates ≤ length metastates
+  pub enter-used : metastateSize half * sizes .metastates ≤ length metastates
   enter-used =
-      subst (λ (n : ℕ). metastateSize * n ≤ length metastates) (sym places) (used-within (s .underway .kept))
+      subst (λ (n : ℕ). metastateSize half * n ≤ length metastates) (sym places) (used-within (s .underway .kept))
 
-  elements : elementsIn (metastateCode half) (take (metastateSize * sizes .metastates) metastates) ≡ net .table
+  elements : elementsIn (metastateCode half) (take (metastateSize half * sizes .metastates) metastates) ≡ net .table
   elements =
-      ap (λ (n : ℕ). elementsIn (metastateCode half) (take (metastateSize * n) metastates)) places
-      ∙ used-elements (s .underway .kept) (lit< tt)
+      ap (λ (n : ℕ). elementsIn (metastateCode half) (take (metastateSize half * n) metastates)) places
+      ∙ used-elements (s .underway .kept) (omega arith)
 
   pub enter-searchable
-      : Searchable (metastateCode half) (take (metastateSize * sizes .metastates) metastates) chains
+      : Findable (metastateCode half) (take (metastateSize half * sizes .metastates) metastates) chains
   enter-searchable =
       record {
         flat =
-            subst (λ l. Flat (metastateCode half) l (take (metastateSize * sizes .metastates) metastates))
+            subst (λ l. Flat (metastateCode half) l (take (metastateSize half * sizes .metastates) metastates))
             (sym elements)
-            (subst (λ (n : ℕ). Flat (metastateCode half) (net .table) (take (metastateSize * n) metastates))
+            (subst (λ (n : ℕ). Flat (metastateCode half) (net .table) (take (metastateSize half * n) metastates))
             (sym places) (used-flat (s .underway .kept)));
         linked =
             subst (Linked (metastateCode half) (headsIn chains) chains) (sym elements)
@@ -164,18 +166,22 @@ module _ {header : Header} {nodes words metastates arcs chains : List ℕ} {size
       }
 
   -- the record and the link of a new one
-  pub enter-room : sizes .metastates < metastateRoom metastates
-      → (metastateSize * sizes .metastates + metastateSize ≤ length metastates)
-      × (sizes .metastates < headsIn chains) × (sizes .metastates < 65535)
+  pub enter-place-for : sizes .metastates < metastateRoom half metastates
+      → HasPlace half metastates chains (sizes .metastates)
   unfolding roomIn
-  enter-room h = omega (arith, h, s .underway .kept .link-room)
+  enter-place-for h = record {
+    within = record-within (metastateSize half) (sizes .metastates) (omega (arith, h));
+    link = omega (arith, h, s .underway .kept .link-room);
+    few = omega (arith, h);
+    narrow = few;
+  }
 
   pub enter-arcs : sizes .arcs ≤ arcRoom arcs
   enter-arcs = arc-within (s .underway) (ap (λ (k : Sizes). k .arcs) same-sizes)
 
   module _ {found : ℕ}
       (f : Found (metastateCode half)
-      (elementsIn (metastateCode half) (take (metastateSize * sizes .metastates) metastates)) x found) where
+      (elementsIn (metastateCode half) (take (metastateSize half * sizes .metastates) metastates)) x found) where
     looked : Found (metastateCode half) (net .table) x found
     looked = subst (λ l. Found (metastateCode half) l x found) elements f
 
@@ -199,7 +205,7 @@ module _ {header : Header} {nodes words metastates arcs chains : List ℕ} {size
       machine = machineOf book combinations
 
       abbrev room : Room
-      room = roomOf metastates arcs
+      room = roomOf half metastates arcs
 
       abbrev Left : Step → (metastates′ arcs′ chains′ : List ℕ) → Type 0
       Left answer metastates′ arcs′ chains′ =
@@ -223,7 +229,7 @@ module _ {header : Header} {nodes words metastates arcs chains : List ℕ} {size
           }
 
       -- there is no room for it
-      pub enter-crowded : found ≡ 0 → metastateRoom metastates ≤ sizes .metastates
+      pub enter-crowded : found ≡ 0 → metastateRoom half metastates ≤ sizes .metastates
           → Left (step.Stop Crowd) metastates arcs chains
       unfolding roomIn
       enter-crowded e h =
@@ -237,20 +243,22 @@ module _ {header : Header} {nodes words metastates arcs chains : List ℕ} {size
           }
 
       -- it is added, and the arc into it
-      pub enter-new : found ≡ 0 → sizes .metastates < metastateRoom metastates
+      pub enter-new : found ≡ 0 → sizes .metastates < metastateRoom half metastates
           → {answer : Step} {metastates′ arcs′ chains′ : List ℕ}
-          → metastates′ ≡ take (metastateSize * sizes .metastates) metastates ++ (number ∷ columns)
-          ++ drop (metastateSize * sizes .metastates + metastateSize) metastates
-          → chains′ ≡ linkedTo (headsIn chains) chains (sizes .metastates) (keyOf (number ∷ columns))
+          → MetastateAdded half follower (sizes .metastates) metastates chains metastates′ chains′
           → ArcAdded (withOne sizes) (intoArc header nodes words from number (sizes .metastates)) arcs answer arcs′
           → Left answer metastates′ arcs′ chains′
       unfolding roomIn arcInto modelsOf phoneOf combinationOf
-      enter-new e h {answer} {metastates′} {arcs′} {chains′} p q added =
+      enter-new e h {answer} {metastates′} {arcs′} {chains′} new added =
           let (size, held) =
-          holds-metastate (s .underway) few x places h (looked .none e) (s .listed) width (rw row at p)
-          (rw row at q) in
+          holds-metastate (s .underway) few x places h (looked .none e) (s .listed) width
+          (new .put ∙ ap (λ (l : List ℕ). take (metastateSize half * sizes .metastates) metastates ++ l
+          ++ drop (metastateSize half * sizes .metastates + metastateSize half) metastates) row)
+          (new .linked
+          ∙ ap (λ (k : ℕ). linkedTo (headsIn chains) chains (sizes .metastates) k)
+          (metastate-key half number columns few (s .shaped))) in
           let a : Arc = arcInto (rulesOf book combinations) from (length (net .table)) x in
-          let inside : length (net .table) < metastateRoom metastates =
+          let inside : length (net .table) < metastateRoom half metastates =
           omega (arith, h, places) in
           record {
             step =
@@ -258,7 +266,7 @@ module _ {header : Header} {nodes words metastates arcs chains : List ℕ} {size
                 (entered-new (metastateCode half) machine metastates-told room net from x pass-none looked e
                 inside)
                 (added .answers) (rw places at added .words);
-            chains-sized = ap length q ∙ simp length-set refl;
+            chains-sized = ap length (new .linked) ∙ simp length-set refl;
           }
         where
           more : sizes .metastates + 1 ≡ length (net .table ++ (x ∷ []))

@@ -14,12 +14,12 @@ use borrow.Author.Tests.{eqb-true, eqb-false, ltb-true, ltb-false, le-leb}
 use Rattle.definitions.specs.declared.Header.{Header}
 use Rattle.definitions.specs.Lists.{_!_, if_then_else_}
 use Rattle.definitions.specs.PhoneSets.{has, alone}
-use Rattle.definitions.specs.Combinations.{Combination, combinationSize}
+use Rattle.definitions.specs.Combinations.{Combination}
 use Rattle.definitions.specs.laws.Tests.{by-test, T-or}
 use Rattle.definitions.specs.laws.PhoneSets.{has-or, has-alone}
 use Rattle.definitions.specs.laws.Known.{header-ranges}
 use Rattle.network.specs.Combinations.{combinationsIn, Usable, EndsAt, Ending}
-use Rattle.network.specs.RecordWords.{columnWord}
+use Rattle.network.specs.RecordWords.{countIn, columnWord}
 use Rattle.network.specs.Indexing.{endsSize, blockSize, blocksIn, rowAt, farthest, NearRow, IsSet}
 use Rattle.network.specs.Indexing.{IsMarked, MarkedBelow, Indexed, NextMember}
 use Rattle.network.specs.Filling.{InRows, Marking, PlaceMarked, PhonesMarked, ColumnsMarked}
@@ -172,14 +172,14 @@ module _ {phones blocks number column s : ℕ} where
 
 -- ---- in the rows of its columns, and the bits of all
 
-module _ {phones blocks number : ℕ} {words : List ℕ} where
-  pub columns-none : (index : List ℕ) → ColumnsMarked phones blocks words number index 0 index
+module _ {header : Header} {blocks number : ℕ} {words : List ℕ} where
+  pub columns-none : (index : List ℕ) → ColumnsMarked header blocks words number index 0 index
   columns-none index = record { marking = marking-none index; marked = λ c h. absurd (omega arith) }
 
   pub columns-more : {index₀ index index′ : List ℕ} {column s : ℕ}
-      → ColumnsMarked phones blocks words number index₀ column index → s ≡ columnWord words number column
-      → PhonesMarked phones blocks number column s index 65 index′
-      → ColumnsMarked phones blocks words number index₀ (column + 1) index′
+      → ColumnsMarked header blocks words number index₀ column index → s ≡ columnWord (header .half) words number column
+      → PhonesMarked (header .phones) blocks number column s index 65 index′
+      → ColumnsMarked header blocks words number index₀ (column + 1) index′
   columns-more {index₀} {index} {index′} {column} {s} m is more =
       record {
         marking = marking-more (m .marking) (more .marking);
@@ -187,15 +187,15 @@ module _ {phones blocks number : ℕ} {words : List ℕ} where
             by-test (eqb c column)
             (λ t.
             subst (λ (k : ℕ).
-            MarkedBelow phones blocks number k (columnWord words number k) 65 index′)
+            MarkedBelow (header .phones) blocks number k (columnWord (header .half) words number k) 65 index′)
             (sym (eqb-true c column t))
-            (subst (λ (w : ℕ). MarkedBelow phones blocks number column w 65 index′) is (more .marked)))
+            (subst (λ (w : ℕ). MarkedBelow (header .phones) blocks number column w 65 index′) is (more .marked)))
             (λ t. marked-stays (more .marking) (m .marked c (omega (arith, h, eqb-false c column t))));
       }
 
   pub columns-all : {index₀ index : List ℕ} {column half : ℕ} → half ≤ column
-      → ColumnsMarked phones blocks words number index₀ column index
-      → ColumnsMarked phones blocks words number index₀ half index
+      → ColumnsMarked header blocks words number index₀ column index
+      → ColumnsMarked header blocks words number index₀ half index
   columns-all h m = record { marking = m .marking; marked = λ c l. m .marked c (omega (arith, h, l)) }
 
 pub all-none : (header : Header) (words index : List ℕ) → CombinationsMarked header words index 0 index
@@ -203,8 +203,8 @@ all-none header words index =
     record { marking = marking-none index; marks = λ number column h. absurd (omega arith) }
 
 pub all-more : {header : Header} {words index₀ index index′ : List ℕ} {number blocks : ℕ}
-    → CombinationsMarked header words index₀ number index → blocks ≡ blocksIn words
-    → ColumnsMarked (header .phones) blocks words number index (header .half) index′
+    → CombinationsMarked header words index₀ number index → blocks ≡ blocksIn (header .half) words
+    → ColumnsMarked header blocks words number index (header .half) index′
     → CombinationsMarked header words index₀ (number + 1) index′
 all-more {header} {words} {index₀} {index} {index′} {number} {blocks} m e more =
     record {
@@ -213,10 +213,11 @@ all-more {header} {words} {index₀} {index} {index′} {number} {blocks} m e mo
           by-test (eqb other number)
           (λ t.
           subst (λ (k : ℕ).
-          MarkedBelow (header .phones) (blocksIn words) k column (columnWord words k column) 65 index′)
+          MarkedBelow (header .phones) (blocksIn (header .half) words) k column
+          (columnWord (header .half) words k column) 65 index′)
           (sym (eqb-true other number t))
           (subst (λ (b : ℕ).
-          MarkedBelow (header .phones) b number column (columnWord words number column) 65 index′) e
+          MarkedBelow (header .phones) b number column (columnWord (header .half) words number column) 65 index′) e
           (more .marked column c)))
           (λ t. marked-stays (more .marking)
           (m .marks other column (omega (arith, h, eqb-false other number t)) c));
@@ -269,7 +270,7 @@ noted-all n h =
 
 -- the ends noted, and then all combinations marked
 pub filled : {header : Header} {words ends index₀ index index′ : List ℕ} → Noted ends index₀ endsSize index
-    → CombinationsMarked header words index (length words / combinationSize) index′
+    → CombinationsMarked header words index (countIn (header .half) words) index′
     → Filled header words ends index₀ index′
 filled n m =
     record {

@@ -108,11 +108,8 @@ module _ {X : Type 0} {code : Code X} {table : List X} {words : List ℕ} (flat 
 -- and whether they are those of an element
 module _ {X : Type 0} {code : Code X} {table : List X} {words : List ℕ} (flat : Flat code table words)
     {x : X} (own : Coded code x) {heads at : ℕ} (p : Passed code heads table x at) (n : at ≡ 0 → ⊥) where
-  abbrev from : ℕ
-  from = code .size * (at - 1)
-
   abbrev part : List ℕ
-  part = take (from + code .size - from) (drop from words)
+  part = take (code .size) (drop (code .size * (at - 1)) words)
 
   abbrev there : X
   there = getD table (at - 1) (code .nothing)
@@ -124,9 +121,7 @@ module _ {X : Type 0} {code : Code X} {table : List X} {words : List ℕ} (flat 
   part-within = words-within flat listed
 
   part-row : part ≡ code .words there
-  part-row =
-      let size : from + code .size - from ≡ code .size = omega arith in
-      ap (λ (k : ℕ). take k (drop from words)) size ∙ words-at flat listed
+  part-row = words-at flat listed
 
   module _ {answer : Bool} (e : answer ≡ same part (code .words x)) where
     pub part-is : answer ≡ true → getD table (at - 1) (code .nothing) ≡ x

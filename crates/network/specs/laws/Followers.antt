@@ -13,7 +13,7 @@ use borrow.Author.Tests.{ltb-true, ltb-false, eqb-true, eqb-false}
 use Rattle.definitions.specs.declared.Header.{Header}
 use Rattle.definitions.specs.Lists.{_!_}
 use Rattle.definitions.specs.PhoneSets.{has}
-use Rattle.definitions.specs.Matrices.{Matrix, matrixSize, matrixWords, valid, meet}
+use Rattle.definitions.specs.Matrices.{Matrix, mostColumns, matrixWords, valid, meet}
 use Rattle.definitions.specs.Combinations.{Combination}
 use Rattle.definitions.specs.Metastates.{Metastate, noCombination, followersFrom}
 use Rattle.definitions.specs.laws.Tests.{T-and, by-test}
@@ -101,7 +101,7 @@ module _ {header : Header} {words columns : List ℕ} (usable : Usable header wo
   abbrev cs : List Combination
   cs = combinationsIn header words
 
-  thin : widthOf (header .half) ≤ matrixSize
+  thin : widthOf (header .half) ≤ mostColumns
   thin = omega (arith, narrow usable)
 
   -- ---- one combination
@@ -110,7 +110,7 @@ module _ {header : Header} {words columns : List ℕ} (usable : Usable header wo
     abbrev own : Matrix
     own = numbered cs number .carried
 
-    pub not-following : {phone place : ℕ} → phone ≡ phoneWord words number → place ≡ header .half
+    pub not-following : {phone place : ℕ} → phone ≡ phoneWord (header .half) words number → place ≡ header .half
         → has phone (columns ! place) ≡ false → followsAt shifted cs number ≡ false
     not-following p q missing =
         let centre : shifted ! header .half ≡ columns ! header .half =
@@ -120,7 +120,7 @@ module _ {header : Header} {words columns : List ℕ} (usable : Usable header wo
 
     -- the meet in seven words
     module _ {record-columns met : List ℕ}
-        (r : record-columns ≡ ownColumns words number)
+        (r : record-columns ≡ ownColumns (header .half) words number)
         (m : met ≡ meet columns record-columns) where
       met-own : met ≡ meet columns (matrixWords own)
       met-own = m ∙ ap (meet columns) (r ∙ matrix-word header words usable number h)
@@ -144,7 +144,7 @@ module _ {header : Header} {words columns : List ℕ} (usable : Usable header wo
   -- where the centre lacks the phone of a combination and those after it, up to one: none follows before that
   -- one's combinations
   module _ {index : List ℕ} (ix : Indexed header words index) {number : ℕ} (h : number < length cs)
-      {phone place next : ℕ} (p : phone ≡ phoneWord words number) (q : place ≡ header .half)
+      {phone place next : ℕ} (p : phone ≡ phoneWord (header .half) words number) (q : place ≡ header .half)
       (missing : has phone (columns ! place) ≡ false) (n : NextMember (columns ! place) (phone + 1) next)
     where
       its-phone : phone ≡ numbered cs number .phone

@@ -137,7 +137,7 @@ module _ {header : Header} {nodes words columns : List ℕ} {from : ℕ} {metast
         (m : met ≡ meet (matrixIn (header .half) columns) (numbered cs number .carried)) where
       abbrev entered : Outcome Network
       entered =
-          perform (machineOf (nodesBook header nodes) cs) (roomOf metastates arcs) now
+          perform (machineOf (nodesBook header nodes) cs) (roomOf (header .half) metastates arcs) now
           (enter from (record { number = number; carried = met }))
 
       -- its arc first, then the others
@@ -149,10 +149,10 @@ module _ {header : Header} {nodes words columns : List ℕ} {from : ℕ} {metast
           (followers-found (matrixIn (header .half) columns) cs number (t .found) h)
           ∙ ap (λ (o : Outcome Network). andThen o (onward (suc number))) same
         where
-          same-room : roomOf metastates₀ arcs₀ ≡ roomOf metastates arcs
+          same-room : roomOf (header .half) metastates₀ arcs₀ ≡ roomOf (header .half) metastates arcs
           same-room = rw (← t .metastates-sized, ← t .arcs-sized)
 
-          same : perform (machineOf (nodesBook header nodes) cs) (roomOf metastates₀ arcs₀) now
+          same : perform (machineOf (nodesBook header nodes) cs) (roomOf (header .half) metastates₀ arcs₀) now
               (enter from (metAt (matrixIn (header .half) columns) cs number)) ≡ entered
           same = rw (same-room, ← m)
 

@@ -2,67 +2,75 @@
 -- and cleared words hold none.
 use mathlib.Core.Path.{_≡_, refl, sym, ap, ap₂, _∙_}
 use mathlib.Core.List.{List, _∷_}
-use Prim.Native.Nat.{ℕ, suc, _≤_, _<_}
+use Prim.Native.Nat.{ℕ, suc, _/_, _≤_, _<_}
 use native.Mathlib.Omega.{arith}
-use lib.ListN.{length, length-replicate}
+use lib.ListN.{length, take, length-replicate}
 use Rattle.definitions.specs.Lists.{cleared}
+use Rattle.definitions.specs.Matrices.{matrixWords, matrixSize, matrixRecord}
 use Rattle.definitions.specs.Metastates.{Metastate, metastateSize, metastateWords}
 use Rattle.definitions.specs.Building.{roomIn}
 use Rattle.definitions.specs.Connecting.{Network, noNetwork}
 use Rattle.definitions.specs.laws.Metastates.{metastates-equal}
-use Rattle.definitions.specs.laws.SevenWords.{words-length, words-take}
-use Rattle.network.specs.Chains.{Coded, headsIn}
-use Rattle.matrix.specs.Shapes.{widthOf, HasWidth}
+use Rattle.definitions.specs.laws.Lists.{padded-take}
+use Rattle.definitions.specs.laws.Records.{records-within}
+use Rattle.definitions.specs.laws.Sizes.{record-length, value-record}
+use Rattle.network.specs.Chains.{Coded, keyOf, headsIn}
+use Rattle.matrix.specs.Shapes.{widthOf, matrixIn, HasWidth}
+use Rattle.matrix.specs.laws.Widths.{width-taken}
 use Rattle.network.specs.Networks.{metastateIn, metastateWith, metastateCode, networkHeld, sizesOf}
 use Rattle.network.specs.Networks.{metastateRoom, roomOf, Holds}
 use Rattle.network.specs.laws.KeptBack.{kept-back, kept-none}
 
 -- ---- a metastate and its words
 
-row-length : (x : Metastate) → length (x .carried) ≤ 7 → length (metastateWords x) ≡ metastateSize
-unfolding metastateWords
-row-length x h = ap suc (words-length (x .carried) h)
-
 pub metastate-coded : (half : ℕ) → half ≤ 3 → (x : Metastate) → length (x .carried) ≡ widthOf half
     → Coded (metastateCode half) x
-unfolding metastateIn metastateWords
+unfolding metastateIn metastateWords matrixRecord
 metastate-coded half few x e = record {
-  sized = row-length x (omega (arith, e));
-  back = metastates-equal _ x refl (words-take (x .carried) e);
+  sized = omega (arith, record-length half few (x .carried) e);
+  back = metastates-equal _ x refl (padded-take (matrixSize half) (widthOf half) (x .carried) (sym e));
 }
 
--- one whose matrix in seven words has the book's width
-module _ (half number : ℕ) (columns : List ℕ) (shaped : HasWidth (widthOf half) columns) where
-  pub metastate-row : number ∷ columns ≡ metastateWords (metastateWith half number columns)
-  unfolding metastateWords
-  metastate-row = ap (λ (l : List ℕ). number ∷ l) shaped
+-- one whose matrix in seven words has the book's width: its key, and its words
+module _ (half number : ℕ) (columns : List ℕ) (few : half ≤ 3) (shaped : HasWidth (widthOf half) columns) where
+  abbrev x : Metastate
+  x = metastateWith half number columns
 
-  pub metastate-told : length columns ≡ 7 → Coded (metastateCode half) (metastateWith half number columns)
-  unfolding metastateIn
-  metastate-told seven = record {
-    sized = ap length (sym metastate-row) ∙ ap suc seven;
-    back = ap (metastateIn (widthOf half)) (sym metastate-row);
-  }
+  pub metastate-wide : length (matrixIn half columns) ≡ widthOf half
+  metastate-wide = width-taken (omega (arith, few)) shaped
+
+  pub metastate-key : keyOf (number ∷ columns) ≡ keyOf (number ∷ matrixWords (matrixIn half columns))
+  metastate-key = ap (λ (l : List ℕ). keyOf (number ∷ l)) shaped
+
+  pub metastate-row : take (metastateSize half) (number ∷ columns) ≡ metastateWords half x
+  unfolding metastateWords
+  metastate-row =
+      let first : metastateSize half ≡ suc (matrixSize half) = omega arith in
+      ap (λ (k : ℕ). take k (number ∷ columns)) first
+      ∙ ap (λ (l : List ℕ). number ∷ l)
+      (ap (take (matrixSize half)) shaped ∙ value-record half few (matrixIn half columns) metastate-wide)
 
 -- ---- a network
 
 -- the room depends on the lengths alone
-pub same-room : (metastates metastates′ arcs arcs′ : List ℕ) → length metastates′ ≡ length metastates
-    → length arcs′ ≡ length arcs → roomOf metastates arcs ≡ roomOf metastates′ arcs′
-same-room metastates metastates′ arcs arcs′ e f =
-    ap₂ (λ (m a : ℕ). roomIn (record { combinations = 0; metastates = m; arcs = a })) (sym e) (sym f)
+pub same-room : (half : ℕ) (metastates metastates′ arcs arcs′ : List ℕ) → length metastates′ ≡ length metastates
+    → length arcs′ ≡ length arcs → roomOf half metastates arcs ≡ roomOf half metastates′ arcs′
+same-room half metastates metastates′ arcs arcs′ e f =
+    ap₂ (λ (m a : ℕ). roomIn half (record { combinations = 0; metastates = m; arcs = a })) (sym e) (sym f)
 
 pub held-back : {half count : ℕ} {net : Network} {metastates arcs chains : List ℕ}
     → Holds half count net metastates arcs chains → networkHeld half (sizesOf net) metastates arcs ≡ net
 held-back h = kept-back (h .kept)
 
 pub held-empty : (half count m n : ℕ) {chains : List ℕ} → chains ≡ cleared (length chains)
-    → metastateRoom (cleared m) < headsIn chains → Holds half count noNetwork (cleared m) (cleared n) chains
+    → metastateRoom half (cleared m) < headsIn chains → Holds half count noNetwork (cleared m) (cleared n) chains
 unfolding roomIn
 held-empty half count m n {chains} e h = record {
   kept =
-      kept-none (metastateCode half) (roomOf (cleared m) (cleared n)) m n e h
-      (omega (arith, length-replicate {A = ℕ} m 0)) (omega (arith, length-replicate {A = ℕ} n 0));
+      kept-none (metastateCode half) (roomOf half (cleared m) (cleared n)) m n e h
+      (records-within (metastateSize half) _
+      (omega (arith, ap (λ (k : ℕ). k / metastateSize half) (length-replicate {A = ℕ} m 0))))
+      (omega (arith, length-replicate {A = ℕ} n 0));
   numbers = λ x h. absurd h;
   widths = λ x h. absurd h;
 }

@@ -1,28 +1,26 @@
 -- Laws about a network held in lent words: the record of the metastate at a place, and arcs appended.
-use mathlib.Core.Path.{_≡_, refl, sym, ap, _∙_}
-use mathlib.Core.List.{List, [], _∷_, _++_}
-use Prim.Native.Nat.{ℕ, suc, _+_, _*_, _≤_, _<_}
+use mathlib.Core.Path.{_≡_, sym, ap, _∙_}
+use mathlib.Core.List.{List, _++_}
+use Prim.Native.Nat.{ℕ, _+_, _*_, _≤_, _<_}
 use native.Mathlib.Omega.{arith}
 use lib.ListN.{length, take, drop, getD}
-use lib.Seq.{take-nil, drop-drop, getD-drop, getD-take}
 use Rattle.definitions.specs.Lists.{_!_}
 use Rattle.definitions.specs.Arcs.{Arc, arcSize, arcWords}
-use Rattle.definitions.specs.Matrices.{matrixSize, matrixWords}
+use Rattle.definitions.specs.Matrices.{matrixWords}
 use Rattle.definitions.specs.Metastates.{Metastate, metastateSize, metastateWords}
 use Rattle.definitions.specs.Building.{roomIn}
 use Rattle.definitions.specs.Connecting.{Network, noMetastate}
 use Rattle.definitions.specs.laws.Members.{isIn, in-at}
-use Rattle.definitions.specs.laws.Records.{flat-length, arc-sized}
+use Rattle.definitions.specs.laws.Records.{record-within, flat-length, arc-sized}
+use Rattle.matrix.specs.laws.Words.{firstSeven, record-seven}
 use Rattle.network.specs.declared.Arcs.{Arcs}
+use Rattle.network.specs.declared.Follower.{Follower}
+use Rattle.network.specs.RecordWords.{recordOf, RecordWithin, IsMetastate}
 use Rattle.network.specs.Networks.{arcRoom, Holds}
 use Rattle.network.specs.Steps.{AreArcs}
 use Rattle.network.specs.laws.KeptBack.{kept-words}
 use Rattle.network.specs.laws.KeptMore.{withArcs, put-arcs}
 use Rattle.network.specs.laws.HoldsMore.{holds-arcs}
-
-take-rest : (n : ℕ) (l : List ℕ) → take n (drop 1 l) ≡ drop 1 (take (suc n) l)
-take-rest n [] = take-nil n
-take-rest n (y ∷ l) = refl
 
 module _ {half count : ℕ} {net : Network} {metastates arcs chains : List ℕ}
     (holds : Holds half count net metastates arcs chains)
@@ -32,10 +30,6 @@ module _ {half count : ℕ} {net : Network} {metastates arcs chains : List ℕ}
     pub metastates-few : length (net .table) ≤ 65535
     unfolding roomIn
     metastates-few = omega (arith, holds .kept .table-room)
-
-    pub metastates-within : metastateSize * length (net .table) ≤ length metastates
-    unfolding roomIn
-    metastates-within = omega (arith, holds .kept .table-room)
 
     pub arcs-within : length (net .arcs) ≤ arcRoom arcs
     unfolding roomIn
@@ -50,23 +44,26 @@ module _ {half count : ℕ} {net : Network} {metastates arcs chains : List ℕ}
       pub held-in : isIn x (net .table)
       held-in = in-at (net .table) place noMetastate h
 
-      held-row : take metastateSize (drop (metastateSize * place) metastates) ≡ metastateWords x
-      held-row = kept-words (holds .kept) h
+      -- its record stands in the words
+      pub held-within : RecordWithin (metastateSize half) metastates place
+      unfolding roomIn
+      held-within =
+          record-within (metastateSize half) place (omega (arith, h, holds .kept .table-room))
 
-      pub held-number : metastates ! (metastateSize * place) ≡ x .number
-      unfolding metastateWords
-      held-number =
-          let at : metastateSize * place ≡ metastateSize * place + 0 = omega arith in
-          ap (λ (i : ℕ). metastates ! i) at ∙ sym (getD-drop (metastateSize * place) metastates 0 0)
-          ∙ sym (getD-take metastateSize (drop (metastateSize * place) metastates) 0 0 (omega arith))
-          ∙ ap (λ (l : List ℕ). l ! 0) held-row
+      -- what is read there is the metastate
+      module _ (few : half ≤ 3) {q : Follower} (is : IsMetastate half metastates place q) where
+        held-record : recordOf (metastateSize half) metastates place ≡ metastateWords half x
+        held-record = kept-words (holds .kept) h
 
-      pub held-matrix : take matrixSize (drop (metastateSize * place + 1) metastates) ≡ matrixWords (x .carried)
-      unfolding metastateWords
-      held-matrix =
-          let at : ℕ = metastateSize * place in
-          ap (take matrixSize) (sym (drop-drop 1 at metastates)) ∙ take-rest matrixSize (drop at metastates)
-          ∙ ap (drop 1) held-row
+        pub held-number : q .number ≡ x .number
+        unfolding metastateWords
+        held-number = is .number-is ∙ ap (λ (l : List ℕ). l ! 0) held-record
+
+        pub held-matrix : q .met .columns ≡ matrixWords (x .carried)
+        unfolding metastateWords
+        held-matrix =
+            is .columns-are ∙ ap (λ (l : List ℕ). firstSeven (drop 1 l)) held-record
+            ∙ record-seven half few (x .carried) (holds .widths x held-in)
 
     -- ---- arcs appended
 

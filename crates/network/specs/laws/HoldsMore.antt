@@ -15,7 +15,7 @@ use Rattle.definitions.specs.laws.Limits.{withArc, withElement}
 use Rattle.definitions.specs.laws.Records.{read-length}
 use Rattle.definitions.specs.laws.NetworkKnown.{arcs-length}
 use Rattle.network.specs.declared.Sizes.{Sizes}
-use Rattle.network.specs.Chains.{headsIn, linkedTo, keyOf}
+use Rattle.network.specs.Chains.{headsIn, linkedTo}
 use Rattle.matrix.specs.Shapes.{widthOf}
 use Rattle.network.specs.Networks.{metastateIn, metastateCode, networkHeld, sizesOf}
 use Rattle.network.specs.Networks.{arcRoom, metastateRoom, Holds}
@@ -28,7 +28,7 @@ use Rattle.network.specs.laws.KeptMore.{withArcs, kept-arcs, put-arcs, k
 pub held-sizes : (half : ℕ) (sizes : Sizes) (metastates arcs : List ℕ)
     → sizesOf (networkHeld half sizes metastates arcs) ≡ sizes
 held-sizes half sizes metastates arcs = λ i. record {
-  metastates = read-length metastateSize (metastateIn (widthOf half)) (sizes .metastates) metastates i;
+  metastates = read-length (metastateSize half) (metastateIn (widthOf half)) (sizes .metastates) metastates i;
   arcs = arcs-length (sizes .arcs) arcs i;
 }
 
@@ -50,7 +50,7 @@ module _ {half count : ℕ} {net : Network} {metastates arcs chains : List ℕ}
         record {
           kept =
               subst (λ room. Kept (metastateCode half) room (withArcs net added) metastates arcs′ chains)
-              (same-room metastates metastates arcs arcs′ refl size) kept;
+              (same-room half metastates metastates arcs arcs′ refl size) kept;
           numbers = held .numbers;
           widths = held .widths;
         },
@@ -68,25 +68,25 @@ module _ {half count : ℕ} {net : Network} {metastates arcs chains : List ℕ}
       (f ∙ ap (λ (k : ℕ). take (arcSize * k) arcs ++ arcWords a ++ drop (arcSize * k + arcSize) arcs) e))
 
   pub holds-metastate : half ≤ 3 → (x : Metastate) {n : ℕ} {metastates′ chains′ : List ℕ} → n ≡ length (net .table)
-      → n < metastateRoom metastates
+      → n < metastateRoom half metastates
       → (isIn x (net .table) → ⊥) → x .number < count → length (x .carried) ≡ widthOf half
-      → metastates′ ≡ take (metastateSize * n) metastates ++ metastateWords x
-      ++ drop (metastateSize * n + metastateSize) metastates
-      → chains′ ≡ linkedTo (headsIn chains) chains n (keyOf (metastateWords x))
+      → metastates′ ≡ take (metastateSize half * n) metastates ++ metastateWords half x
+      ++ drop (metastateSize half * n + metastateSize half) metastates
+      → chains′ ≡ linkedTo (headsIn chains) chains n (metastateCode half .key x)
       → (length metastates′ ≡ length metastates)
       × Holds half count (withElement net x) metastates′ arcs chains′
   unfolding roomIn
   holds-metastate few x {n} {metastates′} {chains′} e h new number width f g =
       let (size, kept) =
       kept-element (held .kept) x (metastate-coded half few x width) new (omega (arith, e, h))
-      (f ∙ ap (λ (k : ℕ). take (metastateSize * k) metastates ++ metastateWords x
-      ++ drop (metastateSize * k + metastateSize) metastates) e)
-      (g ∙ ap (λ (k : ℕ). linkedTo (headsIn chains) chains k (keyOf (metastateWords x))) e) in (
+      (f ∙ ap (λ (k : ℕ). take (metastateSize half * k) metastates ++ metastateWords half x
+      ++ drop (metastateSize half * k + metastateSize half) metastates) e)
+      (g ∙ ap (λ (k : ℕ). linkedTo (headsIn chains) chains k (metastateCode half .key x)) e) in (
         size,
         record {
           kept =
               subst (λ room. Kept (metastateCode half) room (withElement net x) metastates′ arcs chains′)
-              (same-room metastates metastates′ arcs arcs size refl) kept;
+              (same-room half metastates metastates′ arcs arcs size refl) kept;
           numbers = λ y i.
               ⊎-elim (held .numbers y) (λ j. subst (λ z. z .number < count) (sym (of-single x y j)) number)
               (of-append y (net .table) (x ∷ []) i);

@@ -121,8 +121,14 @@ module _ {X : Type 0} {code : Code X} {room : Room} {net : Grown X} {table arcs 
       let row : List ℕ = code .words x in
       let most : code .size * suc (length (net .table)) ≤ code .size * room .table = mul-le-mul-left (code .size) h in
       let few : length used + length row ≤ length table =
-      omega (arith, elements-words, told .sized, most, mul-suc (code .size) (length (net .table)),
-      kept .table-fits) in
+      omega (
+        arith,
+        elements-words,
+        told .sized,
+        most,
+        mul-suc (code .size) (length (net .table)),
+        kept .table-fits,
+      ) in
       let there : table′ ≡ take (code .size * length (net .table)) table ++ row
       ++ drop (code .size * length (net .table) + length row) table =
       f ∙ ap (λ (i : ℕ). take (code .size * length (net .table)) table ++ row

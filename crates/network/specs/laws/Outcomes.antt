@@ -6,6 +6,7 @@ use Prim.Native.Nat.{ℕ, _≤_}
 use lib.ListN.{length}
 use Rattle.definitions.specs.declared.Fault.{Fault}
 use Rattle.definitions.specs.declared.Refusal.{Refusal}
+use Rattle.definitions.specs.declared.Header.{Header}
 use Rattle.definitions.specs.Faults.{Outcome, answered, refused}
 use Rattle.definitions.specs.Connecting.{Network, Built}
 use Rattle.definitions.specs.laws.Judging.{refused-not-answered}
@@ -30,18 +31,18 @@ next-answered {half} {metastates′ = metastates′} {arcs′ = arcs′} {outcom
     ∙ held-back (left .holds net is) in
     is ∙ ap answered (sym back)
 
-pub refused-left : (states : ℕ) {metastates arcs metastates′ arcs′ : List ℕ} {outcome : Outcome Built}
+pub refused-left : (header : Header) {metastates arcs metastates′ arcs′ : List ℕ} {outcome : Outcome Built}
     {fault : Fault} (r : Refusal) → outcome ≡ refused r → r .fault ≡ fault → r .line ≡ 0
     → length metastates′ ≡ length metastates → length arcs′ ≡ length arcs
-    → Connected states metastates arcs outcome (build.Refused (record { fault = fault; line = 0 }))
+    → Connected header metastates arcs outcome (build.Refused (record { fault = fault; line = 0 }))
     metastates′ arcs′
 unfolding buildOf
-refused-left states {outcome = outcome} {fault = fault} r e same line m a =
+refused-left header {outcome = outcome} {fault = fault} r e same line m a =
     let refusal : r ≡ record { fault = fault; line = 0 } = λ i. record { fault = same i; line = line i } in
     let none : ((built : Built) → outcome ≡ answered built → ⊥) =
     λ built k. refused-not-answered outcome (r .fault) (r .line) built e k in
     record {
-      answers = ap (λ z. build.Refused z) (sym refusal) ∙ ap (buildOf states) (sym e);
+      answers = ap (λ z. build.Refused z) (sym refusal) ∙ ap (buildOf (header .states)) (sym e);
       metastate-words = λ built k. absurd (none built k);
       arc-words = λ built k. absurd (none built k);
       metastates-sized = m;

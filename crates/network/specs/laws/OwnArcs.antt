@@ -172,7 +172,7 @@ module _ {header : Header} {nodes combinations : List ℕ} {place : ℕ} (x : Me
     usable = p .connectable .usable
 
     model-at : (state : ℕ) → state < header .states
-        → modelWord nodes combinations (x .number) state
+        → modelWord (header .half) combinations (x .number) nodes state
         ≡ modelsOf (nodesBook header nodes) (combinationsIn header combinations) x ! state
     model-at state k =
         let ranges = header-ranges header (usable .header-known) in
@@ -183,13 +183,13 @@ module _ {header : Header} {nodes combinations : List ℕ} {place : ℕ} (x : Me
         (p .connectable .modelled) x refl state k
 
     pub own-are : {states state : ℕ} {new : Arcs} → states ≡ header .states
-        → OwnArcs (modelWord nodes combinations (x .number)) (2 + place * states) states state new
+        → OwnArcs (modelWord (header .half) combinations (x .number) nodes) (2 + place * states) states state new
         → states ≤ state
         → AreArcs new (ownArcs (firstState (header .states) place)
         (drop 1 (modelsOf (nodesBook header nodes) (combinationsIn header combinations) x)))
     unfolding firstState
     own-are {states} {state} {new} e o end =
-        let model : (ℕ → ℕ) = modelWord nodes combinations (x .number) in
+        let model : (ℕ → ℕ) = modelWord (header .half) combinations (x .number) nodes in
         let all : List ℕ = modelsOf (nodesBook header nodes) (combinationsIn header combinations) x in
         own-all model (2 + place * header .states) (header .states)
         (subst (λ (n : ℕ). OwnArcs model (2 + place * n) n state new) e o) all

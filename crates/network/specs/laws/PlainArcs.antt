@@ -38,7 +38,7 @@ module _ {header : Header} {nodes combinations : List ℕ} {place : ℕ} (x : Me
     Own new =
         AreArcs new (ownOf header nodes combinations place (record { number = x .number; carried = [] }))
 
-    phone-is : {phone : ℕ} → phone ≡ phoneWord combinations (x .number)
+    phone-is : {phone : ℕ} → phone ≡ phoneWord (header .half) combinations (x .number)
         → phone ≡ phoneOf (combinationsIn header combinations) x
     unfolding phoneOf combinationOf
     phone-is e = e ∙ phone-word header combinations usable (x .number) (p .listed)
@@ -49,7 +49,7 @@ module _ {header : Header} {nodes combinations : List ℕ} {place : ℕ} (x : Me
     no-final {new} e own = subst (AreArcs new) (rw (e, append-nil)) own
 
     -- another phone than silence
-    pub plain-other : {phone : ℕ} {new : Arcs} → phone ≡ phoneWord combinations (x .number)
+    pub plain-other : {phone : ℕ} {new : Arcs} → phone ≡ phoneWord (header .half) combinations (x .number)
         → (phone ≡ 1 → ⊥) → Own new → Plain new
     unfolding mayEnd
     plain-other e n own = no-final (rw (ne-eqb _ 1 (λ k. n (phone-is e ∙ k)))) own
@@ -64,7 +64,7 @@ module _ {header : Header} {nodes combinations : List ℕ} {place : ℕ} (x : Me
 
     -- the arc to FINAL
     pub plain-final : {phone last : ℕ} {answer : Bool} {new more : Arcs}
-        → phone ≡ phoneWord combinations (x .number) → phone ≡ 1
+        → phone ≡ phoneWord (header .half) combinations (x .number) → phone ≡ 1
         → answer ≡ endsHere (header .half) (x .carried) → not answer ≡ false
         → last ≡ lastState (header .states) place → Own new
         → ((arcs : List Arc) → AreArcs new arcs → AreArcs more (arcs ++ (arc last 1 0 0 ∷ []))) → Plain more

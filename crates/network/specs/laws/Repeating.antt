@@ -13,7 +13,7 @@ use Rattle.definitions.specs.declared.Header.{Header}
 use Rattle.definitions.specs.declared.Fault.{Fault}
 use Rattle.definitions.specs.declared.Fault.the-variants.{Tangle}
 use Rattle.definitions.specs.Faults.{Outcome, answered, refuse}
-use Rattle.definitions.specs.Lists.{concatMap, padded, same}
+use Rattle.definitions.specs.Lists.{_!_, concatMap, padded, same}
 use Rattle.definitions.specs.PhoneSets.{allPhones}
 use Rattle.definitions.specs.Arcs.{Arc, arcsIn, arcWords, lastState}
 use Rattle.definitions.specs.Matrices.{shift}
@@ -42,6 +42,8 @@ use Rattle.network.specs.Outcomes.{followedFrom, followedOn}
 use Rattle.network.specs.Spans.{leavingFrom, copiesOf, spanSize, SlotWithin, placeIn, firstIn, endIn}
 use Rattle.network.specs.Spans.{notedIn, followersAt, arcsTo, IsSpan, Spanned}
 use Rattle.network.specs.Repeating.{Repeated, Repeats}
+use Rattle.network.specs.RecordWords.{recordOf, IsMetastate}
+use Rattle.network.specs.declared.Follower.{Follower}
 use Rattle.network.specs.Underway.{BetweenTurns, Expandable, Onward}
 use Rattle.network.specs.laws.Steps.{step-stop}
 use Rattle.network.specs.laws.Outcomes.{next-answered}
@@ -63,7 +65,7 @@ slot-within n size h = let l = mod-lt n {m = size / spanSize} (some-slots size h
 -- whether it is of a metastate with the same shifted matrix, by the code's steps
 pub alike-repeats : (header : Header) (metastates spans : List ℕ) (slot : ℕ) (columns : List ℕ)
     {place half all : ℕ} {m shifted : List ℕ} {answer : Bool} → place ≡ placeIn spans slot → (place ≡ 0 → ⊥)
-    → m ≡ firstSeven (drop (metastateSize * (place - 1) + 1) metastates)
+    → m ≡ firstSeven (drop 1 (recordOf (metastateSize (header .half)) metastates (place - 1)))
     → all ≡ allPhones (min (header .phones) 64) → half ≡ header .half
     → shifted ≡ shiftedWords (2 * half) all m
     → answer ≡ same shifted columns → Repeats header metastates spans slot columns answer
@@ -90,7 +92,7 @@ module _ {header : Header} {nodes words index metastates arcs chains spans : Lis
     net = networkHeld (header .half) sizes metastates arcs
 
     abbrev room : Room
-    room = roomOf metastates arcs
+    room = roomOf (header .half) metastates arcs
 
     abbrev from : ℕ
     from = lastState (header .states) place
@@ -211,7 +213,7 @@ module _ {header : Header} {nodes words index metastates arcs chains spans : Lis
 
     module _ (slot : ℕ) {other : ℕ} (h : SlotWithin spans slot) (is : placeIn spans slot ≡ suc other)
         (alike : shiftedWords (2 * header .half) (allPhones (min (header .phones) 64))
-        (firstSeven (drop (metastateSize * other + 1) metastates)) ≡ columns)
+        (firstSeven (drop 1 (recordOf (metastateSize (header .half)) metastates other))) ≡ columns)
       where
         abbrev first : ℕ
         first = firstIn spans slot
@@ -229,8 +231,19 @@ module _ {header : Header} {nodes words index metastates arcs chains spans : Lis
               listed = omega (arith, span .listed, ap (λ (z : Sizes). z .metastates) asked);
             }
 
+        -- the metastate that is noted
+        noted : Follower
+        noted = record {
+          number = recordOf (metastateSize (header .half)) metastates other ! 0;
+          met = record { columns = firstSeven (drop 1 (recordOf (metastateSize (header .half)) metastates other)) };
+        }
+
         followers-are : followersAt book cs net other ≡ xs
-        followers-are = same-followers other (sym (shifted-is there refl refl refl (sym alike)))
+        unfolding noted
+        followers-are =
+            let own : IsMetastate (header .half) metastates other noted =
+            record { number-is = refl; columns-are = refl } in
+            same-followers other (sym (shifted-is there own refl refl (sym alike)))
 
         many : end - first ≡ length xs
         many = omega (arith, span .counted, ap length followers-are)

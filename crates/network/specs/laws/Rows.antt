@@ -14,7 +14,7 @@ use borrow.Author.Tests.{ltb-true, ltb-false, leb-true, lt-ltb, le-leb}
 use Rattle.definitions.specs.declared.Header.{Header}
 use Rattle.definitions.specs.Lists.{_!_, if_then_else_}
 use Rattle.definitions.specs.PhoneSets.{has, alone, allPhones}
-use Rattle.definitions.specs.Matrices.{Matrix, matrixSize, matrixWords, meet}
+use Rattle.definitions.specs.Matrices.{Matrix, mostColumns, matrixWords, meet}
 use Rattle.definitions.specs.Combinations.{Combination, combinationSize}
 use Rattle.definitions.specs.laws.Tests.{by-test, T-and}
 use Rattle.definitions.specs.laws.PhoneSets.{has-and, has-alone, has-all, member-nonzero}
@@ -58,7 +58,7 @@ module _ {header : Header} {words index columns : List ℕ} (s : Seeking header 
   abbrev width : ℕ
   width = widthOf (header .half)
 
-  thin : width ≤ matrixSize
+  thin : width ≤ mostColumns
   thin = omega (arith, narrow (s .usable))
 
   -- no row: all bits count as set
@@ -69,16 +69,16 @@ module _ {header : Header} {words index columns : List ℕ} (s : Seeking header 
     abbrev own : Matrix
     own = numbered cs number .carried
 
-    own-is : (c : ℕ) → c < width → (own ! c) ≡ columnWord words number c
+    own-is : (c : ℕ) → c < width → (own ! c) ≡ columnWord (header .half) words number c
     own-is c l =
         ap (λ (m : List ℕ). m ! c) (sym (words-take own (s .usable .each number h .width)))
         ∙ getD-take width (matrixWords own) c 0 l
         ∙ ap (λ (m : List ℕ). m ! c) (sym (matrix-word header words (s .usable) number h))
-        ∙ sym (seven-at (drop 4 (recordOf combinationSize words number)) c (omega (arith, l, thin)))
+        ∙ sym (seven-at (drop 4 (recordOf (combinationSize (header .half)) words number)) c (omega (arith, l, thin)))
 
     -- a follower and the matrix have a phone in common in each column
     common : (c : ℕ) → c < width → followsAt shifted cs number ≡ true
-        → (p : ℕ) × T (has p (columns ! c)) × T (has p (columnWord words number c))
+        → (p : ℕ) × T (has p (columns ! c)) × T (has p (columnWord (header .half) words number c))
     common c l follows =
         let long : length (meet shifted own) ≡ width =
         meet-length shifted own (width-taken thin (s .shaped) ∙ sym (s .usable .each number h .width))
@@ -94,7 +94,8 @@ module _ {header : Header} {words index columns : List ℕ} (s : Seeking header 
 
   -- the row of the phone that a column has alone
   pub row-admits : {column phone one row blocks : ℕ} → column < header .half → 1 ≤ phone
-      → one ≡ (if leb phone 64 then alone phone else 0) → columns ! column ≡ one → blocks ≡ blocksIn words
+      → one ≡ (if leb phone 64 then alone phone else 0) → columns ! column ≡ one
+      → blocks ≡ blocksIn (header .half) words
       → row ≡ rowAt (header .phones) blocks column phone → row ≤ farthest → Admits shifted cs index row
   row-admits {column} {phone} {one} {row} {blocks} left some e f b r near =
       record {
@@ -102,8 +103,8 @@ module _ {header : Header} {words index columns : List ℕ} (s : Seeking header 
         marked = λ number h follows.
             let (p, mine, theirs) = common number h column (omega (arith, left)) follows in
             let (same, few) = only p phone some (subst (λ (z : ℕ). T (has p z)) (f ∙ e) mine) in
-            let at : rowAt (header .phones) (blocksIn words) column p ≡ row =
-            ap (λ (q : ℕ). rowAt (header .phones) (blocksIn words) column q) same
+            let at : rowAt (header .phones) (blocksIn (header .half) words) column p ≡ row =
+            ap (λ (q : ℕ). rowAt (header .phones) (blocksIn (header .half) words) column q) same
             ∙ ap (λ (k : ℕ). rowAt (header .phones) k column phone) (sym b) ∙ sym r in
             subst (λ (q : ℕ). IsMarked index q number) at
             (s .indexed .marks number column h left .each p (omega (arith, same, few)) theirs);

@@ -80,7 +80,7 @@ pub record Turned (header : Header) (nodes combinations index metastates₀ arcs
   pub between : BetweenTurns header nodes combinations index metastates arcs chains spans sizes
   pub rest : turnedFrom header nodes combinations metastates₀ arcs₀ sizes₀ limit
       ≡ turnsFrom (machineIn header nodes combinations)
-      (roomOf metastates₀ arcs₀) (limit - turns) turns (networkHeld (header .half) sizes metastates arcs)
+      (roomOf (header .half) metastates₀ arcs₀) (limit - turns) turns (networkHeld (header .half) sizes metastates arcs)
 
 pub turned-none : {header : Header} {nodes combinations index metastates arcs chains spans : List ℕ}
     {sizes : Sizes} {limit : ℕ}
@@ -110,7 +110,7 @@ module _ {header : Header} {nodes combinations index metastates₀ arcs₀ chain
     cs = combinationsIn header combinations
 
     abbrev room : Room
-    room = roomOf metastates₀ arcs₀
+    room = roomOf (header .half) metastates₀ arcs₀
 
     abbrev whole : Outcome Built
     whole = turnedFrom header nodes combinations metastates₀ arcs₀ sizes₀ limit
@@ -127,7 +127,7 @@ module _ {header : Header} {nodes combinations index metastates₀ arcs₀ chain
     arcs-are : length (net .arcs) ≡ sizes .arcs
     arcs-are = ap (λ (z : Sizes). z .arcs) (held-sizes (header .half) sizes metastates arcs)
 
-    same-room : roomOf metastates arcs ≡ room
+    same-room : roomOf (header .half) metastates arcs ≡ room
     unfolding roomIn
     same-room = rw (t .metastates-sized, t .arcs-sized)
 
@@ -150,14 +150,14 @@ module _ {header : Header} {nodes combinations index metastates₀ arcs₀ chain
 
     answered-left : {answer : Build} (built : Built) → networkIn built ≡ net → whole ≡ answered built
         → answer ≡ buildOf (header .states) (answered built)
-        → Connected (header .states) metastates₀ arcs₀ whole answer metastates arcs
+        → Connected header metastates₀ arcs₀ whole answer metastates arcs
     answered-left built is e a =
         record {
           answers = a ∙ ap (buildOf (header .states)) (sym e);
           metastate-words = λ other k.
               let same : net ≡ networkIn other = sym is ∙ ap networkIn (the-same other k) in
               underway .kept .table-words
-              ∙ ap₂ (λ (n : ℕ) (l : Network). padded n (concatMap metastateWords (l .table)))
+              ∙ ap₂ (λ (n : ℕ) (l : Network). padded n (concatMap (metastateWords (header .half)) (l .table)))
               (t .metastates-sized) same;
           arc-words = λ other k.
               let same : net ≡ networkIn other = sym is ∙ ap networkIn (the-same other k) in
@@ -172,7 +172,7 @@ module _ {header : Header} {nodes combinations index metastates₀ arcs₀ chain
 
     pub turn-finished : {place : ℕ} {total : Totals} → place ≡ turns → sizes .metastates ≤ place
         → total ≡ totalsAt (header .states) turns sizes
-        → Connected (header .states) metastates₀ arcs₀ whole (build.Finished total) metastates arcs
+        → Connected header metastates₀ arcs₀ whole (build.Finished total) metastates arcs
     unfolding grownIn buildOf
     turn-finished e h total =
         answered-left (finished turns net) refl
@@ -182,7 +182,7 @@ module _ {header : Header} {nodes combinations index metastates₀ arcs₀ chain
     pub turn-stopped : {place : ℕ} {total : Totals} → place ≡ turns → limit ≤ turns
         → place < sizes .metastates
         → total ≡ totalsAt (header .states) turns sizes
-        → Connected (header .states) metastates₀ arcs₀ whole (build.Stopped total) metastates arcs
+        → Connected header metastates₀ arcs₀ whole (build.Stopped total) metastates arcs
     unfolding grownIn buildOf
     turn-stopped e k h total =
         let none : limit - turns ≡ 0 = omega arith in
@@ -245,12 +245,12 @@ module _ {header : Header} {nodes combinations index metastates₀ arcs₀ chain
             }
 
         pub turn-refused : {fault : Fault} → answer ≡ step.Stop fault
-            → Connected (header .states) metastates₀ arcs₀ whole
+            → Connected header metastates₀ arcs₀ whole
             (build.Refused (record { fault = fault; line = 0 })) metastates′ arcs′
         unfolding andThen expand
         turn-refused {fault} a =
             let (r, is, same) = step-stop _ fault (sym a ∙ left .answers) in
-            refused-left (header .states) r
+            refused-left header r
             (goes-on ∙ ap (λ (o : Outcome Network). andThen o later) (sym outcome-is ∙ is)) same
             (performs-line (machineOf book cs) room net _ r (sym outcome-is ∙ is))
             (left .metastates-sized ∙ t .metastates-sized) (left .arcs-sized ∙ t .arcs-sized)

@@ -5,22 +5,22 @@ use mathlib.Core.Path.{_≡_, sym, ap, _∙_, subst}
 use mathlib.Core.List.{List, _++_, map, append-assoc}
 use Prim.Native.Nat.{ℕ, _-_, _*_, _≤_, _<_}
 use native.Mathlib.Omega.{arith}
-use lib.Dec.{T, lit<}
+use lib.Dec.{T}
 use lib.ListN.{length, take, drop, length-append}
 use lib.Seq.{take-at, drop-at}
 use Rattle.definitions.specs.declared.Header.{Header}
 use Rattle.definitions.specs.Lists.{_!_, concatMap, cleared, padded}
-use Rattle.definitions.specs.Matrices.{matrixWords}
+use Rattle.definitions.specs.Matrices.{matrixSize, matrixRecord}
 use Rattle.definitions.specs.Tables.{Book, tablesBook, bookIn, tablesContents}
 use Rattle.definitions.specs.ForeignTables.{tablesKnown}
 use Rattle.definitions.specs.BookLines.{leaf}
 use Rattle.definitions.specs.Lookup.{nodeAt}
 use Rattle.definitions.specs.Combinations.{Combination, combinations, combinationSize, combinationWords}
 use Rattle.definitions.specs.Metastates.{noCombination}
-use Rattle.definitions.specs.laws.Lists.{padded-length}
+use Rattle.definitions.specs.laws.Lists.{padded-length, padded-take}
 use Rattle.definitions.specs.laws.Members.{isIn, in-at, place-of, map-back}
 use Rattle.definitions.specs.laws.Records.{written-length, written-all}
-use Rattle.definitions.specs.laws.SevenWords.{words-length, words-take}
+use Rattle.definitions.specs.laws.Sizes.{record-length}
 use Rattle.definitions.specs.laws.Ranges.{phone-range}
 use Rattle.definitions.specs.laws.Books.{InRange}
 use Rattle.definitions.specs.laws.Tables.{tree-nodes-length}
@@ -44,33 +44,35 @@ module _ (header : Header) (ranged : InRange header) where
     few-leaves : length (c .leaves) ≤ 3
     few-leaves = omega (arith, choice .states, ranged .states-range .high)
 
-    narrow : length (c .carried) ≤ 7
-    narrow = omega (arith, choice .width, ranged .half-range .high)
+    few-columns : header .half ≤ 3
+    few-columns = ranged .half-range .high
 
-    -- a record has eleven words
-    choice-sized : length (combinationWords c) ≡ combinationSize
+    -- a record has its size
+    choice-sized : length (combinationWords (header .half) c) ≡ combinationSize (header .half)
     unfolding combinationWords
     choice-sized =
         let nodes = padded-length 3 (c .leaves) few-leaves in
-        let columns = words-length (c .carried) narrow in
+        let columns = record-length (header .half) few-columns (c .carried) (choice .width) in
         simp length-append (omega (arith, nodes, columns))
 
     -- of which the leaves and the matrix are taken
-    leaves-back : take (header .states) (padded 3 (c .leaves) ++ matrixWords (c .carried)) ≡ c .leaves
+    leaves-back : take (header .states) (padded 3 (c .leaves) ++ matrixRecord (header .half) (c .carried)) ≡ c .leaves
     unfolding padded
     leaves-back =
         ap (take (header .states))
-        (append-assoc (c .leaves) (cleared (3 - length (c .leaves))) (matrixWords (c .carried)))
+        (append-assoc (c .leaves) (cleared (3 - length (c .leaves))) (matrixRecord (header .half) (c .carried)))
         ∙ take-at (c .leaves) _ (header .states) (choice .states)
 
-    matrix-back : matrixIn (header .half) (drop 3 (padded 3 (c .leaves) ++ matrixWords (c .carried)))
+    matrix-back : matrixIn (header .half) (drop 3 (padded 3 (c .leaves) ++ matrixRecord (header .half) (c .carried)))
         ≡ c .carried
+    unfolding matrixRecord
     matrix-back =
         ap (matrixIn (header .half))
-        (drop-at (padded 3 (c .leaves)) (matrixWords (c .carried)) 3 (padded-length 3 (c .leaves) few-leaves))
-        ∙ words-take (c .carried) (choice .width)
+        (drop-at (padded 3 (c .leaves)) (matrixRecord (header .half) (c .carried)) 3
+        (padded-length 3 (c .leaves) few-leaves))
+        ∙ padded-take (matrixSize (header .half)) _ (c .carried) (sym (choice .width))
 
-    choice-back : combinationIn header (combinationWords c) ≡ c
+    choice-back : combinationIn header (combinationWords (header .half) c) ≡ c
     unfolding combinationIn combinationWords
     choice-back = λ i. record { phone = c .phone; leaves = leaves-back i; carried = matrix-back i }
 
@@ -82,18 +84,20 @@ module _ (header : Header) (ranged : InRange header) where
     each-in c i =
         let (number, h, e) = place-of c cs noCombination i in subst (IsCombination header) e (each number h)
 
-    choices-sized : (c : Combination) → isIn c cs → length (combinationWords c) ≡ combinationSize
+    choices-sized : (c : Combination) → isIn c cs
+        → length (combinationWords (header .half) c) ≡ combinationSize (header .half)
     choices-sized c i = choice-sized c (each-in c i)
 
-    choices-length : length (concatMap combinationWords cs) ≡ combinationSize * length cs
-    choices-length = written-length combinationWords combinationSize cs choices-sized
+    choices-length : length (concatMap (combinationWords (header .half)) cs)
+        ≡ combinationSize (header .half) * length cs
+    choices-length = written-length (combinationWords (header .half)) (combinationSize (header .half)) cs choices-sized
 
-    read-back : combinationsIn header (concatMap combinationWords cs) ≡ cs
+    read-back : combinationsIn header (concatMap (combinationWords (header .half)) cs) ≡ cs
     unfolding combinationsIn
     read-back =
         ap (map (combinationIn header))
-        (written-all combinationWords combinationSize cs choices-sized (lit< tt))
-        ∙ map-back combinationWords (combinationIn header) cs (λ c i. choice-back c (each-in c i))
+        (written-all (combinationWords (header .half)) (combinationSize (header .half)) cs choices-sized (omega arith))
+        ∙ map-back (combinationWords (header .half)) (combinationIn header) cs (λ c i. choice-back c (each-in c i))
 
 -- ---- the combinations of a book
 
@@ -106,7 +110,7 @@ module _ (header : Header) (nodes classes roots : List ℕ)
   found = combinations book
 
   abbrev words : List ℕ
-  words = concatMap combinationWords found
+  words = concatMap (combinationWords (header .half)) found
 
   chosen : (number : ℕ) → number < length found → Chosen book (numbered found number)
   chosen number h = chosen-at book (known-sound header nodes classes roots known) number h
@@ -132,7 +136,7 @@ module _ (header : Header) (nodes classes roots : List ℕ)
   abbrev ranged : InRange header
   ranged = header-ranges header (known-header header nodes classes roots known)
 
-  pub combinations-length : length words ≡ combinationSize * length found
+  pub combinations-length : length words ≡ combinationSize (header .half) * length found
   combinations-length = choices-length header ranged found is-choice
 
   pub combinations-back : combinationsIn header words ≡ found
@@ -146,7 +150,7 @@ module _ (header : Header) (nodes classes roots : List ℕ)
   combinations-usable few = record {
     header-known = known-header header nodes classes roots known;
     few = back (λ cs. length cs ≤ 65535) few;
-    flat = ap (concatMap combinationWords) (sym combinations-back);
+    flat = ap (concatMap (combinationWords (header .half))) (sym combinations-back);
     each = back (λ cs. (number : ℕ) → number < length cs → IsCombination header (numbered cs number))
         is-choice;
   }

@@ -3,7 +3,7 @@ use mathlib.Core.Path.{_∙_}
 use Prim.Native.Nat.{_-_}
 use lib.ListN.{take}
 use borrow.Author.Needs.{needs}
-use Rattle.definitions.specs.Matrices.{matrixSize, matrixWords}
+use Rattle.definitions.specs.Matrices.{mostColumns, matrixWords}
 use Rattle.lines.specs.laws.Filling.{filled-start}
 use Rattle.matrix.specs.Shapes.{columnsAround}
 use Rattle.matrix.specs.laws.Words.{Columns, columns-more, columns-end}
@@ -13,7 +13,7 @@ use Rattle.matrix.proofs.shaping.around.Tie as tie
 
 abbrev Inv-loop : tie.InvT-loop
 Inv-loop half left centre right columns₀ c₀ columns c =
-    Columns (take matrixSize (matrixWords (columnsAround half left centre right))) c columns
+    Columns (take mostColumns (matrixWords (columnsAround half left centre right))) c columns
 
 abbrev μ-loop : tie.MeasureT-loop
 μ-loop half left centre right columns₀ c₀ columns c = 7 - c

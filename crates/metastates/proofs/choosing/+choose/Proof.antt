@@ -7,6 +7,8 @@ use lib.ListN.{length}
 use borrow.Author.Needs.{needs}
 use borrow.Fn.Kinds.{In}
 use borrow.Fn.PlainCycle.{Measures, is, falls, and}
+use Rattle.definitions.specs.laws.Sizes.{columns-held}
+use Rattle.matrix.specs.Shapes.{widthOf}
 use Rattle.metastates.specs.laws.Choosing.{Choosing, choosing-last, choosing-start, choosing-inside}
 use Rattle.metastates.specs.laws.Choosing.{choosing-holding, choosing-asked, choosing-over}
 use Rattle.metastates.specs.laws.Choosing.{choosing-again, choosing-end}
@@ -41,11 +43,11 @@ calls t = (
 )
 
 abbrev choose-Inv-loop : choose-lts.InvT-loop
-choose-Inv-loop first second third trees width choice space₀ count m total₀ place₀ space total place =
-    Choosing width trees first second third choice space₀ count space total place
+choose-Inv-loop first second third trees half choice space₀ count m total₀ place₀ space total place =
+    Choosing half (widthOf half) trees first second third choice space₀ count space total place
 
 abbrev choose-μ-loop : choose-lts.MeasureT-loop
-choose-μ-loop first second third trees width choice space₀ count m total₀ place₀ space total place =
+choose-μ-loop first second third trees half choice space₀ count m total₀ place₀ space total place =
     length first - place
 
 choose-add-choice-requires : (t : ℕ) → choose-lts.Need-add-choice-requires (calls t) (choose-at t)
@@ -78,7 +80,10 @@ choose-loop-holds t c =
     let (asked, holding) = start .pre .1 in
     let choice = start .args .choice in
     let three : length (choice .leaves) ≡ 3 = search needs in
-    choosing-start (record { asked = asked; three = three; some = c .before .before .if1 .left }) holding
+    let half = start .args .half in
+    let held = columns-held half (omega (arith, asked .chosen .narrow)) in
+    choosing-start
+    (record { asked = asked; three = three; held = held; some = c .before .before .if1 .left }) holding
     (c .next-fit .ensures)
 
 choose-with-leaf-requires : (t : ℕ) → choose-lts.Need-with-leaf-requires (calls t) (choose-at t)

@@ -1,12 +1,42 @@
 -- `choosing::add_choice` meets its contract: without room nothing is written.
-use mathlib.Core.Path.{_≡_}
+use mathlib.Core.Path.{_≡_, ap, _∙_}
+use mathlib.Core.List.{List, _∷_, _++_}
+use Prim.Native.Nat.{ℕ, _+_, _-_, _*_, _≤_, _<_}
 use native.Mathlib.Omega.{arith}
-use lib.ListN.{length, length-take, length-drop}
+use lib.ListN.{length, take, drop, length-take, length-drop}
 use borrow.Author.Needs.{needs}
 use Rattle.definitions.specs.Combinations.{combinationRoom}
-use Rattle.metastates.specs.laws.Adding.{added-none, added-put}
+use Rattle.definitions.specs.laws.Sizes.{words-few}
+use Rattle.metastates.specs.laws.Adding.{added-none, added-within, added-put}
 use Rattle.metastates.proofs.choosing.add_choice.Statement.{statement}
 use Rattle.metastates.proofs.choosing.add_choice.Tie as tie
+
+abbrev entry : tie.After-combination-size → tie.Start
+entry c = c .before .before .before .before
+
+three : (c : tie.Start) → length (c .args .choice .leaves) ≡ 3
+three c = search needs
+
+seven : (c : tie.Start) → length (c .args .choice .matrix .columns) ≡ 7
+seven c = search needs
+
+-- there is room
+roomy : (c : tie.After-combination-size)
+    → entry c .args .count < combinationRoom (entry c .args .half) (length (entry c .args .space .now))
+roomy c = omega (arith, c .before .if1 .left, c .before .before .room-in .ensures)
+
+within : (c : tie.After-combination-size)
+    → c .combination-size .result * entry c .args .count + c .combination-size .result
+    ≤ length (entry c .args .space .now)
+within c =
+    let start = entry c in
+    added-within (start .pre .0) (start .args .choice) (c .combination-size .ensures) (roomy c)
+
+few : (c : tie.After-combination-size) → c .combination-size .result ≤ 11
+few c =
+    let start = entry c in
+    let half = start .args .half in
+    omega (arith, c .combination-size .ensures, words-few half (omega (arith, start .pre .1 .narrow)))
 
 room-in-requires : tie.Need-room-in-requires
 room-in-requires c κs = search needs
@@ -14,20 +44,19 @@ room-in-requires c κs = search needs
 returns : tie.Need-returns
 returns c =
     let start = c .before .before .before in
-    let (holding, chosen) = start .pre in
-    added-none holding (start .args .width) (start .args .choice) (omega (arith, c .before .room-in .ensures))
+    added-none (start .pre .0) (start .args .choice) (omega (arith, c .if1 .taken, c .before .room-in .ensures))
+
+combination-size-requires : tie.Need-combination-size-requires
+combination-size-requires c κs = search needs
 
 mul-at : tie.Need-mul-at
-unfolding combinationRoom
-mul-at c = search needs
+mul-at c = let inside = within c in search needs
 
-add-end : tie.Need-add-end
-unfolding combinationRoom
-add-end c = search needs
+add-put-choice : tie.Need-add-put-choice
+add-put-choice c = let inside = within c in search needs
 
 mul-put-choice : tie.Need-mul-put-choice
-unfolding combinationRoom
-mul-put-choice c = search needs
+mul-put-choice c = let inside = within c in search needs
 
 sub-put-choice : tie.Need-sub-put-choice
 sub-put-choice c = search needs
@@ -36,15 +65,12 @@ part-put-choice-start : tie.Need-part-put-choice-start
 part-put-choice-start c = search needs
 
 part-put-choice-end : tie.Need-part-put-choice-end
-unfolding combinationRoom
-part-put-choice-end c = search needs
+part-put-choice-end c = within c
 
 put-choice-requires : tie.Need-put-choice-requires
-unfolding combinationRoom
-put-choice-requires c κs = simp (length-take, length-drop) (omega arith)
+put-choice-requires c κs = simp (length-take, length-drop) (omega (arith, few (c .before)))
 
 add-t7 : tie.Need-add-t7
-unfolding combinationRoom
 add-t7 c = search needs
 
 same-length : tie.Need-same-length
@@ -52,13 +78,17 @@ same-length c = search needs
 
 returns-2 : tie.Need-returns-2
 returns-2 c =
-    let start = c .before .before .before .before .before .before .before in
+    let sized = c .before .before .before .before in
+    let start = entry sized in
     let choice = start .args .choice in
-    let three : length (choice .leaves) ≡ 3 = search needs in
-    let seven : length (choice .matrix .columns) ≡ 7 = search needs in
-    added-put (start .pre .0) (start .args .width) choice (start .pre .1) three seven
-    (c .before .before .put-choice .ensures)
-    (omega (arith, c .before .before .before .before .before .room-in .ensures))
+    let size : ℕ = sized .combination-size .result in
+    let at : ℕ = size * start .args .count in
+    let row : List ℕ = choice .phone ∷ (choice .leaves ++ choice .matrix .columns) in
+    let long : length (take (at + size - at) (drop at (start .args .space .now))) ≡ size =
+    simp (length-take, length-drop) (omega (arith, within sized)) in
+    added-put (start .pre .0) choice (start .pre .1) (three start) (seven start) (roomy sized)
+    (sized .combination-size .ensures)
+    (c .before .before .put-choice .ensures ∙ ap (λ (k : ℕ). take k row) long)
 
 pub add-choice-spec : {M : Type 1} → statement M
 add-choice-spec =
@@ -66,8 +96,9 @@ add-choice-spec =
     (tie.spec
     room-in-requires
     returns
+    combination-size-requires
     mul-at
-    add-end
+    add-put-choice
     mul-put-choice
     sub-put-choice
     part-put-choice-start

@@ -1,13 +1,15 @@
 -- `choosing::next_fit` meets its contract. The loop's invariant: the leaves before `place` do not fit.
-use mathlib.Core.Path.{_≡_, refl, sym, _∙_}
+use mathlib.Core.Path.{_≡_, refl, sym, ap, _∙_}
 use mathlib.Core.List.{List}
-use Prim.Native.Nat.{_+_, _-_, _*_, _≤_, _<_}
+use Prim.Native.Nat.{ℕ, _+_, _-_, _*_, _≤_, _<_}
 use native.Mathlib.Omega.{arith}
-use lib.ListN.{length, take}
+use lib.ListN.{length, take, drop}
 use borrow.Author.Needs.{needs}
+use Rattle.definitions.specs.Matrices.{valid, meet}
 use Rattle.definitions.specs.Combinations.{Leaf}
 use Rattle.definitions.specs.laws.Searching.{NoneFrom, none-start, none-one, none-more, none-found, none-all}
-use Rattle.matrix.specs.laws.Words.{seven-there}
+use Rattle.matrix.specs.Shapes.{widthOf}
+use Rattle.matrix.specs.laws.Words.{firstSeven, seven-there}
 use Rattle.metastates.specs.Leaves.{leafSize, leavesIn}
 use Rattle.metastates.specs.Choices.{fitsAt}
 use Rattle.metastates.specs.laws.LeafLists.{leaves-length, met-valid}
@@ -15,14 +17,24 @@ use Rattle.metastates.proofs.choosing.next_fit.Statement.{statement}
 use Rattle.metastates.proofs.choosing.next_fit.Tie as tie
 
 abbrev Inv-loop : tie.InvT-loop
-Inv-loop leaves from m width place₀ place =
-    NoneFrom (fitsAt (take width (m .columns)) (leavesIn width leaves)) (length (leavesIn width leaves)) from place
+Inv-loop leaves from m half width place₀ place =
+    NoneFrom (fitsAt (take (widthOf half) (m .columns)) (leavesIn (widthOf half) leaves))
+    (length (leavesIn (widthOf half) leaves)) from place
 
 abbrev μ-loop : tie.MeasureT-loop
-μ-loop leaves from m width place₀ place = length leaves - place
+μ-loop leaves from m half width place₀ place = length leaves - place
+
+wide-requires : tie.Need-wide-requires Inv-loop μ-loop
+wide-requires c κs = search needs
+
+mul-width : tie.Need-mul-width Inv-loop μ-loop
+mul-width c = search needs
+
+add-width : tie.Need-add-width Inv-loop μ-loop
+add-width c = search needs
 
 loop-holds : tie.Need-loop-holds Inv-loop μ-loop
-loop-holds c = none-start (c .before .pre .2)
+loop-holds c = none-start (c .before .before .pre .2)
 
 mul-meets-at : tie.Need-mul-meets-at Inv-loop μ-loop
 mul-meets-at c = search needs
@@ -40,24 +52,29 @@ Tested = tie.After-meets-at Inv-loop μ-loop
 abbrev turn : Tested → tie.In-loop Inv-loop μ-loop
 turn c = c .before
 
+abbrev widened : Tested → tie.After-wide Inv-loop μ-loop
+widened c = turn c .before .before
+
 abbrev entry : Tested → tie.Start Inv-loop μ-loop
-entry c = turn c .before .before .before
+entry c = widened c .before .before
 
 abbrev leaves-of : Tested → List Leaf
-leaves-of c = leavesIn (entry c .args .width) (entry c .args .leaves .now)
+leaves-of c = leavesIn (widthOf (entry c .args .half)) (entry c .args .leaves .now)
 
 inside : (c : Tested) → turn c .before .loop .place < length (leaves-of c)
 inside c = rw leaves-length (turn c .loop-test .taken)
 
-tested : (c : Tested) → fitsAt (take (entry c .args .width) (entry c .args .m .columns)) (leaves-of c)
+tested : (c : Tested) → fitsAt (take (widthOf (entry c .args .half)) (entry c .args .m .columns)) (leaves-of c)
     (turn c .before .loop .place) ≡ c .meets-at .result
 tested c =
     let a = entry c .args in
     let pre = entry c .pre in
     let from = leafSize * turn c .before .loop .place + 1 in
     let there : from + 7 ≤ length (a .leaves .now) = omega arith in
+    let width : 2 * widened c .wide .result + 1 ≡ widthOf (a .half) = omega (arith, widened c .wide .ensures) in
     sym (c .meets-at .ensures
-    ∙ met-valid (a .width) (a .leaves .now) _ (inside c) (pre .0) (pre .1) (pre .3)
+    ∙ ap (λ (k : ℕ). valid (take k (meet (a .m .columns) (firstSeven (drop from (a .leaves .now)))))) width
+    ∙ met-valid (widthOf (a .half)) (a .leaves .now) _ (inside c) (pre .0) (pre .1) (pre .3)
     (seven-there (a .leaves .now) from there) refl)
 
 returns : tie.Need-returns Inv-loop μ-loop
@@ -83,6 +100,9 @@ next-fit-spec =
     (tie.spec
     Inv-loop
     μ-loop
+    wide-requires
+    mul-width
+    add-width
     loop-holds
     mul-meets-at
     add-meets-at

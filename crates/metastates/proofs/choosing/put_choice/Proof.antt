@@ -1,18 +1,20 @@
 -- `choosing::put_choice` meets its contract. The loop's invariant: the words before `i` are written, the rest are
 -- as they came.
 use mathlib.Core.Path.{_≡_, sym, _∙_}
-use mathlib.Core.List.{_∷_, _++_}
-use Prim.Native.Nat.{_-_}
-use lib.ListN.{length}
+use mathlib.Core.List.{List, _∷_, _++_}
+use Prim.Native.Nat.{ℕ, _-_, _≤_}
+use native.Mathlib.Omega.{arith}
+use lib.ListN.{length, take}
+use lib.Seq.{length-take-le, getD-take}
 use borrow.Author.Needs.{needs}
 use Rattle.lines.specs.laws.Filling.{Filled, filled-start, filled-more, filled-end}
-use Rattle.metastates.specs.laws.Adding.{record-length}
+use Rattle.metastates.specs.laws.Adding.{row-length}
 use Rattle.metastates.proofs.choosing.put_choice.Statement.{statement}
 use Rattle.metastates.proofs.choosing.put_choice.Tie as tie
 
 abbrev Inv-loop : tie.InvT-loop
 Inv-loop words₀ choice i₀ words i =
-    Filled (choice .phone ∷ (choice .leaves ++ choice .matrix .columns)) words₀ i words
+    Filled (take (length words₀) (choice .phone ∷ (choice .leaves ++ choice .matrix .columns))) words₀ i words
 
 abbrev μ-loop : tie.MeasureT-loop
 μ-loop words₀ choice i₀ words i = length words₀ - i
@@ -35,26 +37,36 @@ add-i c = search needs
 loop-less : tie.Need-loop-less Inv-loop μ-loop
 loop-less c = search needs
 
+-- the words that are written
+module _ (c : tie.Start Inv-loop μ-loop) where
+  abbrev row : List ℕ
+  row = c .args .choice .phone ∷ (c .args .choice .leaves ++ c .args .choice .matrix .columns)
+
+  few : length (c .args .words .now) ≤ length row
+  few =
+      let a = c .args .choice in
+      let three : length (a .leaves) ≡ 3 = search needs in
+      let seven : length (a .matrix .columns) ≡ 7 = search needs in
+      omega (arith, c .pre, row-length (a .phone) (a .leaves) (a .matrix .columns) three seven)
+
+  sized : length (take (length (c .args .words .now)) row) ≡ length (c .args .words .now)
+  sized = length-take-le (length (c .args .words .now)) row few
+
 loop-again : tie.Need-loop-again Inv-loop μ-loop
 loop-again c =
     let turn = c .before .before in
-    let a = turn .before .before .args in
-    let three : length (a .choice .leaves) ≡ 3 = search needs in
-    let seven : length (a .choice .matrix .columns) ≡ 7 = search needs in
-    let words = record-length (a .choice .phone) (a .choice .leaves) (a .choice .matrix .columns) three seven in
-    filled-more (words ∙ sym (turn .before .before .pre)) (turn .loop .inv) (c .before .loop-test .taken)
-    (c .word-of .ensures)
+    let start = turn .before .before in
+    let inside = c .before .loop-test .taken in
+    let words = start .args .words .now in
+    filled-more (sized start) (turn .loop .inv) inside
+    (c .word-of .ensures
+    ∙ sym (getD-take (length words) (row start) _ 0 (omega (arith, inside, turn .loop .inv .sized))))
 
 same-length : tie.Need-same-length Inv-loop μ-loop
 same-length c = search needs
 
 returns : tie.Need-returns Inv-loop μ-loop
-returns c =
-    let a = c .before .before .before .args in
-    let three : length (a .choice .leaves) ≡ 3 = search needs in
-    let seven : length (a .choice .matrix .columns) ≡ 7 = search needs in
-    let words = record-length (a .choice .phone) (a .choice .leaves) (a .choice .matrix .columns) three seven in
-    filled-end (words ∙ sym (c .before .before .before .pre)) (c .before .loop .inv) (c .loop-test .left)
+returns c = filled-end (sized (c .before .before .before)) (c .before .loop .inv) (c .loop-test .left)
 
 pub put-choice-spec : {M : Type 1} → statement M
 put-choice-spec =

@@ -4,6 +4,7 @@ use Prim.Native.Nat.{_+_, _*_, _≤_}
 use lib.ListN.{length, set}
 use borrow.Author.Needs.{needs}
 use Rattle.definitions.specs.Matrices.{meet}
+use Rattle.matrix.specs.Shapes.{widthOf}
 use Rattle.metastates.specs.Leaves.{leafSize}
 use Rattle.metastates.specs.laws.LeafLists.{leaf-within, leaf-node, leaf-columns}
 use Rattle.metastates.proofs.choosing.with_leaf.Statement.{statement}
@@ -11,7 +12,7 @@ use Rattle.metastates.proofs.choosing.with_leaf.Tie as tie
 
 -- the record is in the list
 within : (c : tie.Start) → leafSize * c .args .place + leafSize ≤ length (c .args .leaves .now)
-within c = leaf-within (c .args .width) (c .args .leaves .now) (c .args .place) (c .pre .3)
+within c = leaf-within (widthOf (c .args .half)) (c .args .leaves .now) (c .args .place) (c .pre .3)
 
 mul-nodes : tie.Need-mul-nodes
 mul-nodes c = let listed = within (c .before .before) in search needs
@@ -45,11 +46,11 @@ returns c =
     let pre = start .pre in (
       refl,
       refl,
-      ap (set (a .choice .leaves) (a .choice .taken)) (leaf-node (a .width) words (a .place) (pre .3)),
+      ap (set (a .choice .leaves) (a .choice .taken)) (leaf-node (widthOf (a .half)) words (a .place) (pre .3)),
       c .meet .ensures
           ∙ ap (meet (a .choice .matrix .columns))
           (c .before .leaf-matrix .ensures
-          ∙ leaf-columns (a .width) words (a .place) (pre .3) (pre .0 .narrow) (pre .1)),
+          ∙ leaf-columns (widthOf (a .half)) words (a .place) (pre .3) (pre .0 .narrow) (pre .1)),
     )
 
 pub with-leaf-spec : {M : Type 1} → statement M

@@ -1,7 +1,7 @@
 -- `combining::choose_phone` meets its contract: the lists hold the leaves of the phone's trees, and choosing
 -- starts with the matrix that the roots carry.
-use mathlib.Core.Path.{_≡_, sym, _∙_}
-use Prim.Native.Nat.{ℕ, _+_, _*_, _≤_}
+use mathlib.Core.Path.{_≡_, refl, sym, _∙_}
+use Prim.Native.Nat.{ℕ}
 use native.Mathlib.Omega.{arith}
 use lib.Seq.{length-take-le}
 use borrow.Author.Needs.{needs}
@@ -26,10 +26,10 @@ one c = c .before .before .before .before .before .before .before
 abbrev two : tie.After-list-leaves3 → tie.After-list-leaves2
 two c = c .before .before .before .before .before .before .before
 
-abbrev three : tie.After-wide → tie.After-list-leaves3
-three c = c .before .before .before .before .before .before .before .before
+abbrev three : tie.After-around → tie.After-list-leaves3
+three c = c .before .before .before .before .before .before .before
 
-abbrev start : tie.After-wide → tie.Start
+abbrev start : tie.After-around → tie.Start
 start c = entry (one (two (three c)))
 
 abbrev book : tie.Start → Book
@@ -40,23 +40,19 @@ book c =
 ranges : (c : tie.Start) → InRange (c .args .header)
 ranges c = c .pre .0 .ranges
 
-half-small : (c : tie.After-wide) → c .wide .result ≤ 3
-half-small c = omega (arith, ranges (start c) .half-range .high, c .wide .ensures)
-
-width-is : (c : tie.After-wide) → 2 * c .wide .result + 1 ≡ widthOf (book (start c) .half)
+width-is : (c : tie.Start) → widthOf (c .args .header .half) ≡ widthOf (book c .half)
 unfolding bookWith
-width-is c = omega (arith, c .wide .ensures)
+width-is c = refl
 
-top-is : (c : tie.After-wide)
-    → c .before .around .result .columns
+top-is : (c : tie.After-around)
+    → c .around .result .columns
     ≡ matrixWords (rootMatrix (book (start c) .half) (book (start c) .phones) (start c .args .phone))
 unfolding bookWith
 top-is c =
     let r = ranges (start c) in
     let p = start c .pre in
     root-shaped _ _ _ (r .half-range .high) (r .phones-range .high) (p .1 .high)
-    (c .before .before .before .all-phones .ensures) (c .before .before .alone .ensures)
-    (c .before .around .ensures)
+    (c .before .before .all-phones .ensures) (c .before .alone .ensures) (c .around .ensures)
 
 list-leaves-requires : tie.Need-list-leaves-requires
 list-leaves-requires c κs = search needs
@@ -86,15 +82,6 @@ alone-requires c κs = search needs
 
 around-requires : tie.Need-around-requires
 around-requires c κs = search needs
-
-wide-requires : tie.Need-wide-requires
-wide-requires c κs = search needs
-
-mul-width : tie.Need-mul-width
-mul-width c = omega (arith, half-small c)
-
-add-width : tie.Need-add-width
-add-width c = omega (arith, half-small c)
 
 mul-choose : tie.Need-mul-choose
 mul-choose c =
@@ -134,16 +121,16 @@ slice-aggregate-choose-3 c =
 choose-requires : tie.Need-choose-requires
 unfolding bookWith
 choose-requires c κs =
-    let wide = c .before .before .before .before in
-    let r = ranges (start wide) in
-    let p = start wide .pre in
-    let b : Book = book (start wide) in
-    let phone : ℕ = start wide .args .phone in
-    let width = width-is wide in
+    let top = c .before .before .before .before in
+    let r = ranges (start top) in
+    let p = start top .pre in
+    let b : Book = book (start top) in
+    let phone : ℕ = start top .args .phone in
+    let width = width-is (start top) in
     let narrow = r .half-range .high in
-    let list : tie.After-list-leaves3 = three wide in (
+    let list : tie.After-list-leaves3 = three top in (
       record {
-        chosen = start-chosen b phone _ width narrow _ (top-is wide) (p .1 .low) (p .1 .high);
+        chosen = start-chosen b phone _ width narrow _ (top-is top) (p .1 .low) (p .1 .high);
         few = omega (arith, r .states-range .high);
         first-is = list-is b phone _ width narrow 1 (one (two list) .list-leaves .ensures .holds);
         second-is = list-is b phone _ width narrow 2 (two list .list-leaves2 .ensures .holds);
@@ -175,14 +162,14 @@ same-length-5 c = search needs
 returns : tie.Need-returns
 unfolding bookWith
 returns c =
-    let wide = c .before .before .before .before .before .before .before in
-    let from = start wide in
+    let top = c .before .before .before .before .before .before .before in
+    let from = start top in
     let r = ranges from in
-    let list = three wide in
+    let list = three top in
     let first = one (two list) .list-leaves .ensures in
     let second = two list .list-leaves2 .ensures in
     let third = list .list-leaves3 .ensures in
-    let all = start-all (book from) (from .args .phone) _ (width-is wide) (r .half-range .high) _ (top-is wide)
+    let all = start-all (book from) (from .args .phone) _ (width-is from) (r .half-range .high) _ (top-is top)
     (r .states-range .low) (r .states-range .high) (first .holds) (second .holds) (third .holds) in
     let table = third .tableSized ∙ second .tableSized ∙ first .tableSized in (
       rw (← all) (c .before .before .choose .ensures),
@@ -199,9 +186,6 @@ choose-phone-spec =
     all-phones-requires
     alone-requires
     around-requires
-    wide-requires
-    mul-width
-    add-width
     mul-choose
     slice-reshare-prefix-choose
     slice-aggregate-choose

@@ -63,7 +63,7 @@ loop-holds c =
     let (fit, clear, working) = start .pre in
     let r = fit .ranges in (
       added-start (record {
-        none = holding-none _ (clear .space-clear);
+        none = holding-none _ _ (clear .space-clear);
         narrow = r .half-range .high;
         few = r .states-range .high;
         most = r .phones-range .high;
@@ -72,6 +72,7 @@ loop-holds c =
     )
 
 choose-phone-requires : tie.Need-choose-phone-requires Inv-loop μ-loop
+unfolding bookWith
 choose-phone-requires c κs =
     let turn = c .before .before .before .before .before in
     let (added, worked) = loop-of turn .loop .inv in
@@ -103,6 +104,7 @@ same-length-6 : tie.Need-same-length-6 Inv-loop μ-loop
 same-length-6 c = ends-sized (loop-of (turn (called (c .before .before .before))))
 
 returns : tie.Need-returns Inv-loop μ-loop
+unfolding bookWith
 returns c =
     let call = called (c .before .before .before) in
     let turn = turn call in
@@ -110,6 +112,7 @@ returns c =
     (c .before .adding2 .given .1)
 
 cast-ends : tie.Need-cast-ends Inv-loop μ-loop
+unfolding bookWith
 cast-ends c =
     let call = called (c .before .before .before) in
     let turn = turn call in
@@ -139,6 +142,7 @@ loop-less : tie.Need-loop-less Inv-loop μ-loop
 loop-less c = search needs
 
 loop-again : tie.Need-loop-again Inv-loop μ-loop
+unfolding bookWith
 loop-again c =
     let call = called (c .before .before .before .before) in
     let turn = turn call in

@@ -1,37 +1,76 @@
 -- `adding::enter` meets its contract, by what the search along the chain found and by the room.
-use mathlib.Core.Path.{sym}
-use Prim.Native.Nat.{_≤_, _<_}
+use mathlib.Core.Path.{_≡_, sym, subst}
+use Prim.Native.Nat.{ℕ, _*_, _≤_, _<_}
 use native.Mathlib.Omega.{arith}
+use lib.ListN.{length, take}
 use lib.Seq.{length-take-le}
 use borrow.Author.Needs.{needs}
-use Rattle.network.specs.Networks.{metastateRoom}
+use Rattle.definitions.specs.Metastates.{metastateSize}
+use Rattle.network.specs.Chains.{Findable, Found, elementsIn}
+use Rattle.network.specs.Networks.{metastateCode, metastateWith, metastateRoom}
 use Rattle.network.specs.laws.Entering.{enter-used, enter-searchable, enter-arcs, enter-placed}
-use Rattle.network.specs.laws.Entering.{enter-room, enter-known, enter-crowded, enter-new}
+use Rattle.network.specs.laws.Entering.{enter-place-for, enter-known, enter-crowded, enter-new}
+use Rattle.network.specs.laws.Followers.{narrow}
 use Rattle.network.proofs.adding.enter.Statement.{statement}
 use Rattle.network.proofs.adding.enter.Tie as tie
 
 -- where the function begins, and where the metastate was looked for
 abbrev entry : tie.After-struct-known → tie.Start
-entry c = c .before .before .before .before .before .before .before
+entry c = c .before .before .before .before .before .before .before .before
 
 abbrev searched : tie.After-find → tie.Start
 searched c = entry (c .before .before .before)
 
+-- the size that was computed is that of a record
+module _ (c : tie.After-struct-known) where
+  sized : c .before .metastate-size .result ≡ metastateSize (entry c .args .header .half)
+  sized = c .before .metastate-size .ensures
+
+  abbrev used : (size : ℕ) → ℕ
+  used size = size * entry c .args .sizes .metastates
+
+  used-few : used (c .before .metastate-size .result) ≤ length (entry c .args .metastates .now)
+  used-few =
+      subst (λ (n : ℕ). used n ≤ length (entry c .args .metastates .now)) (sym sized) (enter-used (entry c .pre))
+
+-- what the search found among the words in use
+found-in : (c : tie.After-find)
+    → Found (metastateCode (searched c .args .header .half))
+    (elementsIn (metastateCode (searched c .args .header .half))
+    (take (metastateSize (searched c .args .header .half) * searched c .args .sizes .metastates)
+    (searched c .args .metastates .now)))
+    (metastateWith (searched c .args .header .half) (searched c .args .follower .number)
+    (searched c .args .follower .met .columns)) (c .find .result)
+found-in c =
+    let a = searched c .args in
+    let code = metastateCode (a .header .half) in
+    subst (λ (n : ℕ). Found code (elementsIn code (take (n * a .sizes .metastates) (a .metastates .now)))
+    (metastateWith (a .header .half) (a .follower .number) (a .follower .met .columns)) (c .find .result))
+    (sized (c .before .before .before)) (c .find .ensures)
+
+metastate-size-requires : tie.Need-metastate-size-requires
+metastate-size-requires c κs = search needs
+
 mul-used : tie.Need-mul-used
-mul-used c =
-    let few = enter-used (c .before .before .before .before .before .before .before .pre) in
-    search needs
+mul-used c = let few = used-few c in search needs
 
 slice-reshare-prefix-find : tie.Need-slice-reshare-prefix-find
-slice-reshare-prefix-find c = enter-used (c .before .before .before .before .before .before .before .pre)
+slice-reshare-prefix-find c = used-few c
 
 slice-aggregate-find : tie.Need-slice-aggregate-find
 slice-aggregate-find c =
-    let start = entry (c .before) in
-    sym (length-take-le _ (start .args .metastates .now) (enter-used (start .pre)))
+    sym (length-take-le _ (entry (c .before) .args .metastates .now) (used-few (c .before)))
 
 find-requires : tie.Need-find-requires
-find-requires c κs = let s = entry (c .before .before) .pre in (enter-searchable s, s .shaped)
+find-requires c κs =
+    let known = c .before .before in
+    let a = entry known .args in
+    let s = entry known .pre in
+    let findable =
+    subst (λ (n : ℕ). Findable (metastateCode (a .header .half))
+    (take (n * a .sizes .metastates) (a .metastates .now)) (a .chains .now)) (sym (sized known))
+    (enter-searchable s) in
+    (findable, s .shaped, narrow (s .connectable .usable))
 
 sub-enter-at : tie.Need-sub-enter-at
 sub-enter-at c = search needs
@@ -40,7 +79,7 @@ enter-at-requires : tie.Need-enter-at-requires
 enter-at-requires c κs =
     let test = c .before in
     let s = searched (test .before) .pre in
-    record { placed = enter-placed s (test .before .find .ensures) (test .if1 .taken); fit = enter-arcs s }
+    record { placed = enter-placed s (found-in (test .before)) (test .if1 .taken); fit = enter-arcs s }
 
 same-length : tie.Need-same-length
 same-length c = search needs
@@ -56,7 +95,7 @@ returns c =
     let call = c .before .before in
     let test = call .before .before in
     let start = searched (test .before) in
-    enter-known (start .pre) (test .before .find .ensures) (start .args .from) (test .if1 .taken)
+    enter-known (start .pre) (found-in (test .before)) (start .args .from) (test .if1 .taken)
     (call .enter-at .ensures)
 
 metastate-room-requires : tie.Need-metastate-room-requires
@@ -70,30 +109,30 @@ same-length-5 c = search needs
 
 returns-2 : tie.Need-returns-2
 returns-2 c =
-    let test = c .before .before in
+    let test = c .before .before .before in
     let start = searched (test .before) in
     let a = start .args in
-    let room : metastateRoom (a .metastates .now) ≤ a .sizes .metastates =
+    let room : metastateRoom (a .header .half) (a .metastates .now) ≤ a .sizes .metastates =
     omega (arith, c .if2 .taken, c .before .metastate-room .ensures) in
-    enter-crowded (start .pre) (test .before .find .ensures) (a .from) (test .if1 .left) room
+    enter-crowded (start .pre) (found-in (test .before)) (a .from) (test .if1 .left) room
 
 add-metastate-requires : tie.Need-add-metastate-requires
 add-metastate-requires c κs =
     let test = c .before .before in
-    let start = searched (test .before .before .before) in
+    let start = searched (test .before .before .before .before) in
     let a = start .args in
-    let room : a .sizes .metastates < metastateRoom (a .metastates .now) =
+    let room : a .sizes .metastates < metastateRoom (a .header .half) (a .metastates .now) =
     omega (arith, test .if2 .left, test .before .metastate-room .ensures) in
-    enter-room (start .pre) room
+    enter-place-for (start .pre) room
 
-add-t25 : tie.Need-add-t25
-add-t25 c = search needs
+add-t16 : tie.Need-add-t16
+add-t16 c = search needs
 
 enter-at-requires-2 : tie.Need-enter-at-requires-2
 enter-at-requires-2 c κs =
     let test = c .before .before .before .before .before .before .before .before in
     let room = test .before in
-    let start = searched (room .before .before) in
+    let start = searched (room .before .before .before) in
     let s = start .pre in
     let few : start .args .sizes .metastates < 65535 =
     omega (arith, test .if2 .left, room .metastate-room .ensures) in
@@ -116,18 +155,19 @@ returns-3 c =
     let call = c .before .before in
     let add = call .before .before .before .before .before .before in
     let test = add .before .before .before in
-    let found = test .before .before in
+    let found = test .before .before .before in
     let start = searched (found .before) in
     let a = start .args in
-    let room : a .sizes .metastates < metastateRoom (a .metastates .now) =
+    let room : a .sizes .metastates < metastateRoom (a .header .half) (a .metastates .now) =
     omega (arith, test .if2 .left, test .before .metastate-room .ensures) in
-    enter-new (start .pre) (found .before .find .ensures) (a .from) (found .if1 .left) room
-    (add .add-metastate .ensures .0) (add .add-metastate .ensures .1) (call .enter-at2 .ensures)
+    enter-new (start .pre) (found-in (found .before)) (a .from) (found .if1 .left) room
+    (add .add-metastate .ensures) (call .enter-at2 .ensures)
 
 pub enter-spec : {M : Type 1} → statement M
 enter-spec =
     tie.close
     (tie.spec
+    metastate-size-requires
     mul-used
     slice-reshare-prefix-find
     slice-aggregate-find
@@ -143,7 +183,7 @@ enter-spec =
     same-length-5
     returns-2
     add-metastate-requires
-    add-t25
+    add-t16
     enter-at-requires-2
     same-length-6
     same-length-7

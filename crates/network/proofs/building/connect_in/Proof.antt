@@ -1,25 +1,62 @@
 -- `building::connect_in` meets its contract: what connecting leaves, cleared where it refuses.
-use mathlib.Core.Path.{sym}
+use mathlib.Core.Path.{_≡_, sym, ap, subst}
+use Prim.Native.Nat.{ℕ, _*_, _≤_}
+use lib.ListN.{length, take}
 use lib.Seq.{length-take-le}
 use borrow.Author.Needs.{needs}
-use Rattle.network.specs.laws.Building.{finished-returns, stopped-returns, refused-returns}
+use Rattle.definitions.specs.Combinations.{combinationSize}
+use Rattle.definitions.specs.Connecting.{Built}
+use Rattle.definitions.specs.Faults.{Outcome}
+use Rattle.network.specs.Outcomes.{connectedIn}
+use Rattle.network.specs.Workspace.{Ready}
+use Rattle.network.specs.laws.Building.{connected-as, finished-returns, stopped-returns, refused-returns}
 use Rattle.network.proofs.building.connect_in.Statement.{statement}
 use Rattle.network.proofs.building.connect_in.Tie as tie
 
+-- the size that was computed is that of a record
+module _ (c : tie.After-combination-size) where
+  abbrev start : tie.Start
+  start = c .before .before .before .before .before .before
+
+  sized : c .combination-size .result ≡ combinationSize (start .args .header .half)
+  sized = c .combination-size .ensures
+
+  used-few : c .combination-size .result * start .args .count ≤ length (start .args .combinations .now)
+  used-few =
+      subst (λ (n : ℕ). n * start .args .count ≤ length (start .args .combinations .now)) (sym sized)
+      (start .pre .0)
+
+  abbrev outcome : (size : ℕ) → Outcome Built
+  outcome size =
+      let a = start .args in
+      connectedIn (a .header) (a .nodes .now) (take (size * a .count) (a .combinations .now)) (a .metastates .now)
+      (a .arcs .now) (a .limit)
+
+  same-outcome : outcome (c .combination-size .result) ≡ outcome (combinationSize (start .args .header .half))
+  same-outcome = ap outcome sized
+
+abbrev sizing : tie.After-connect → tie.After-combination-size
+sizing c = c .before .before .before .before
+
+combination-size-requires : tie.Need-combination-size-requires
+combination-size-requires c κs = search needs
+
 mul-used : tie.Need-mul-used
-mul-used c = search needs
+mul-used c = let few = used-few c in search needs
 
 slice-reshare-prefix-connect : tie.Need-slice-reshare-prefix-connect
-slice-reshare-prefix-connect c = search needs
+slice-reshare-prefix-connect c = used-few c
 
 slice-aggregate-connect : tie.Need-slice-aggregate-connect
 slice-aggregate-connect c =
-    let start = c .before .before .before .before .before .before in
-    let (within, given) = start .pre in
-    sym (length-take-le _ (start .args .combinations .now) within)
+    sym (length-take-le _ (start (c .before) .args .combinations .now) (used-few (c .before)))
 
 connect-requires : tie.Need-connect-requires
-connect-requires c κs = search needs
+connect-requires c κs =
+    let known = c .before .before .before in
+    let a = start known .args in
+    subst (λ (n : ℕ). Ready (a .header) (a .nodes .now) (take (n * a .count) (a .combinations .now)) (a .ends .now)
+    (a .metastates .now) (a .arcs .now)) (sym (sized known)) (start known .pre .1)
 
 enum-known-answer : tie.Need-enum-known-answer
 enum-known-answer c = search needs
@@ -36,7 +73,8 @@ same-length-3 c = search needs
 returns : tie.Need-returns
 returns c =
     let connected = c .before .before .before .before .before .before .before in
-    finished-returns (connected .connect .ensures) _ (c .before .answer .given .1)
+    finished-returns (connected-as (connected .connect .ensures) (same-outcome (sizing connected))) _
+    (c .before .answer .given .1)
 
 enum-known-answer-2 : tie.Need-enum-known-answer-2
 enum-known-answer-2 c = search needs
@@ -53,7 +91,8 @@ same-length-6 c = search needs
 returns-2 : tie.Need-returns-2
 returns-2 c =
     let connected = c .before .before .before .before .before .before .before in
-    stopped-returns (connected .connect .ensures) _ (c .before .answer2 .given .1)
+    stopped-returns (connected-as (connected .connect .ensures) (same-outcome (sizing connected))) _
+    (c .before .answer2 .given .1)
 
 enum-known-answer-3 : tie.Need-enum-known-answer-3
 enum-known-answer-3 c = search needs
@@ -83,13 +122,15 @@ returns-3 c =
     let first = second .before .before .before .before in
     let refused = first .before .before .before in
     let connected = refused .before .before .before .before .before .before in
-    refused-returns (connected .connect .ensures) _ (refused .answer3 .given .1)
+    refused-returns (connected-as (connected .connect .ensures) (same-outcome (sizing connected))) _
+    (refused .answer3 .given .1)
     (first .clear-wide-words .ensures) (second .clear-wide-words2 .ensures) (third .clear-words .ensures)
 
 pub connect-in-spec : {M : Type 1} → statement M
 connect-in-spec =
     tie.close
     (tie.spec
+    combination-size-requires
     mul-used
     slice-reshare-prefix-connect
     slice-aggregate-connect

@@ -9,6 +9,9 @@ use Rattle.network.proofs.connecting.connect.Tie as tie
 abbrev entry : tie.After-slice-known2 → tie.Start
 entry c = c .before .before .before .before .before
 
+metastate-room-requires : tie.Need-metastate-room-requires
+metastate-room-requires c κs = search needs
+
 slice-aggregate-connect-with : tie.Need-slice-aggregate-connect-with
 slice-aggregate-connect-with c = search needs
 
@@ -21,9 +24,9 @@ slice-aggregate-connect-with-3 c = search needs
 connect-with-requires : tie.Need-connect-with-requires
 connect-with-requires c κs =
     let test = c .before .before .before .before .before in (
-      entry (test .before) .pre,
-      cleared-workspace 8192 12288 4096 (omega (arith, test .if1 .taken)) (omega arith) (omega arith)
-          (omega arith),
+      entry (test .before .before .before) .pre,
+      cleared-workspace 8192 12288 4096 (omega (arith, test .if1 .taken, test .before .metastate-room .ensures))
+          (omega arith) (omega arith) (omega arith),
     )
 
 same-length : tie.Need-same-length
@@ -46,7 +49,7 @@ slice-aggregate-connect-with-6 c = search needs
 
 connect-with-requires-2 : tie.Need-connect-with-requires-2
 connect-with-requires-2 c κs = (
-  entry (c .before .before .before .before .before .before) .pre,
+  entry (c .before .before .before .before .before .before .before .before) .pre,
   cleared-workspace 131072 196608 65601 (omega arith) (omega arith) (omega arith) (omega arith),
 )
 
@@ -63,6 +66,7 @@ pub connect-spec : {M : Type 1} → statement M
 connect-spec =
     tie.close
     (tie.spec
+    metastate-room-requires
     slice-aggregate-connect-with
     slice-aggregate-connect-with-2
     slice-aggregate-connect-with-3

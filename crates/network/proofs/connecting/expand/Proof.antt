@@ -2,7 +2,7 @@
 use native.Mathlib.Omega.{arith}
 use borrow.Author.Needs.{needs}
 use Rattle.network.specs.laws.Followers.{narrow}
-use Rattle.network.specs.laws.Expanding.{place-few, place-within, expand-placed, arcs-fit, columns-wide}
+use Rattle.network.specs.laws.Expanding.{place-within, expand-placed, arcs-fit, columns-wide}
 use Rattle.network.specs.laws.Expanding.{new-few, turn-stops, next-onward, turn-goes}
 use Rattle.network.proofs.connecting.expand.Statement.{statement}
 use Rattle.network.proofs.connecting.expand.Tie as tie
@@ -11,14 +11,11 @@ use Rattle.network.proofs.connecting.expand.Tie as tie
 abbrev began : tie.After-sizes → tie.Start
 began c = c .before .before .before .before .before .before .before .before
 
-abbrev entry : tie.After-slice-known5 → tie.Start
-entry c = began (c .before)
+-- where the metastate was read, and where the arcs were added
+abbrev start-of : tie.After-metastate-at → tie.Start
+start-of c = began (c .before .before)
 
--- where the matrix was read, and where the arcs were added
-abbrev start-of : tie.After-matrix-at → tie.Start
-start-of c = entry (c .before .before)
-
-abbrev matrix-of : tie.After-add-arcs → tie.After-matrix-at
+abbrev matrix-of : tie.After-add-arcs → tie.After-metastate-at
 matrix-of c = c .before .before .before
 
 abbrev adding-of : tie.Else1 → tie.After-add-arcs
@@ -27,31 +24,21 @@ adding-of c = c .before .before .before
 abbrev else-of : tie.After-wide → tie.Else1
 else-of c = c .before .before .before
 
-mul-from : tie.Need-mul-from
-mul-from c = omega (arith, place-few (began c .pre))
-
-mul-number : tie.Need-mul-number
-mul-number c = omega (arith, place-few (began c .pre))
-
-slice-read-number : tie.Need-slice-read-number
-slice-read-number c = omega (arith, place-within (entry c .pre))
-
-add-matrix-at : tie.Need-add-matrix-at
-add-matrix-at c = omega (arith, place-few (entry (c .before) .pre))
-
-matrix-at-requires : tie.Need-matrix-at-requires
-matrix-at-requires c κs = search needs
+metastate-at-requires : tie.Need-metastate-at-requires
+metastate-at-requires c κs =
+    let s = began (c .before) .pre in
+    (narrow (s .between .searchable .connectable .usable), place-within s)
 
 plain-arcs-requires : tie.Need-plain-arcs-requires
 plain-arcs-requires c κs =
     let s = start-of c .pre in
-    record { placed = expand-placed s; shaped = columns-wide s (c .matrix-at .ensures) }
+    record { placed = expand-placed s (c .metastate-at .ensures); shaped = columns-wide s (c .metastate-at .ensures) }
 
 add-arcs-requires : tie.Need-add-arcs-requires
 add-arcs-requires c κs =
     let m = c .before .before in
     let start = start-of m in
-    (arcs-fit (start .pre), new-few (start .pre) (m .matrix-at .ensures) (c .before .plain-arcs .ensures))
+    (arcs-fit (start .pre), new-few (start .pre) (m .metastate-at .ensures) (c .before .plain-arcs .ensures))
 
 same-length : tie.Need-same-length
 same-length c = search needs
@@ -65,7 +52,7 @@ returns c =
     let m = matrix-of added in
     let start = start-of m in
     let e = added .add-arcs .ensures in
-    turn-stops (start .pre) (m .matrix-at .ensures) (added .before .before .plain-arcs .ensures) (e .0) (e .1)
+    turn-stops (start .pre) (m .metastate-at .ensures) (added .before .before .plain-arcs .ensures) (e .0) (e .1)
     (c .if1 .taken)
 
 add-shift : tie.Need-add-shift
@@ -76,7 +63,7 @@ add-shift c =
     omega (
       arith,
       arcs-fit (start .pre),
-      new-few (start .pre) (m .matrix-at .ensures) (added .before .before .plain-arcs .ensures),
+      new-few (start .pre) (m .metastate-at .ensures) (added .before .before .plain-arcs .ensures),
     )
 
 wide-requires : tie.Need-wide-requires
@@ -102,7 +89,7 @@ follow-on-requires c κs =
     let added = adding-of enough in
     let m = matrix-of added in
     let e = added .add-arcs .ensures in
-    next-onward (start-of m .pre) (m .matrix-at .ensures) (added .before .before .plain-arcs .ensures)
+    next-onward (start-of m .pre) (m .metastate-at .ensures) (added .before .before .plain-arcs .ensures)
     (e .0) (e .1)
     (enough .if1 .left) (half .wide .ensures) (phones .all-phones .ensures) (shifted .shift .ensures)
 
@@ -128,7 +115,7 @@ returns-2 c =
     let added = adding-of enough in
     let m = matrix-of added in
     let e = added .add-arcs .ensures in
-    turn-goes (start-of m .pre) (m .matrix-at .ensures) (added .before .before .plain-arcs .ensures)
+    turn-goes (start-of m .pre) (m .metastate-at .ensures) (added .before .before .plain-arcs .ensures)
     (e .0) (e .1)
     (enough .if1 .left) (half .wide .ensures) (phones .all-phones .ensures) (shifted .shift .ensures)
     (followed .follow-on .ensures)
@@ -137,11 +124,7 @@ pub expand-spec : {M : Type 1} → statement M
 expand-spec =
     tie.close
     (tie.spec
-    mul-from
-    mul-number
-    slice-read-number
-    add-matrix-at
-    matrix-at-requires
+    metastate-at-requires
     plain-arcs-requires
     add-arcs-requires
     same-length

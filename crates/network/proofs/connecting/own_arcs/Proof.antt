@@ -13,11 +13,11 @@ use Rattle.network.proofs.connecting.own_arcs.Statement.{statement}
 use Rattle.network.proofs.connecting.own_arcs.Tie as tie
 
 abbrev Inv-loop : tie.InvT-loop
-Inv-loop nodes combinations place number states first new₀ state₀ new state =
-    OwnArcs (modelWord nodes combinations number) first states state new
+Inv-loop header nodes combinations place number states first new₀ state₀ new state =
+    OwnArcs (modelWord (header .half) combinations number nodes) first states state new
 
 abbrev μ-loop : tie.MeasureT-loop
-μ-loop nodes combinations place number states first new₀ state₀ new state = states - state
+μ-loop header nodes combinations place number states first new₀ state₀ new state = states - state
 
 abbrev entry : tie.At-loop Inv-loop μ-loop → tie.Start Inv-loop μ-loop
 entry c = c .before .before .before .before

@@ -56,9 +56,12 @@ add-next-member c = omega (arith, phone-few (c .before .before))
 next-member-requires : tie.Need-next-member-requires
 next-member-requires c κs = (omega arith, omega (arith, phone-few (c .before .before)))
 
+count-of-requires : tie.Need-count-of-requires
+count-of-requires c κs = search needs
+
 returns-2 : tie.Need-returns-2
 returns-2 c =
-    let member = c .before .before in
+    let member = c .before .before .before in
     let left = member .before in
     let tested = left .before in
     let known = tested .before in
@@ -68,10 +71,10 @@ returns-2 c =
     subst (λ (n : ℕ).
     Beyond (matrixIn (a .header .half) (a .t5 .columns)) (combinationsIn (a .header) (a .combinations .now))
     (a .number) n)
-    (combinations-length (a .header) (a .combinations .now))
+    (combinations-length (a .header) (a .combinations .now) ∙ sym (c .count-of .ensures))
     (beyond-all (s .usable) (s .shaped) (s .indexed) (start .pre .listed) (known .phone-of .ensures)
     (known .before .before .wide .ensures) (sym (tested .has-phone .ensures) ∙ left .if1 .left)
-    (member .next-member .ensures) (c .if2 .taken))
+    (member .next-member .ensures) (c .before .if2 .taken))
 
 wide-requires-2 : tie.Need-wide-requires-2
 wide-requires-2 c κs = search needs
@@ -123,6 +126,7 @@ after-spec =
     returns
     add-next-member
     next-member-requires
+    count-of-requires
     returns-2
     wide-requires-2
     sub-result

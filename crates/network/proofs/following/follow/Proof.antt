@@ -1,15 +1,14 @@
 -- `following::follow` meets its contract. The loop's invariant: the followers before `number` were entered.
-use mathlib.Core.Path.{_≡_}
-use Prim.Native.Nat.{_-_, _/_, _<_}
+use mathlib.Core.Path.{_≡_, sym, _∙_}
+use Prim.Native.Nat.{_-_, _<_}
 use native.Mathlib.Omega.{arith}
 use lib.ListN.{length}
 use borrow.Author.Needs.{needs}
-use Rattle.definitions.specs.Combinations.{combinationSize}
 use Rattle.definitions.specs.Matrices.{meet}
 use Rattle.definitions.specs.laws.Metastates.{numbered}
 use Rattle.matrix.specs.Shapes.{matrixIn}
 use Rattle.network.specs.Combinations.{combinationsIn}
-use Rattle.network.specs.laws.RecordWords.{record-inside, number-in, number-out}
+use Rattle.network.specs.laws.RecordWords.{combinations-length, is-listed}
 use Rattle.network.specs.laws.Followers.{narrow, follower-matrix, follower-width}
 use Rattle.network.specs.laws.Following.{Followed, seeks, followed-start, followed-end, followed-stop}
 use Rattle.network.specs.laws.Following.{followed-next}
@@ -17,22 +16,22 @@ use Rattle.network.proofs.following.follow.Statement.{statement}
 use Rattle.network.proofs.following.follow.Tie as tie
 
 abbrev Inv-loop : tie.InvT-loop
-Inv-loop header nodes combinations index metastates₀ arcs₀ chains₀ source shifted rows now₀ number₀
+Inv-loop header nodes combinations index metastates₀ arcs₀ chains₀ source shifted rows count now₀ number₀
     metastates arcs chains now number =
-    Followed header nodes combinations (source .shifted .columns) (source .state)
+    Followed header nodes combinations (shifted .columns) (source .state)
     metastates₀ arcs₀ chains₀ now₀ metastates arcs chains now number
 
 abbrev μ-loop : tie.MeasureT-loop
-μ-loop header nodes combinations index metastates₀ arcs₀ chains₀ source shifted rows now₀ number₀
+μ-loop header nodes combinations index metastates₀ arcs₀ chains₀ source shifted rows count now₀ number₀
     metastates arcs chains now number =
-    length combinations / combinationSize - number
+    count - number
 
 -- where the function begins, also from inside the loop
-abbrev entry : tie.After-shifted Inv-loop μ-loop → tie.Start Inv-loop μ-loop
-entry c = c .before .before .before .before .before .before .before
+abbrev entry : tie.After-slice-known3 Inv-loop μ-loop → tie.Start Inv-loop μ-loop
+entry c = c .before .before .before .before .before .before
 
 abbrev start : tie.In-loop Inv-loop μ-loop → tie.Start Inv-loop μ-loop
-start c = entry (c .before .before .before .before)
+start c = entry (c .before .before .before .before .before .before)
 
 -- from either arm: the call that entered a follower, and the turn that it stands in
 abbrev called : tie.After-slice-known6 Inv-loop μ-loop → tie.After-enter Inv-loop μ-loop
@@ -41,29 +40,41 @@ called c = c .before .before .before .before .before .before
 abbrev inside : tie.After-enter Inv-loop μ-loop → tie.In-loop Inv-loop μ-loop
 inside c = c .before .before .before .before .before .before
 
+-- the count is that of the combinations
+counted : (c : tie.After-count-of Inv-loop μ-loop)
+    → c .count-of .result
+    ≡ length (combinationsIn (entry (c .before .before) .args .header)
+    (entry (c .before .before) .args .combinations .now))
+counted c =
+    let a = entry (c .before .before) .args in
+    c .count-of .ensures ∙ sym (combinations-length (a .header) (a .combinations .now))
+
 -- a follower that was entered: its number is that of a combination, and what its words hold
 here : (c : tie.In-loop Inv-loop μ-loop)
     → c .before .loop .number
     < length (combinationsIn (start c .args .header) (start c .args .combinations .now))
-here c = number-in _ _ (c .loop-test .taken)
+here c = omega (arith, c .loop-test .taken, counted (c .before .before .before .before))
 
 rows-for-requires : tie.Need-rows-for-requires Inv-loop μ-loop
 rows-for-requires c κs = seeks (entry c .pre)
 
+count-of-requires : tie.Need-count-of-requires Inv-loop μ-loop
+count-of-requires c κs = search needs
+
 next-follower-requires : tie.Need-next-follower-requires Inv-loop μ-loop
 next-follower-requires c κs =
     record {
-      seeking = seeks (entry (c .before) .pre);
+      seeking = seeks (entry (c .before .before .before) .pre);
       within = search needs;
-      admitting = c .rows-for .ensures;
+      admitting = c .before .before .rows-for .ensures;
     }
 
 loop-holds : tie.Need-loop-holds Inv-loop μ-loop
-loop-holds c = followed-start _ _ (entry (c .before .before) .pre .underway) (c .next-follower .ensures)
+loop-holds c = followed-start _ _ (entry (c .before .before .before .before) .pre .underway) (c .next-follower .ensures)
 
 matrix-of-requires : tie.Need-matrix-of-requires Inv-loop μ-loop
 matrix-of-requires c κs =
-    record-inside _ _ (start c .pre .searchable .connectable .usable) _ (here c)
+    is-listed _ _ (start c .pre .searchable .connectable .usable) _ (here c)
 
 meet-requires : tie.Need-meet-requires Inv-loop μ-loop
 meet-requires c κs = search needs
@@ -88,7 +99,7 @@ matrix : (c : tie.After-enter Inv-loop μ-loop)
     → matrixIn (start (inside c) .args .header .half)
     (c .before .before .before .before .meet .result .columns)
     ≡ meet (matrixIn (start (inside c) .args .header .half)
-    (start (inside c) .args .source .shifted .columns))
+    (start (inside c) .args .shifted .columns))
     (numbered (combinationsIn (start (inside c) .args .header) (start (inside c) .args .combinations .now))
     (inside c .before .loop .number) .carried)
 matrix c =
@@ -130,7 +141,7 @@ next-follower-requires-2 c κs =
     record {
       seeking = seeks (start turn .pre);
       within = omega (arith, here turn);
-      admitting = turn .before .before .before .rows-for .ensures;
+      admitting = turn .before .before .before .before .before .rows-for .ensures;
     }
 
 loop-less : tie.Need-loop-less Inv-loop μ-loop
@@ -155,7 +166,8 @@ same-length-6 c = search needs
 
 returns-2 : tie.Need-returns-2 Inv-loop μ-loop
 returns-2 c =
-    followed-end (c .before .loop .inv) (number-out _ _ (c .loop-test .left))
+    followed-end (c .before .loop .inv)
+    (omega (arith, c .loop-test .left, counted (c .before .before .before .before)))
 
 pub follow-spec : {M : Type 1} → statement M
 follow-spec =
@@ -164,6 +176,7 @@ follow-spec =
     Inv-loop
     μ-loop
     rows-for-requires
+    count-of-requires
     next-follower-requires
     loop-holds
     matrix-of-requires

@@ -3,7 +3,7 @@ use mathlib.Core.Path.{refl, sym}
 use native.Mathlib.Omega.{arith}
 use borrow.Author.Needs.{needs}
 use Rattle.definitions.specs.laws.Tests.{failed}
-use Rattle.network.specs.laws.RecordWords.{record-inside, has-phone}
+use Rattle.network.specs.laws.RecordWords.{is-listed, has-phone}
 use Rattle.network.specs.laws.Followers.{narrow, not-following, following-valid}
 use Rattle.network.proofs.following.follows.Statement.{statement}
 use Rattle.network.proofs.following.follows.Tie as tie
@@ -35,26 +35,15 @@ returns c =
     sym (not-following (tried .usable) (tried .shaped) (tried .listed) (known .phone-of .ensures)
     (known .before .before .wide .ensures) (failed (tested .has-phone .ensures) (c .if1 .taken)))
 
-wide-requires-2 : tie.Need-wide-requires-2
-wide-requires-2 c κs = search needs
-
-mul-meets : tie.Need-mul-meets
-mul-meets c = search needs
-
-add-meets : tie.Need-add-meets
-add-meets c = search needs
-
 meets-requires : tie.Need-meets-requires
 meets-requires c κs =
-    let tried = c .before .before .before .before .before .before .before .pre in
-    record-inside _ _ (tried .usable) _ (tried .listed)
+    let tried = c .before .before .before .before .before .before .pre in
+    (is-listed _ _ (tried .usable) _ (tried .listed), narrow (tried .usable))
 
 returns-2 : tie.Need-returns-2
 returns-2 c =
-    let widened = c .before in
-    let tried = widened .before .before .before .before .before .before .before .pre in
-    following-valid (tried .usable) (tried .shaped) (tried .listed) refl refl (widened .wide2 .ensures)
-    (c .meets .ensures)
+    let tried = c .before .before .before .before .before .before .before .pre in
+    following-valid (tried .usable) (tried .shaped) (tried .listed) refl refl refl (c .meets .ensures)
 
 pub follows-spec : {M : Type 1} → statement M
 follows-spec =
@@ -66,8 +55,5 @@ follows-spec =
     phone-of-requires
     has-phone-requires
     returns
-    wide-requires-2
-    mul-meets
-    add-meets
     meets-requires
     returns-2)

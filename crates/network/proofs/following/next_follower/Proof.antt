@@ -1,14 +1,14 @@
 -- `following::next_follower` meets its contract. The loop's invariant: none before `number` follows.
-use Prim.Native.Nat.{_-_, _/_}
-use mathlib.Core.Path.{sym, _∙_}
+use Prim.Native.Nat.{_-_, _<_}
+use mathlib.Core.Path.{_≡_, sym, _∙_}
 use native.Mathlib.Omega.{arith}
 use lib.ListN.{length}
-use Rattle.definitions.specs.Combinations.{combinationSize}
+use borrow.Author.Needs.{needs}
 use Rattle.definitions.specs.laws.Searching.{NoneFrom, none-more, none-found, none-all}
 use Rattle.matrix.specs.Shapes.{matrixIn}
 use Rattle.network.specs.Combinations.{combinationsIn}
 use Rattle.network.specs.Following.{followsAt}
-use Rattle.network.specs.laws.RecordWords.{combinations-length, number-in, number-out}
+use Rattle.network.specs.laws.RecordWords.{combinations-length}
 use Rattle.network.specs.laws.Rows.{admitting-near, marked-none}
 use Rattle.network.proofs.following.next_follower.Statement.{statement}
 use Rattle.network.proofs.following.next_follower.Tie as tie
@@ -20,16 +20,32 @@ Inv-loop header combinations index rows from shifted count number₀ number =
 
 abbrev μ-loop : tie.MeasureT-loop
 μ-loop header combinations index rows from shifted count number₀ number =
-    length combinations / combinationSize - number
+    count - number
 
 abbrev entry : tie.At-loop Inv-loop μ-loop → tie.Start Inv-loop μ-loop
-entry c = c .before .before .before .before
+entry c = c .before .before .before .before .before
+
+-- the count is that of the combinations
+counted : (c : tie.After-count-of Inv-loop μ-loop)
+    → c .count-of .result
+    ≡ length (combinationsIn (c .before .before .before .args .header)
+    (c .before .before .before .args .combinations .now))
+counted c =
+    let a = c .before .before .before .args in
+    c .count-of .ensures ∙ sym (combinations-length (a .header) (a .combinations .now))
+
+here : (c : tie.In-loop Inv-loop μ-loop)
+    → c .before .loop .number
+    < length (combinationsIn (entry (c .before) .args .header) (entry (c .before) .args .combinations .now))
+here c = omega (arith, c .loop-test .taken, counted (c .before .before .before))
+
+count-of-requires : tie.Need-count-of-requires Inv-loop μ-loop
+count-of-requires c κs = search needs
 
 next-marked-requires : tie.Need-next-marked-requires Inv-loop μ-loop
 next-marked-requires c κs =
-    let start = c .before .before in
-    let a = start .args in
-    let few = combinations-length (a .header) (a .combinations .now) in
+    let start = c .before .before .before in
+    let few = counted c in
     record {
       near = admitting-near (start .pre .admitting);
       within = omega (arith, few, start .pre .within);
@@ -38,15 +54,13 @@ next-marked-requires c κs =
 
 loop-holds : tie.Need-loop-holds Inv-loop μ-loop
 loop-holds c =
-    let start = c .before .before .before in
-    let a = start .args in
-    marked-none (start .pre .admitting) (sym (combinations-length (a .header) (a .combinations .now)))
+    marked-none (c .before .before .before .before .pre .admitting) (counted (c .before))
     (c .next-marked .ensures)
 
 follows-requires : tie.Need-follows-requires Inv-loop μ-loop
 follows-requires c κs =
     let s = entry (c .before) .pre .seeking in
-    record { usable = s .usable; shaped = s .shaped; listed = number-in _ _ (c .loop-test .taken) }
+    record { usable = s .usable; shaped = s .shaped; listed = here c }
 
 returns : tie.Need-returns Inv-loop μ-loop
 returns c = none-found (c .before .before .before .loop .inv)
@@ -57,15 +71,15 @@ after-requires c κs =
     let turn = c .before .before in
     record {
       seeking = entry (turn .before) .pre .seeking;
-      listed = number-in _ _ (turn .loop-test .taken);
+      listed = here turn;
       fails = sym (c .before .follows .ensures) ∙ c .if1 .left;
     }
 
 next-marked-requires-2 : tie.Need-next-marked-requires-2 Inv-loop μ-loop
 next-marked-requires-2 c κs =
-    let start = entry (c .before .before .before .before) in
-    let a = start .args in
-    let few = combinations-length (a .header) (a .combinations .now) in
+    let head = c .before .before .before .before in
+    let start = entry head in
+    let few = counted (head .before .before) in
     record {
       near = admitting-near (start .pre .admitting);
       within = omega (arith, few, c .after .ensures .1 .within);
@@ -80,14 +94,13 @@ loop-less c =
 loop-again : tie.Need-loop-again Inv-loop μ-loop
 loop-again c =
     let turn = c .before .before .before .before in
-    let start = entry (turn .before) in
-    let a = start .args in
     none-more (none-more (turn .before .loop .inv) (c .before .after .ensures .1))
-    (marked-none (start .pre .admitting) (sym (combinations-length (a .header) (a .combinations .now)))
+    (marked-none (entry (turn .before) .pre .admitting) (counted (turn .before .before .before))
     (c .next-marked2 .ensures))
 
 returns-2 : tie.Need-returns-2 Inv-loop μ-loop
-returns-2 c = none-all (c .before .loop .inv) (number-out _ _ (c .loop-test .left))
+returns-2 c =
+    none-all (c .before .loop .inv) (omega (arith, c .loop-test .left, counted (c .before .before .before)))
 
 pub next-follower-spec : {M : Type 1} → statement M
 next-follower-spec =
@@ -95,6 +108,7 @@ next-follower-spec =
     (tie.spec
     Inv-loop
     μ-loop
+    count-of-requires
     next-marked-requires
     loop-holds
     follows-requires

@@ -6,7 +6,9 @@ use native.Mathlib.Omega.{arith}
 use lib.Seq.{getD-drop}
 use Rattle.definitions.specs.Lists.{_!_}
 use Rattle.definitions.specs.Combinations.{combinationSize}
-use Rattle.network.specs.RecordWords.{recordOf}
+use Rattle.definitions.specs.laws.Sizes.{columns-held}
+use Rattle.network.specs.RecordWords.{recordOf, IsRecord}
+use Rattle.network.specs.laws.CutRecords.{cut-within, cut-is}
 use Rattle.network.specs.Filling.{ColumnsMarked}
 use Rattle.network.specs.laws.Filling.{columns-none, columns-more, columns-all}
 use borrow.Author.Needs.{needs}
@@ -15,7 +17,7 @@ use Rattle.network.proofs.indexing.mark_columns.Tie as tie
 
 abbrev Inv-loop : tie.InvT-loop
 Inv-loop header combinations blocks number index₀ from column₀ index column =
-    ColumnsMarked (header .phones) blocks combinations number index₀ column index
+    ColumnsMarked header blocks combinations number index₀ column index
 
 abbrev μ-loop : tie.MeasureT-loop
 μ-loop header combinations blocks number index₀ from column₀ index column = header .half - column
@@ -24,10 +26,23 @@ abbrev cut : tie.At-loop Inv-loop μ-loop → tie.After-record-at Inv-loop μ-lo
 cut c = c .before
 
 abbrev entry : tie.At-loop Inv-loop μ-loop → tie.Start Inv-loop μ-loop
-entry c = cut c .before .before .before
+entry c = cut c .before .before .before .before
+
+combination-size-requires : tie.Need-combination-size-requires Inv-loop μ-loop
+combination-size-requires c κs = search needs
+
+-- the record that is cut out
+record-is : (c : tie.After-record-at Inv-loop μ-loop)
+    → IsRecord (combinationSize (c .before .before .before .before .args .header .half))
+    (c .before .before .before .before .args .combinations .now) (c .before .before .before .before .args .number)
+    (c .record-at .result .now)
+record-is c = cut-is (c .before .combination-size .ensures) (c .record-at .ensures)
 
 record-at-requires : tie.Need-record-at-requires Inv-loop μ-loop
-record-at-requires c κs = c .before .before .pre .within
+record-at-requires c κs =
+    let start = c .before .before .before in
+    cut-within (c .combination-size .ensures) (start .args .combinations .now) (start .args .number)
+    (start .pre .within)
 
 loop-holds : tie.Need-loop-holds Inv-loop μ-loop
 loop-holds c = columns-none _
@@ -49,7 +64,13 @@ shared-slice-read-mark-column : tie.Need-shared-slice-read-mark-column Inv-loop 
 shared-slice-read-mark-column c =
     let turn = c .before in
     let pre = entry (turn .before .before) .pre in
-    omega (arith, turn .if1 .taken, turn .before .wide .ensures, pre .narrow .half-few, pre .within)
+    omega (
+      arith,
+      turn .if1 .taken,
+      turn .before .wide .ensures,
+      columns-held _ (pre .narrow .half-few),
+      record-is (cut (turn .before .before)) .sized,
+    )
 
 mark-column-requires : tie.Need-mark-column-requires Inv-loop μ-loop
 mark-column-requires c κs =
@@ -76,9 +97,9 @@ loop-again c =
     let marked = c .before .before in
     let turn = marked .before .before .before .before .before in
     let a = entry turn .args in
-    let own = recordOf combinationSize (a .combinations .now) (a .number) in
+    let own = recordOf (combinationSize (a .header .half)) (a .combinations .now) (a .number) in
     columns-more (turn .loop .inv)
-    (ap (λ (l : List ℕ). l ! (4 + turn .loop .column)) (cut turn .record-at .ensures .is)
+    (ap (λ (l : List ℕ). l ! (4 + turn .loop .column)) (record-is (cut turn) .is)
     ∙ sym (getD-drop 4 own (turn .loop .column) 0))
     (marked .mark-column .ensures)
 
@@ -95,6 +116,7 @@ mark-columns-spec =
     (tie.spec
     Inv-loop
     μ-loop
+    combination-size-requires
     record-at-requires
     loop-holds
     wide-requires

@@ -1,7 +1,12 @@
 -- `repeating::repeats` meets its contract.
 use mathlib.Core.Path.{sym, subst}
+use Prim.Native.Nat.{ℕ, _-_, _/_, _≤_}
+use native.Mathlib.Omega.{arith}
 use lib.Dec.{T}
+use lib.ListN.{length}
 use borrow.Author.Needs.{needs}
+use Rattle.definitions.specs.Metastates.{metastateSize}
+use Rattle.definitions.specs.laws.Records.{record-within}
 use Rattle.network.specs.laws.Repeating.{alike-repeats}
 use Rattle.network.proofs.repeating.repeats.Statement.{statement}
 use Rattle.network.proofs.repeating.repeats.Tie as tie
@@ -21,20 +26,30 @@ wide-requires c κs = search needs
 returns : tie.Need-returns
 returns c = λ yes. absurd (subst T (sym yes) tt)
 
+metastate-size-requires : tie.Need-metastate-size-requires
+metastate-size-requires c κs = search needs
+
+div-if2 : tie.Need-div-if2
+div-if2 c = search needs
+
 returns-2 : tie.Need-returns-2
 returns-2 c = λ e. absurd (subst T (sym e) tt)
 
-sub-matrix-at : tie.Need-sub-matrix-at
-sub-matrix-at c = search needs
+sub-metastate-at : tie.Need-sub-metastate-at
+sub-metastate-at c = search needs
 
-mul-matrix-at : tie.Need-mul-matrix-at
-mul-matrix-at c = search needs
-
-add-matrix-at : tie.Need-add-matrix-at
-add-matrix-at c = search needs
-
-matrix-at-requires : tie.Need-matrix-at-requires
-matrix-at-requires c κs = search needs
+metastate-at-requires : tie.Need-metastate-at-requires
+metastate-at-requires c κs =
+    let sized = c .before in
+    let start = sized .before .before .before .before .before .before in
+    let place : ℕ = sized .before .before .wide .result in
+    let words = start .args .metastates .now in
+    let listed : place ≤ length words / metastateSize (start .args .header .half) =
+    subst (λ (n : ℕ). place ≤ length words / n) (sized .metastate-size .ensures) (c .if2 .left) in (
+      start .pre .0,
+      record-within (metastateSize (start .args .header .half)) (place - 1)
+          (omega (arith, listed, sized .before .if1 .left)),
+    )
 
 all-phones-requires : tie.Need-all-phones-requires
 all-phones-requires c κs = search needs
@@ -58,9 +73,10 @@ returns-3 c =
     let phones = half .before in
     let m = phones .before in
     let listed = m .before in
-    let test = listed .before in
+    let test = listed .before .before in
     let a = test .before .before .before .before .before .args in
-    alike-repeats (a .header) (a .metastates .now) (a .spans .now) (a .slot) (a .shifted .columns) (test .before .wide .ensures) (test .if1 .left) (m .matrix-at .ensures)
+    alike-repeats (a .header) (a .metastates .now) (a .spans .now) (a .slot) (a .shifted .columns)
+    (test .before .wide .ensures) (test .if1 .left) (m .metastate-at .ensures .columns-are)
     (phones .all-phones .ensures) (half .wide2 .ensures) (shifted .shift .ensures) (c .alike .ensures)
 
 pub repeats-spec : {M : Type 1} → statement M
@@ -72,11 +88,11 @@ repeats-spec =
     shared-slice-read-wide
     wide-requires
     returns
+    metastate-size-requires
+    div-if2
     returns-2
-    sub-matrix-at
-    mul-matrix-at
-    add-matrix-at
-    matrix-at-requires
+    sub-metastate-at
+    metastate-at-requires
     all-phones-requires
     wide-requires-2
     mul-shift

@@ -1,5 +1,5 @@
--- `repeating::slot_for` meets its contract: every remainder is a slot. The loop's invariant says only that it
--- ends.
+-- `repeating::slot_for` meets its contract: every remainder is a slot. The loop's invariant says only that
+-- it ends.
 use Prim.Native.Nat.{ℕ, _+_, _-_, _*_, _/_, _%_, _≤_, _<_}
 use native.Mathlib.Nat.{mod-le}
 use native.Mathlib.Omega.{arith}

@@ -1,5 +1,5 @@
--- `rows::next_marked` meets its contract. The loop's invariant: none before `number` has its bits set in all
--- rows.
+-- `rows::next_marked` meets its contract. The loop's invariant: none before `number` has its bits set in
+-- all rows.
 use Prim.Native.Nat.{_-_}
 use mathlib.Core.Path.{refl}
 use native.Mathlib.Omega.{arith}

@@ -4,6 +4,7 @@ use mathlib.Core.Path.{_≡_, sym, _∙_}
 use mathlib.Core.List.{List}
 use Prim.Native.Nat.{ℕ}
 use borrow.Author.Needs.{needs}
+use Rattle.definitions.specs.Matrices.{matrixSize}
 use Rattle.definitions.specs.Program.{programLent, programSpace, programTurns}
 use Rattle.network.specs.declared.Build.{Build}
 use Rattle.program.specs.Printing.{Prints, bookText}
@@ -22,6 +23,7 @@ words c = c .build-book .last .1 .1 .1 .1 .1 .1 .0
 -- the answer can be printed,
 printable : (c : tie.After-build-book) (answer : Build) → c .build-book .result ≡ answer
     → Printable answer (words c)
+unfolding matrixSize
 printable c answer f =
     answer-printable programLent programSpace programTurns (start c .args .text .now) answer _
     (sym f ∙ c .build-book .ensures .0) (c .build-book .ensures .1 .1 .0) (start c .pre .0)
@@ -30,6 +32,7 @@ printable c answer f =
 prints : (c : tie.After-build-book) (answer : Build) (output : List ℕ) (count : ℕ)
     → c .build-book .result ≡ answer → Prints (textTold answer (words c)) output count
     → Prints (bookText (start c .args .text .now)) output count
+unfolding matrixSize
 prints c answer output count f =
     prints-same (textTold answer (words c)) (bookText (start c .args .text .now)) output count
     (answer-told programLent programSpace programTurns (start c .args .text .now) answer _
