@@ -1,6 +1,4 @@
--- What the reader keeps, stores and answers, and the laws about it.
-pub mod Entries
-pub mod States
+-- What the reader stores and answers, and the laws about it.
 pub mod Storing
 pub mod Answers
 pub mod Steps

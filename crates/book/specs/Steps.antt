@@ -13,12 +13,12 @@ use Rattle.lines.specs.declared.Verdict.{Verdict}
 use Rattle.lines.specs.declared.Verdict.the-variants.{Passed, Failed}
 use Rattle.lines.specs.Judging.{verdictBy, takenBy}
 use Rattle.tables.specs.Naming.{firstMisnamed}
+use Rattle.booklines.specs.declared.State.{State}
+use Rattle.booklines.specs.States.{testsIn, completeIn, nextState}
 use Rattle.book.specs.declared.Reading.{Reading}
 use Rattle.book.specs.declared.Reading.the-variants.{Accepted, Refused}
-use Rattle.book.specs.declared.State.{State}
 use Rattle.book.specs.declared.Step.{Step}
 use Rattle.book.specs.declared.Step.the-variants.{Next, Stop}
-use Rattle.book.specs.States.{testsIn, completeIn, nextState}
 
 -- the line that these bytes are taken for: `lineTaken` of a book, the same for all lent tables
 abbrev pub bookTaken : (bytes : List ℕ) → BookLine

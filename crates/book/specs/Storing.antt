@@ -3,10 +3,11 @@ use mathlib.Core.List.{List, [], _∷_}
 use Prim.Native.Nat.{ℕ, _+_, _-_, _*_, _≤_, _<_}
 use lib.Bits.{bitOr}
 use lib.ListN.{set}
+use Rattle.definitions.specs.Forms.{mostNodes}
 use Rattle.definitions.specs.Lists.{_!_, concatMap, padded}
 use Rattle.definitions.specs.PhoneSets.{alone}
-use Rattle.definitions.specs.BookLines.{BookLine, H, Q, N, L, R, question, leaf, headerOf, membersOf}
-use Rattle.definitions.specs.BookLines.{nodesOf, rootsOf, asks, rootNames, rootWords}
+use Rattle.definitions.specs.BookLines.{BookLine, H, Q, N, L, R, question, leaf, headerOf, membersOf, nodesOf}
+use Rattle.definitions.specs.BookLines.{rootsOf, asks, rootNames, rootWords}
 use Rattle.definitions.specs.BookReading.{Lent, nodeSize}
 use Rattle.definitions.specs.Tables.{nodeWords, classSets}
 use Rattle.lines.specs.Putting.{putAt}
@@ -74,4 +75,4 @@ namesOf before = allNames (nodesOf before) (rootNames (rootsOf before))
 
 -- "how often each of up to 4096 nodes was named"
 unfoldable pub countsStored : (before : List BookLine) → List ℕ
-countsStored before = countsOf 4096 (namesOf before)
+countsStored before = countsOf mostNodes (namesOf before)

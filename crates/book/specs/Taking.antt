@@ -9,10 +9,10 @@ use Rattle.definitions.specs.BookLines.{BookLine}
 use Rattle.definitions.specs.BookReading.{Lent, readBook}
 use Rattle.definitions.specs.Tables.{tablesOf, contentsOf}
 use Rattle.tables.specs.Lending.{lengthsOf, lentTables}
-use Rattle.book.specs.declared.State.{State}
+use Rattle.booklines.specs.declared.State.{State}
+use Rattle.booklines.specs.States.{HasStates, Countable}
 use Rattle.book.specs.declared.Step.{Step}
 use Rattle.book.specs.declared.Step.the-variants.{Next}
-use Rattle.book.specs.States.{HasStates, Countable}
 use Rattle.book.specs.Storing.{HasRoom, nodesAfter, classesAfter, rootsAfter, countsAfter}
 use Rattle.book.specs.Steps.{bookTaken, stepOf, whereTaken}
 

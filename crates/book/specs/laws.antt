@@ -1,10 +1,6 @@
--- The laws of this crate, from a line and its tests to the whole reading.
-pub mod Numbers
-pub mod Rows
-pub mod Judged
+-- The laws of this crate, from a line taken to the whole reading.
 pub mod Putting
 pub mod Taking
-pub mod States
 pub mod Steps
 pub mod Keeping
 pub mod Readying
@@ -12,4 +8,5 @@ pub mod Stored
 pub mod Finding
 pub mod Finishing
 pub mod Reading
+pub mod Said
 pub mod Answering

@@ -1,13 +1,13 @@
 // The line of a node, found again in the text. It is looked for only where a book is refused, so a book that is
 // accepted is read in one pass.
-use crate::Entry;
-use crate::entries::entry_of;
+use booklines::Entry;
+use booklines::entries::entry_of;
 use definitions::wide;
 use lines::Letters;
 use lines::parsing::parse;
 ghost use mathlib.Core.Path.{_≡_};
 ghost use Rattle.definitions.specs.BookReading.{isLineOf};
-ghost use Rattle.book.specs.Entries.{entryLine};
+ghost use Rattle.booklines.specs.Entries.{entryLine};
 ghost use Rattle.book.specs.Steps.{lineNumberOf};
 
 // Whether a line is a node's N or L line.

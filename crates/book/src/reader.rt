@@ -2,19 +2,22 @@
 // tables cleared.
 use crate::Reading;
 use crate::Step;
-use crate::states::no_lines;
 use crate::taking::finish;
 use crate::taking::take_line;
+use booklines::states::no_lines;
 use definitions::Fault;
+use definitions::MOST_NODES;
 use definitions::Refusal;
 use lines::clearing::clear_wide_words;
 use lines::clearing::clear_words;
 use lines::texts::whole_lines;
 ghost use mathlib.Core.Path.{_≡_};
+ghost use Rattle.definitions.specs.BookLines.{noHeader, headerOf};
 ghost use Rattle.definitions.specs.BookReading.{readBook};
+ghost use Rattle.definitions.specs.Said.{saidOf};
 ghost use Rattle.definitions.specs.Tables.{tablesLeft};
 ghost use Rattle.tables.specs.Lending.{lengthsOf, lentTables};
-ghost use Rattle.book.specs.Answers.{readingOf};
+ghost use Rattle.book.specs.Answers.{readingOf, readingSaid};
 ghost use Rattle.book.specs.Taking.{Cleared, ClearedFrom, Read};
 
 // Reads all lines into cleared tables. Where a line is refused, the tables hold what was read before it.
@@ -35,7 +38,7 @@ fn read_lines(text: &[u8], nodes: &mut [u32], classes: &mut [u64], roots: &mut [
             line: 0,
         });
     }
-    let mut counts = [0u32; 4096];
+    let mut counts = [0u32; MOST_NODES];
     let mut state = no_lines();
     let mut i = 0;
     while i < text.len() / 32 {
@@ -70,7 +73,8 @@ fn clear_tables(nodes: &mut [u32], classes: &mut [u64], roots: &mut [u32])
 // Reads a tree book.
 pub fn read(text: &[u8], nodes: &mut [u32], classes: &mut [u64], roots: &mut [u32]) -> Reading
     ensures answer { λ r. ⌜
-        r ≡ readingOf (readBook (lengthsOf (now (nodes .entry)) (now (classes .entry)) (now (roots .entry)))
+        readingSaid r ≡ saidOf headerOf noHeader
+        (readBook (lengthsOf (now (nodes .entry)) (now (classes .entry)) (now (roots .entry)))
         (now (text .entry)))
         ⌝ }
     ensures tables { λ r. ⌜

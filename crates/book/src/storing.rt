@@ -1,6 +1,6 @@
 // A line's words put into the lent tables, and its names counted.
-use crate::Entry;
-use crate::State;
+use booklines::Entry;
+use booklines::State;
 use definitions::NODE_SIZE;
 use definitions::Node;
 use definitions::wide;
@@ -13,10 +13,9 @@ ghost use Rattle.definitions.specs.Lists.{_!_};
 ghost use Rattle.definitions.specs.BookLines.{question, leaf, asks};
 ghost use Rattle.definitions.specs.PhoneSets.{alone};
 ghost use Rattle.definitions.specs.Tables.{nodeWords, recordWords};
-ghost use Rattle.book.specs.Entries.{entryLine};
 ghost use Rattle.lines.specs.Putting.{putAt};
-ghost use Rattle.book.specs.Storing.{HasRoom};
-ghost use Rattle.book.specs.Storing.{nodesAfter, classesAfter, rootsAfter, countsAfter};
+ghost use Rattle.booklines.specs.Entries.{entryLine};
+ghost use Rattle.book.specs.Storing.{HasRoom, nodesAfter, classesAfter, rootsAfter, countsAfter};
 
 // The record of a question.
 fn question_node(class: u32, position: u32, yes: u32, no: u32) -> Node

@@ -1,14 +1,14 @@
 // Taking one line of a tree book, and what is judged after the last.
-use crate::Lengths;
 use crate::Reading;
-use crate::State;
 use crate::Step;
-use crate::entries::entry_of;
 use crate::finding::line_of_node;
-use crate::judging::judge_line;
-use crate::states::complete;
-use crate::states::next_state;
 use crate::storing::store;
+use booklines::Lengths;
+use booklines::State;
+use booklines::entries::entry_of;
+use booklines::judging::judge_line;
+use booklines::states::complete;
+use booklines::states::next_state;
 use definitions::Fault;
 use definitions::Refusal;
 use definitions::wide;
@@ -17,10 +17,9 @@ use lines::Verdict;
 use lines::parsing::parse;
 use tables::naming::first_misnamed;
 ghost use mathlib.Core.Path.{_≡_};
-ghost use Rattle.book.specs.Steps.{finishOf, stepOf};
 ghost use Rattle.tables.specs.Lending.{lengthsOf};
-ghost use Rattle.book.specs.Taking.{Endable, Ready};
-ghost use Rattle.book.specs.Taking.{nodesTaken, classesTaken, rootsTaken, countsTaken};
+ghost use Rattle.book.specs.Steps.{finishOf, stepOf};
+ghost use Rattle.book.specs.Taking.{Endable, Ready, nodesTaken, classesTaken, rootsTaken, countsTaken};
 
 // Takes one more line: its words into the tables, and the state after it; or its fault.
 pub fn take_line(

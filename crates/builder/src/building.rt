@@ -10,9 +10,10 @@ use network::building::build;
 ghost use mathlib.Core.Path.{_≡_};
 ghost use Rattle.definitions.specs.BookBuilding.{buildBook, tablesAfter, buffersAfter};
 ghost use Rattle.definitions.specs.Building.{build};
+ghost use Rattle.definitions.specs.Said.{saidOf, noProgress, bookProgress};
 ghost use Rattle.tables.specs.Lending.{lengthsOf, lentTables};
-ghost use Rattle.network.specs.Answers.{lentSpace, lentBuffers, buildAnswer, buildLeft};
-ghost use Rattle.builder.specs.Answers.{bookAnswer, MeetsDemand3, KeepsFinalLast};
+ghost use Rattle.network.specs.Answers.{buildSaid, lentSpace, lentBuffers, buildAnswer, buildLeft};
+ghost use Rattle.builder.specs.Answers.{MeetsDemand3, KeepsFinalLast};
 ghost use Rattle.builder.specs.Tables.{tablesKept};
 
 // Builds from the tables that reading left; they are cleared where the build is refused.
@@ -81,7 +82,7 @@ pub fn build_book(
     limit: u32,
 ) -> Build
     ensures answer { λ r. ⌜
-        r ≡ bookAnswer (buildBook
+        buildSaid r ≡ saidOf bookProgress noProgress (buildBook
         (lengthsOf (now (nodes .entry)) (now (classes .entry)) (now (roots .entry)))
         (lentSpace (now (combinations .entry)) (now (metastates .entry)) (now (arcs .entry))) limit
         (now (text .entry)))

@@ -4,16 +4,16 @@ use mathlib.Core.Bool.{Bool, true, not, _&&_, _||_}
 use Prim.Native.Nat.{ℕ, suc, _+_, _*_, _/_, _%_}
 use lib.Dec.{leb, ltb, eqb}
 use lib.ListN.{length}
+use Rattle.definitions.specs.Lists.{distinct, if_then_else_, atLeastOne, select, lastPasses, concatMap}
+use Rattle.definitions.specs.Lists.{upFrom, occurrences}
 use Rattle.definitions.specs.declared.Header.{Header}
 use Rattle.definitions.specs.declared.Fault.the-variants.{Backward, Orphan, Narrow}
 use Rattle.definitions.specs.Faults.{Outcome, answered, refuse, Test, _unless_}
-use Rattle.definitions.specs.Lists.{if_then_else_, atLeastOne, select, lastPasses, concatMap, upFrom}
-use Rattle.definitions.specs.Lists.{occurrences}
 use Rattle.definitions.specs.Forms.{bookForms}
 use Rattle.definitions.specs.Reading.{Kind, readText}
-use Rattle.definitions.specs.BookLines.{BookLine, H, Q, N, L, R, bookLine, headerIn, headerOf}
-use Rattle.definitions.specs.BookLines.{rootCount, Member, membersOf, TreeNode, nodeLineIn, nodesOf}
-use Rattle.definitions.specs.BookLines.{rootsOf, childrenOf, nextPlace, rootNames}
+use Rattle.definitions.specs.BookLines.{BookLine, H, Q, N, L, R, bookLine, headerIn, headerOf, rootCount}
+use Rattle.definitions.specs.BookLines.{Member, membersOf, TreeNode, nodeLineIn, nodesOf, rootsOf}
+use Rattle.definitions.specs.BookLines.{childrenOf, nextPlace, rootNames}
 
 -- 14 for the letter. "Order: one H; Q lines ..; one N or L per node ..; one R for every phone and state"
 unfoldable pub bookFollows : (before : List BookLine) → BookLine → Bool
@@ -91,6 +91,10 @@ unfoldable pub orphans : List TreeNode → (roots : List ℕ) → List ℕ
 orphans nodes roots =
     let named : List ℕ = concatMap childrenOf nodes ++ roots in
     select (λ node. not (eqb (occurrences node named) 1)) (upFrom 0 (length nodes))
+
+-- no node is a child twice
+abbrev pub ChildOnce : List TreeNode → Type 0
+ChildOnce nodes = distinct (concatMap childrenOf nodes)
 
 -- whether a line is a node's N or L line
 unfoldable pub isLineOf : (node : ℕ) → BookLine → Bool

@@ -21,11 +21,17 @@ pub record Space : Type 0 where
   pub arcs : ℕ
 
 -- "Only whole records of lent space count"; "At most 65535 metastates and 999999 arcs."
+abbrev pub mostMetastates : ℕ
+mostMetastates = 65535
+
+abbrev pub mostArcs : ℕ
+mostArcs = 999999
+
 unfoldable pub roomIn : (half : ℕ) → Space → Room
 roomIn half space =
     record {
-      table = min (space .metastates / metastateSize half) 65535;
-      arcs = min (space .arcs / arcSize) 999999;
+      table = min (space .metastates / metastateSize half) mostMetastates;
+      arcs = min (space .arcs / arcSize) mostArcs;
     }
 
 -- The build: 18, then 30, then 31 or 32 as construction meets them.

@@ -92,8 +92,11 @@ unfoldable pub combinationWords : (half : ℕ) → Combination → List ℕ
 combinationWords half c = c .phone ∷ padded 3 (c .leaves) ++ matrixRecord half (c .carried)
 
 -- "Only whole records of lent space count"; "more combinations than the lent space or 65535"
+abbrev pub mostCombinations : ℕ
+mostCombinations = 65535
+
 unfoldable pub combinationRoom : (half space : ℕ) → ℕ
-combinationRoom half space = min (space / combinationSize half) 65535
+combinationRoom half space = min (space / combinationSize half) mostCombinations
 
 -- the combinations of a book in tables, into lent space of so many words: 18, then 30
 unfoldable pub combine : Header → Tables → (space : ℕ) → Outcome (List Combination)

@@ -5,14 +5,14 @@ use mathlib.Core.List.{List, [], _∷_, _++_, map}
 use mathlib.Core.Bool.{Bool}
 use Prim.Native.Nat.{ℕ, suc}
 use lib.ListN.{drop}
+use Rattle.definitions.specs.Growing.{placeOf, Grown, Event, plain, enter, Machine, Room, Done, grow}
 use Rattle.definitions.specs.Faults.{Outcome, Test}
 use Rattle.definitions.specs.Lists.{if_then_else_, _!_}
 use Rattle.definitions.specs.Tables.{Book}
 use Rattle.definitions.specs.Combinations.{Combination}
 use Rattle.definitions.specs.Arcs.{Arc, arc, INITIAL, FINAL, firstState, lastState}
-use Rattle.definitions.specs.Metastates.{Metastate, sameMetastate, phoneOf, modelsOf, starts}
-use Rattle.definitions.specs.Metastates.{followers, mayEnd}
-use Rattle.definitions.specs.Growing.{Grown, Event, plain, enter, Machine, Room, Done, grow}
+use Rattle.definitions.specs.Metastates.{Metastate, sameMetastate, phoneOf, modelsOf, starts, followers}
+use Rattle.definitions.specs.Metastates.{mayEnd}
 
 -- what a network is connected by
 pub record Rules : Type 0 where
@@ -103,3 +103,8 @@ machineOf book combinations = connecting (rulesOf book combinations)
 -- "First come the arcs from 0 ..", "Then each turn takes the oldest unexpanded metastate"
 abbrev pub connect : Rules → Room → (limit : ℕ) → Outcome Built
 connect rules room limit = grow (connecting rules) room limit
+
+-- the arc from a state to a metastate that starts or follows, where the table is this one
+abbrev pub arcTo : Rules → (table : List Metastate) → (from : ℕ) → Metastate → Arc
+arcTo rules table from x =
+    arcInto rules from (placeOf sameMetastate table (rules .kept x)) (rules .kept x)

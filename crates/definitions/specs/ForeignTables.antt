@@ -4,10 +4,10 @@ use mathlib.Core.Bool.{Bool, true, _&&_, _||_}
 use Prim.Native.Nat.{ℕ, suc, _*_, _^_}
 use lib.Dec.{leb, ltb, eqb}
 use lib.ListN.{length, take, drop}
+use Rattle.definitions.specs.Forms.{mostModel, formH}
 use Rattle.definitions.specs.declared.Header.{Header}
 use Rattle.definitions.specs.declared.Node.{Node}
 use Rattle.definitions.specs.Lists.{every}
-use Rattle.definitions.specs.Forms.{formH}
 use Rattle.definitions.specs.Lines.{inRanges}
 use Rattle.definitions.specs.BookLines.{rootCount}
 use Rattle.definitions.specs.BookReading.{nodeSize, orphans}
@@ -31,7 +31,7 @@ questionKnown header at node =
 -- a record that an L line leaves
 unfoldable pub leafKnown : Node → Bool
 leafKnown node =
-    eqb (node .kind) 2 && leb 1 (node .value) && leb (node .value) 65535
+    eqb (node .kind) 2 && leb 1 (node .value) && leb (node .value) mostModel
     && eqb (node .position) 0 && eqb (node .yes) 0 && eqb (node .no) 0
 
 -- records that N and L lines leave as nodes `at`, at+1, ..

@@ -56,3 +56,14 @@ bookForms = formH ∷ formQ ∷ formN ∷ formL ∷ formR ∷ []
 
 abbrev pub networkForms : List Form
 networkForms = formW ∷ formA ∷ []
+
+-- some of these numbers by name: how many nodes a book has at most, the greatest model, and the greatest number that a
+-- field of six digits holds
+abbrev pub mostNodes : ℕ
+mostNodes = 4096
+
+abbrev pub mostModel : ℕ
+mostModel = 65535
+
+abbrev pub mostNumber : ℕ
+mostNumber = 999999

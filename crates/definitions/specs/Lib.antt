@@ -1,9 +1,11 @@
 -- The definitions of document 01, the laws about them, and the theorems.
 pub mod Lists
+pub mod Searching
 pub mod Faults
 pub mod Numerals
 pub mod Forms
 pub mod Lines
+pub mod Ranges
 pub mod Reading
 pub mod BookLines
 pub mod BookReading
@@ -24,6 +26,7 @@ pub mod NetworkText
 pub mod TreesGive
 pub mod Transcription
 pub mod BookBuilding
+pub mod Said
 pub mod Program
 pub mod laws
 pub mod examples

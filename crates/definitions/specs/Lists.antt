@@ -1,4 +1,6 @@
 -- The vocabulary on lists that all definitions share, beside the library's own.
+use mathlib.Core.Path.{_≡_}
+use mathlib.Core.Logic.{_⊎_}
 use mathlib.Core.List.{List, [], _∷_, _++_}
 use mathlib.Core.Bool.{Bool, true, false, _&&_, _||_}
 use mathlib.Core.Option.{Option, none, some}
@@ -80,3 +82,13 @@ cleared size = replicate size 0
 -- a lent buffer of `size` numbers that begins with `used` and is 0 after it
 unfoldable pub padded : ℕ → List ℕ → List ℕ
 padded size used = used ++ cleared (size - length used)
+
+-- x is an element of the list
+abbrev pub isIn : {A : Type 0} → A → List A → Type 0
+isIn x [] = ⊥
+isIn x (y ∷ l) = (x ≡ y) ⊎ isIn x l
+
+-- no element stands at two places
+abbrev pub distinct : {A : Type 0} → List A → Type 0
+distinct [] = Unit {0}
+distinct (x ∷ l) = (isIn x l → ⊥) × distinct l

@@ -23,7 +23,7 @@ mostColumns = 7
 unfoldable pub matrixWords : Matrix → List ℕ
 matrixWords m = padded mostColumns m
 
--- how many words it takes in a record of a book with this n. Proofs know of it what laws/Sizes says.
+-- how many words it takes in a record of a book with this n. Proofs know of it what laws/matrices/Sizes says.
 unfoldable pub matrixSize : (half : ℕ) → ℕ
 matrixSize half = mostColumns
 

@@ -6,8 +6,8 @@ use Prim.Native.Nat.{ℕ, suc, _+_}
 use lib.Dec.{eqb}
 use lib.ListN.{getD}
 use Rattle.definitions.specs.Lists.{if_then_else_, same}
-use Rattle.definitions.specs.Matrices.{Matrix, matrixSize, matrixRecord, valid, meet, shift}
-use Rattle.definitions.specs.Matrices.{startCut, endsHere}
+use Rattle.definitions.specs.Matrices.{Matrix, matrixSize, matrixRecord, valid, meet, shift, startCut}
+use Rattle.definitions.specs.Matrices.{endsHere}
 use Rattle.definitions.specs.Tables.{Book}
 use Rattle.definitions.specs.Lookup.{modelAt}
 use Rattle.definitions.specs.Combinations.{Combination}
@@ -29,6 +29,10 @@ metastateWords half x = x .number ∷ matrixRecord half (x .carried)
 
 abbrev pub noCombination : Combination
 noCombination = record { phone = 0; leaves = []; carried = [] }
+
+-- a combination by its number
+abbrev pub numbered : List Combination → ℕ → Combination
+numbered combinations j = getD combinations j noCombination
 
 -- "Start metastates: each silence combination whose matrix, with columns 0..n−1 cut to {1}, is valid, with
 -- that cut matrix, in combination order." The list begins with combination `number`.
@@ -52,7 +56,7 @@ followersFrom shifted number (c ∷ cs) =
 
 -- a metastate's combination, and its phone
 unfoldable pub combinationOf : (combinations : List Combination) → Metastate → Combination
-combinationOf combinations x = getD combinations (x .number) noCombination
+combinationOf combinations x = numbered combinations (x .number)
 
 unfoldable pub phoneOf : (combinations : List Combination) → Metastate → ℕ
 phoneOf combinations x = combinationOf combinations x .phone

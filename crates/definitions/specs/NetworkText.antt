@@ -1,4 +1,5 @@
 -- Document 01, "Connecting": network text out and in, and what each leaves in its buffer.
+use mathlib.Core.Path.{_≡_}
 use mathlib.Core.List.{List, [], _∷_, _++_}
 use mathlib.Core.Bool.{Bool, true, _&&_}
 use Prim.Native.Nat.{ℕ, _+_, _*_}
@@ -132,3 +133,9 @@ writeNetwork counts words size =
     ∷ Short unless leb (length text) size
     ∷ [])
     (answered text)
+
+-- a text that reading into an arc table of so many words accepts, with these counts, leaving these words
+abbrev pub Leaves : (lent : ℕ) → (text : List ℕ) → Counts → (words : List ℕ) → Type 0
+Leaves lent text counts words =
+    (lines : List NetworkLine) × (readNetwork lent text ≡ answered lines) × (countsOf lines ≡ counts)
+    × (arcsLeft lent (readNetwork lent text) ≡ words)

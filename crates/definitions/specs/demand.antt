@@ -19,4 +19,4 @@ pub mod Main
 pub mod Assembly
 pub mod Demand
 pub mod Endings
-pub mod KnownNetwork
+pub mod BuiltKnown

@@ -12,6 +12,20 @@ pub const ARC_SIZE: usize = 4;
 
 pub const MOST_COLUMNS: usize = 7;
 
+// How many nodes a book has at most; how many combinations, metastates and arcs.
+pub const MOST_NODES: usize = 4096;
+
+pub const MOST_COMBINATIONS: usize = 65535;
+
+pub const MOST_METASTATES: usize = 65535;
+
+pub const MOST_ARCS: usize = 999999;
+
+// The greatest model, and the greatest number of a field: six digits.
+pub const MOST_MODEL: u32 = 65535;
+
+pub const MOST_NUMBER: u32 = 999999;
+
 // The numbers of an H line.
 #[repr(C)]
 pub struct Header {

@@ -1,11 +1,11 @@
 // One book: what reading answers and leaves, and then its trees and its network.
-use crate::answers::print_cleared;
-use crate::foreign::show_foreign;
 use crate::networks::show_whole;
-use crate::sequences::show_trees;
 use book::Reading;
 use book::reader::read;
 use definitions::Header;
+use lookups::answers::print_cleared;
+use lookups::foreign::show_foreign;
+use lookups::sequences::show_trees;
 use showing::printing::print;
 use showing::printing::print_number;
 use showing::printing::print_refusal;

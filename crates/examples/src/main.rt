@@ -3,11 +3,8 @@
 // A book stands below its title, a line that begins with '='; it ends where the next title begins. Of a book whose title
 // begins with '=+' only the tables and the network are shown.
 
-mod answers;
 mod cases;
-mod foreign;
 mod networks;
-mod sequences;
 
 use cases::show_case;
 use networks::show_sizes;

@@ -1,10 +1,10 @@
 // A book read and its network built into space of several sizes; what is left in it, and the arcs that leave the first states.
-use crate::answers::print_cleared;
+use arcs::leaving::leaving;
 use builder::building::build_book;
 use definitions::Counts;
+use lookups::answers::print_cleared;
 use network::Build;
 use network::Totals;
-use network::leaving::leaving;
 use showing::printing::print;
 use showing::printing::print_number;
 use showing::printing::print_refusal;
@@ -47,10 +47,11 @@ fn print_space(combinations: &[u64], metastates: &[u64], arcs: &[u32]) {
     print_used_words(arcs);
 }
 
-// The arcs that leave a state.
+// The arcs that leave a state. The line of a fault is always 0 here.
 fn show_leaving(counts: Counts, arcs: &[u32], state: u32) {
     let mut fault = 7;
-    let part = leaving(counts, arcs, state, &mut fault);
+    let mut line = 7;
+    let part = leaving(counts, arcs, state, &mut fault, &mut line);
     print(b"    leaving");
     print_word(state);
     print(b": fault");

@@ -1,4 +1,3 @@
--- What the functions for C answer, the structs that the code makes, and the laws about them.
+-- What the functions for C answer, and the laws about it.
 pub mod Answers
-pub mod Made
 pub mod laws

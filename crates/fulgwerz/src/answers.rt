@@ -6,23 +6,31 @@ use crate::LeafAnswer;
 use crate::NetworkAnswer;
 use crate::PartAnswer;
 use crate::ReadAnswer;
+use arcs::Standing;
 use book::Reading;
+use combinations::Combined;
 use definitions::Counts;
 use definitions::Header;
 use definitions::Refusal;
 use definitions::number;
-use lines::Written;
-use metastates::Combined;
 use network::Build;
-use network::Standing;
 use network::Totals;
 use trees::Lookup;
 use trees::Transcript;
+use writing::Written;
 ghost use mathlib.Core.Path.{_≡_};
 ghost use Rattle.definitions.specs.Faults.{numberOf};
-ghost use Rattle.fulgwerz.specs.Answers.{noCounts};
-ghost use Rattle.fulgwerz.specs.Made.{readMade, leafMade, modelsMade, combinationsMade, bytesMade, partMade};
-ghost use Rattle.fulgwerz.specs.Made.{networkMade, soFar, buildMade};
+ghost use Rattle.definitions.specs.NetworkText.{noCounts};
+ghost use Rattle.definitions.specs.Said.{answerSaid};
+ghost use Rattle.writing.specs.Answers.{writtenSaid};
+ghost use Rattle.book.specs.Answers.{readingSaid};
+ghost use Rattle.trees.specs.Answers.{lookupSaid, transcriptSaid};
+ghost use Rattle.combinations.specs.Answers.{combinedSaid};
+ghost use Rattle.arcs.specs.Standing.{standingSaid};
+ghost use Rattle.network.specs.Answers.{soFar, buildSaid};
+ghost use Rattle.nettext.specs.Answers.{readingSaid as networkSaid};
+ghost use Rattle.fulgwerz.specs.Answers.{readAnswer, leafAnswer, countAnswer, partAnswer};
+ghost use Rattle.fulgwerz.specs.Answers.{networkAnswer, buildAnswer};
 
 // What a refusal says: the number of its fault, and its line.
 struct Cause {
@@ -51,7 +59,7 @@ fn no_counts() -> Counts
 }
 
 pub fn read_answer(reading: Reading) -> ReadAnswer
-    ensures { λ r. ⌜ r ≡ readMade reading ⌝ }
+    ensures { λ r. ⌜ r ≡ readAnswer (readingSaid reading) ⌝ }
 {
     match reading {
         Reading::Accepted(header) => ReadAnswer {
@@ -77,7 +85,7 @@ pub fn read_answer(reading: Reading) -> ReadAnswer
 }
 
 pub fn leaf_answer(lookup: Lookup) -> LeafAnswer
-    ensures { λ r. ⌜ r ≡ leafMade lookup ⌝ }
+    ensures { λ r. ⌜ r ≡ leafAnswer (lookupSaid lookup) ⌝ }
 {
     match lookup {
         Lookup::Leaf(leaf) => LeafAnswer {
@@ -97,7 +105,7 @@ pub fn leaf_answer(lookup: Lookup) -> LeafAnswer
 }
 
 pub fn models_answer(transcript: Transcript) -> CountAnswer
-    ensures { λ r. ⌜ r ≡ modelsMade transcript ⌝ }
+    ensures { λ r. ⌜ r ≡ countAnswer (transcriptSaid transcript) ⌝ }
 {
     match transcript {
         Transcript::Models(count) => CountAnswer {
@@ -117,7 +125,7 @@ pub fn models_answer(transcript: Transcript) -> CountAnswer
 }
 
 pub fn combinations_answer(combined: Combined) -> CountAnswer
-    ensures { λ r. ⌜ r ≡ combinationsMade combined ⌝ }
+    ensures { λ r. ⌜ r ≡ countAnswer (combinedSaid combined) ⌝ }
 {
     match combined {
         Combined::Combinations(count) => CountAnswer {
@@ -137,7 +145,7 @@ pub fn combinations_answer(combined: Combined) -> CountAnswer
 }
 
 pub fn bytes_answer(written: Written) -> CountAnswer
-    ensures { λ r. ⌜ r ≡ bytesMade written ⌝ }
+    ensures { λ r. ⌜ r ≡ countAnswer (writtenSaid written) ⌝ }
 {
     match written {
         Written::Bytes(count) => CountAnswer {
@@ -157,7 +165,7 @@ pub fn bytes_answer(written: Written) -> CountAnswer
 }
 
 pub fn part_answer(standing: Standing) -> PartAnswer
-    ensures { λ r. ⌜ r ≡ partMade standing ⌝ }
+    ensures { λ r. ⌜ r ≡ partAnswer (standingSaid standing) ⌝ }
 {
     match standing {
         Standing::Part { start, length } => PartAnswer {
@@ -179,7 +187,7 @@ pub fn part_answer(standing: Standing) -> PartAnswer
 }
 
 pub fn network_answer(reading: nettext::Reading) -> NetworkAnswer
-    ensures { λ r. ⌜ r ≡ networkMade reading ⌝ }
+    ensures { λ r. ⌜ r ≡ networkAnswer (networkSaid reading) ⌝ }
 {
     match reading {
         nettext::Reading::Accepted(counts) => NetworkAnswer {
@@ -200,7 +208,7 @@ pub fn network_answer(reading: nettext::Reading) -> NetworkAnswer
 
 // How far a build came.
 fn so_far(totals: Totals, finished: bool) -> BuildAnswer
-    ensures { λ r. ⌜ r ≡ soFar totals finished ⌝ }
+    ensures { λ r. ⌜ r ≡ buildAnswer (answerSaid (soFar finished totals)) ⌝ }
 {
     let counts = totals.counts;
     BuildAnswer {
@@ -213,7 +221,7 @@ fn so_far(totals: Totals, finished: bool) -> BuildAnswer
 }
 
 pub fn build_answer(answer: Build) -> BuildAnswer
-    ensures { λ r. ⌜ r ≡ buildMade answer ⌝ }
+    ensures { λ r. ⌜ r ≡ buildAnswer (buildSaid answer) ⌝ }
 {
     match answer {
         Build::Finished(totals) => so_far(totals, true),

@@ -4,18 +4,18 @@ use crate::CountAnswer;
 use crate::answers::build_answer;
 use crate::answers::combinations_answer;
 use builder::building::build_book;
+use combinations::combining::combine;
 use definitions::Header;
-use metastates::combining::combine;
 use network::building::build;
 ghost use mathlib.Core.Path.{_≡_};
 ghost use lib.ListN.{length};
 ghost use Rattle.definitions.specs.BookBuilding.{buildBook, tablesAfter, buffersAfter};
 ghost use Rattle.definitions.specs.Building.{build};
 ghost use Rattle.definitions.specs.Combinations.{combine, combinationSpace};
+ghost use Rattle.definitions.specs.Said.{saidOf, progressOf, noProgress, bookProgress};
 ghost use Rattle.tables.specs.Lending.{lengthsOf, lentTables};
 ghost use Rattle.network.specs.Answers.{buildLeft, lentBuffers, lentSpace};
-ghost use Rattle.fulgwerz.specs.Answers.{countAnswer, buildAnswer, bookAnswer};
-ghost use Rattle.fulgwerz.specs.Answers.{MeetsDemand3, KeepsFinalLast};
+ghost use Rattle.fulgwerz.specs.Answers.{countAnswer, buildAnswer, MeetsDemand3, KeepsFinalLast};
 
 // Fills in the combinations, and counts them.
 #[no_mangle]
@@ -27,9 +27,9 @@ pub extern "C" fn fulgwerz_combine(
     combinations: &mut [u64],
 ) -> CountAnswer
     ensures answer { λ r. ⌜
-        r ≡ countAnswer
+        r ≡ countAnswer (saidOf length 0
         (combine header (lentTables (now (nodes .entry)) (now (classes .entry)) (now (roots .entry)))
-        (length (now (combinations .entry))))
+        (length (now (combinations .entry)))))
         ⌝ }
     ensures leaves { λ r. ⌜
         now (combinations .exit) ≡ combinationSpace (header .half) (length (now (combinations .entry)))
@@ -55,9 +55,9 @@ pub extern "C" fn fulgwerz_build(
     limit: u32,
 ) -> BuildAnswer
     ensures answer { λ r. ⌜
-        r ≡ buildAnswer (header .states)
+        r ≡ buildAnswer (saidOf (progressOf (header .states)) noProgress
         (build header (lentTables (now (nodes .entry)) (now (classes .entry)) (now (roots .entry)))
-        (lentSpace (now (combinations .entry)) (now (metastates .entry)) (now (arcs .entry))) limit)
+        (lentSpace (now (combinations .entry)) (now (metastates .entry)) (now (arcs .entry))) limit))
         ⌝ }
     ensures leaves { λ r. ⌜
         lentBuffers (now (combinations .exit)) (now (metastates .exit)) (now (arcs .exit))
@@ -90,10 +90,10 @@ pub extern "C" fn fulgwerz_build_book(
     limit: u32,
 ) -> BuildAnswer
     ensures answer { λ r. ⌜
-        r ≡ bookAnswer (buildBook
+        r ≡ buildAnswer (saidOf bookProgress noProgress (buildBook
         (lengthsOf (now (nodes .entry)) (now (classes .entry)) (now (roots .entry)))
         (lentSpace (now (combinations .entry)) (now (metastates .entry)) (now (arcs .entry))) limit
-        (now (text .entry)))
+        (now (text .entry))))
         ⌝ }
     ensures tables { λ r. ⌜
         lentTables (now (nodes .exit)) (now (classes .exit)) (now (roots .exit))

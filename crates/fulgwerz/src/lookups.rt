@@ -12,6 +12,7 @@ ghost use mathlib.Core.Path.{_≡_};
 ghost use lib.ListN.{length};
 ghost use Rattle.definitions.specs.Faults.{answerLeft};
 ghost use Rattle.definitions.specs.Lookup.{leafLookup, leafLookupInTable};
+ghost use Rattle.definitions.specs.Said.{saidOf};
 ghost use Rattle.definitions.specs.Transcription.{transcribe};
 ghost use Rattle.tables.specs.Lending.{lentTables};
 ghost use Rattle.fulgwerz.specs.Answers.{leafAnswer, countAnswer};
@@ -26,8 +27,8 @@ pub extern "C" fn fulgwerz_leaf(
     context: &[u32],
 ) -> LeafAnswer
     ensures { λ r. ⌜
-        r ≡ leafAnswer
-        (leafLookupInTable header (now (classes .entry)) (now (nodes .entry)) root (now (context .entry)))
+        r ≡ leafAnswer (saidOf (λ leaf. leaf) 0
+        (leafLookupInTable header (now (classes .entry)) (now (nodes .entry)) root (now (context .entry))))
         ⌝ }
 {
     leaf_answer(leaf_of(header, nodes, classes, root, context))
@@ -43,8 +44,8 @@ pub extern "C" fn fulgwerz_leaf_in_list(
     context: &[u32],
 ) -> LeafAnswer
     ensures { λ r. ⌜
-        r ≡ leafAnswer
-        (leafLookup header (now (classes .entry)) (now (nodes .entry)) root (now (context .entry)))
+        r ≡ leafAnswer (saidOf (λ leaf. leaf) 0
+        (leafLookup header (now (classes .entry)) (now (nodes .entry)) root (now (context .entry))))
         ⌝ }
 {
     leaf_answer(leaf_in_list(header, nodes, classes, root, context))
@@ -61,9 +62,9 @@ pub extern "C" fn fulgwerz_transcribe(
     models: &mut [u32],
 ) -> CountAnswer
     ensures answer { λ r. ⌜
-        r ≡ countAnswer (transcribe header
+        r ≡ countAnswer (saidOf length 0 (transcribe header
         (lentTables (now (nodes .entry)) (now (classes .entry)) (now (roots .entry))) (now (phones .entry))
-        (length (now (models .entry))))
+        (length (now (models .entry)))))
         ⌝ }
     ensures leaves { λ r. ⌜
         now (models .exit) ≡ answerLeft (length (now (models .entry))) (transcribe header

@@ -3,7 +3,9 @@ use crate::ReadAnswer;
 use crate::answers::read_answer;
 use book::reader::read;
 ghost use mathlib.Core.Path.{_≡_};
+ghost use Rattle.definitions.specs.BookLines.{noHeader, headerOf};
 ghost use Rattle.definitions.specs.BookReading.{readBook};
+ghost use Rattle.definitions.specs.Said.{saidOf};
 ghost use Rattle.definitions.specs.Tables.{tablesLeft};
 ghost use Rattle.tables.specs.Lending.{lengthsOf, lentTables};
 ghost use Rattle.fulgwerz.specs.Answers.{readAnswer};
@@ -17,8 +19,9 @@ pub extern "C" fn fulgwerz_read(
     roots: &mut [u32],
 ) -> ReadAnswer
     ensures answer { λ r. ⌜
-        r ≡ readAnswer (readBook (lengthsOf (now (nodes .entry)) (now (classes .entry)) (now (roots .entry)))
-        (now (text .entry)))
+        r ≡ readAnswer (saidOf headerOf noHeader
+        (readBook (lengthsOf (now (nodes .entry)) (now (classes .entry)) (now (roots .entry)))
+        (now (text .entry))))
         ⌝ }
     ensures tables { λ r. ⌜
         lentTables (now (nodes .exit)) (now (classes .exit)) (now (roots .exit))

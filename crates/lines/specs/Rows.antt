@@ -1,14 +1,11 @@
--- What a row of the code means: the line of document 01 that it holds, and what the parser and the writer
--- answer.
-use mathlib.Core.List.{List, [], _++_}
-use mathlib.Core.Bool.{Bool, true, false, _&&_}
+-- What a row of the code means: the line of document 01 that it holds, and what the parser answers.
+use mathlib.Core.List.{List, []}
+use mathlib.Core.Bool.{true, false}
 use mathlib.Core.Option.{Option, none, some}
-use Prim.Native.Nat.{ℕ}
-use lib.Dec.{leb}
-use lib.ListN.{length, take, drop}
-use Rattle.definitions.specs.Lists.{every, padded}
+use lib.ListN.{length, take}
+use Rattle.definitions.specs.Lists.{padded}
 use Rattle.definitions.specs.Forms.{Form, bookForms, networkForms}
-use Rattle.definitions.specs.Lines.{Line, lineText, Field, blank, malformed, number}
+use Rattle.definitions.specs.Lines.{Line, Field, blank, malformed, number}
 use Rattle.lines.specs.declared.Letters.{Letters}
 use Rattle.lines.specs.declared.Letters.the-variants.{Book, Network}
 use Rattle.lines.specs.declared.Field as declared
@@ -40,11 +37,3 @@ rowOf line =
 unfoldable pub parsedOf : Option Line → Parsed
 parsedOf none = record { formed = false; row = rowOf (record { letter = 0; numbers = [] }) }
 parsedOf (some line) = record { formed = true; row = rowOf line }
-
--- a row that fits a line: at most five numbers, each of at most six digits
-unfoldable pub writable : Row → Bool
-writable row = leb (row .used) 5 && every (λ n. leb n 999999) (lineIn row .numbers)
-
--- a buffer after a row was written: the line, then what stood beyond its 32 bytes
-unfoldable pub written : Row → List ℕ → List ℕ
-written row bytes = lineText (lineIn row) ++ drop 32 bytes

@@ -1,4 +1,4 @@
--- The laws of this crate: loops, the tables of letters, then reading and writing a line.
+-- The laws of this crate: loops, the tables of letters, then reading a line.
 pub mod Passing
 pub mod Filling
 pub mod Putting
@@ -9,5 +9,3 @@ pub mod Parsing
 pub mod Rows
 pub mod Texts
 pub mod Judging
-pub mod Writing
-pub mod WrittenLines

@@ -6,9 +6,8 @@ ghost use Prim.Native.Nat.{_≤_, _<_};
 ghost use lib.Dec.{leb};
 ghost use lib.ListN.{length};
 ghost use Rattle.definitions.specs.Lines.{formOf};
-ghost use Rattle.lines.specs.Places.{formAt, rangesAt, rangeAt, formCount};
+ghost use Rattle.lines.specs.Places.{formAt, rangesAt, rangeAt, formCount, Placed};
 ghost use Rattle.lines.specs.Rows.{formsOf};
-ghost use Rattle.lines.specs.laws.Tables.{Placed};
 
 // The fixed range of a field: lowest and highest.
 struct Range(u32, u32);

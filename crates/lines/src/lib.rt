@@ -1,15 +1,13 @@
-// The line of 32 bytes that tree books and network text share: read by the table of its letter, and written;
-// and the clearing of lent buffers.
+// The line of 32 bytes that tree books and network text share, read by the table of its letter; and the clearing of
+// lent buffers.
 pub mod clearing;
 mod fields;
 mod forms;
 pub mod parsing;
 pub mod ranges;
 pub mod texts;
-pub mod writing;
 
 use definitions::Fault;
-use definitions::Refusal;
 
 // The letters that a kind of text has.
 pub enum Letters {
@@ -34,12 +32,6 @@ pub struct Parsed {
 pub enum Verdict {
     Passed,
     Failed(Fault),
-}
-
-// What writing a text answers: how many bytes the text has, or the refusal.
-pub enum Written {
-    Bytes(usize),
-    Refused(Refusal),
 }
 
 // One field of six bytes.

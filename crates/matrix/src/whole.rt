@@ -23,7 +23,7 @@ pub fn whole_matrix(words: &[u64], from: usize) -> Matrix
 }
 
 // A number and the columns of a matrix, by place.
-pub fn word_at(number: u64, m: Matrix, place: usize) -> u64
+pub fn numbered_word(number: u64, m: Matrix, place: usize) -> u64
     requires { ⌜ place ≤ mostColumns ⌝ }
     ensures { λ r. ⌜ r ≡ (number ∷ m .columns) ! place ⌝ }
 {
@@ -40,7 +40,7 @@ pub fn put_whole(words: &mut [u64], at: usize, number: u64, m: Matrix)
 {
     let mut i = 0;
     while i < 8 {
-        words[at + i] = word_at(number, m, i);
+        words[at + i] = numbered_word(number, m, i);
         i += 1;
     }
 }

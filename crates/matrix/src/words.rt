@@ -1,8 +1,8 @@
 // Matrices in lent words, alone and after a number: leaves and metastates are held so.
 use crate::Matrix;
+use crate::whole::numbered_word;
 use crate::whole::put_whole;
 use crate::whole::whole_matrix;
-use crate::whole::word_at;
 ghost use mathlib.Core.List.{_∷_};
 ghost use mathlib.Core.Path.{_≡_};
 ghost use Prim.Native.Nat.{_+_};
@@ -68,7 +68,7 @@ fn put_part(words: &mut [u64], at: usize, number: u64, m: Matrix)
         if 8 <= i {
             return;
         }
-        words[at + i] = word_at(number, m, i);
+        words[at + i] = numbered_word(number, m, i);
         i += 1;
     }
 }
@@ -93,7 +93,7 @@ pub fn is_numbered(words: &[u64], number: u64, m: Matrix) -> bool
     }
     let mut i = 0;
     while i < words.len() {
-        if words[i] != word_at(number, m, i) {
+        if words[i] != numbered_word(number, m, i) {
             return false;
         }
         i += 1;

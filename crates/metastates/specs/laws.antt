@@ -1,16 +1,15 @@
--- The laws of this crate: leaves put into a table and listed, combinations added to the space.
-pub mod PuttingLeaves
-pub mod LastNodes
-pub mod WalkingLeaves
-pub mod ListingLeaves
-pub mod CollectingLeaves
-pub mod TreeLeaves
-pub mod Working
-pub mod Grown
-pub mod LeafLists
-pub mod Adding
-pub mod Choosing
-pub mod ReadBack
-pub mod Starting
-pub mod Phones
-pub mod Combining
+-- The laws of this crate: keys and chains, a growing table kept in words, and more of it; the same of a network;
+-- entering.
+pub mod Keys
+pub mod Finding
+pub mod Linking
+pub mod KeptBack
+pub mod KeptMore
+pub mod Entered
+pub mod HeldBack
+pub mod HoldsMore
+pub mod HeldRows
+pub mod States
+pub mod Steps
+pub mod ArcInto
+pub mod Entering

@@ -1,6 +1,7 @@
 // What a line of network text says, the tests that document 01 puts to it, and the first that fails.
 use crate::Entry;
 use crate::State;
+use arcs::known::is_state;
 use definitions::ARC_SIZE;
 use definitions::Counts;
 use definitions::Fault;
@@ -9,7 +10,6 @@ use lines::Letters;
 use lines::Row;
 use lines::Verdict;
 use lines::ranges::in_fixed_ranges;
-use network::known::is_state;
 ghost use mathlib.Core.Path.{_≡_};
 ghost use Prim.Native.Nat.{_*_};
 ghost use lib.Dec.{leb};

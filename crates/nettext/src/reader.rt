@@ -10,8 +10,9 @@ use lines::clearing::clear_words;
 use lines::texts::whole_lines;
 ghost use mathlib.Core.Path.{_≡_};
 ghost use lib.ListN.{length};
-ghost use Rattle.definitions.specs.NetworkText.{readNetwork, arcsLeft};
-ghost use Rattle.nettext.specs.Answers.{readingOf};
+ghost use Rattle.definitions.specs.NetworkText.{noCounts, countsOf, readNetwork, arcsLeft};
+ghost use Rattle.definitions.specs.Said.{saidOf};
+ghost use Rattle.nettext.specs.Answers.{readingOf, readingSaid};
 ghost use Rattle.nettext.specs.Taking.{Cleared, Read};
 
 // Reads all lines into cleared words. Where a line is refused, they hold the arcs that were read before it.
@@ -47,7 +48,9 @@ fn read_lines(text: &[u8], arcs: &mut [u32]) -> Reading
 
 // Reads network text.
 pub fn read(text: &[u8], arcs: &mut [u32]) -> Reading
-    ensures answer { λ r. ⌜ r ≡ readingOf (readNetwork (length (now (arcs .entry))) (now (text .entry))) ⌝ }
+    ensures answer { λ r. ⌜
+        readingSaid r ≡ saidOf countsOf noCounts (readNetwork (length (now (arcs .entry))) (now (text .entry)))
+        ⌝ }
     ensures arcs { λ r. ⌜
         now (arcs .exit) ≡ arcsLeft (length (now (arcs .entry)))
         (readNetwork (length (now (arcs .entry))) (now (text .entry)))

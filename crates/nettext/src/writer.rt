@@ -1,14 +1,14 @@
 // Writing network text from lent arcs: 18, then 33.
+use arcs::known::network_known;
 use definitions::ARC_SIZE;
 use definitions::Counts;
 use definitions::Fault;
 use definitions::Refusal;
 use definitions::wide;
 use lines::Row;
-use lines::Written;
 use lines::clearing::clear_bytes;
-use lines::writing::write as write_line;
-use network::known::network_known;
+use writing::Written;
+use writing::writing::write as write_line;
 ghost use mathlib.Core.Path.{_≡_};
 ghost use Prim.Native.Nat.{_+_, _*_, _/_, _≤_};
 ghost use lib.Dec.{T};
@@ -18,8 +18,9 @@ ghost use Rattle.definitions.specs.Faults.{answerLeft};
 ghost use Rattle.definitions.specs.Lists.{concatMap, every};
 ghost use Rattle.definitions.specs.Lines.{lineText};
 ghost use Rattle.definitions.specs.NetworkText.{lineOfCounts, lineOfArc, writeNetwork};
+ghost use Rattle.definitions.specs.Said.{saidOf};
 ghost use Rattle.lines.specs.Rows.{lineIn};
-ghost use Rattle.lines.specs.Answers.{writtenOf};
+ghost use Rattle.writing.specs.Answers.{writtenSaid};
 ghost use Rattle.nettext.specs.Writing.{arcInRange};
 
 // The W line of counts.
@@ -66,7 +67,8 @@ fn write_arcs(arcs: &[u32], text: &mut [u8])
     }
 }
 
-fn refuse(fault: Fault) -> Written
+// The refusal of a fault.
+fn not_written(fault: Fault) -> Written
     ensures { λ r. ⌜ r ≡ Written.Refused (record { fault = fault; line = 0 }) ⌝ }
 {
     Written::Refused(Refusal { fault, line: 0 })
@@ -75,7 +77,8 @@ fn refuse(fault: Fault) -> Written
 // Writes the text of a network, and 0 in the rest of the buffer.
 pub fn write(counts: Counts, arcs: &[u32], text: &mut [u8]) -> Written
     ensures answer { λ r. ⌜
-        r ≡ writtenOf (writeNetwork counts (now (arcs .entry)) (length (now (text .entry))))
+        writtenSaid r ≡ saidOf length 0
+        (writeNetwork counts (now (arcs .entry)) (length (now (text .entry))))
         ⌝ }
     ensures leaves { λ r. ⌜
         now (text .exit) ≡ answerLeft (length (now (text .entry)))
@@ -84,13 +87,13 @@ pub fn write(counts: Counts, arcs: &[u32], text: &mut [u8]) -> Written
 {
     clear_bytes(text);
     if !network_known(counts, arcs) {
-        return refuse(Fault::Foreign);
+        return not_written(Fault::Foreign);
     }
     let count = wide(counts.arcs);
     let used = ARC_SIZE * count;
     let end = 32 + 32 * count;
     if text.len() < end {
-        return refuse(Fault::Short);
+        return not_written(Fault::Short);
     }
     write_line(counts_row(counts), text);
     write_arcs(&arcs[..used], &mut text[32..end]);

@@ -1,6 +1,7 @@
--- What a build and the handing out of arcs answer, and the lent slices of their contracts.
+-- What a build answers, and the lent slices of its contract.
 use mathlib.Core.List.{List}
-use Prim.Native.Nat.{ℕ, _*_}
+use mathlib.Core.Bool.{Bool, true, false}
+use Prim.Native.Nat.{ℕ}
 use lib.ListN.{length}
 use Rattle.definitions.specs.declared.Header.{Header}
 use Rattle.definitions.specs.Faults.{Outcome, answered, refused}
@@ -8,13 +9,10 @@ use Rattle.definitions.specs.Growing.{finished, stopped}
 use Rattle.definitions.specs.Connecting.{Network, Built}
 use Rattle.definitions.specs.Tables.{Tables, tablesBook}
 use Rattle.definitions.specs.Building.{Space, Buffers, build, buffersLeft, countsIn}
-use Rattle.definitions.specs.Arcs.{arcSize}
-use Rattle.definitions.specs.Leaving.{Part}
+use Rattle.definitions.specs.Said.{Said, answerSaid, refusalSaid, Progress, noProgress}
 use Rattle.network.specs.declared.Totals.{Totals}
 use Rattle.network.specs.declared.Build.{Build}
 use Rattle.network.specs.declared.Build.the-variants as build
-use Rattle.network.specs.declared.Standing.{Standing}
-use Rattle.network.specs.declared.Standing.the-variants as standing
 
 -- "with the turns done and the counts of metastates and arcs", with k
 unfoldable pub totalsOf : (states turns : ℕ) → Network → Totals
@@ -24,6 +22,15 @@ unfoldable pub buildOf : (states : ℕ) → Outcome Built → Build
 buildOf states (answered (finished turns net)) = build.Finished (totalsOf states turns net)
 buildOf states (answered (stopped turns net)) = build.Stopped (totalsOf states turns net)
 buildOf states (refused r) = build.Refused r
+
+-- number, line, and how far the build came
+abbrev pub soFar : (done : Bool) → Totals → Progress
+soFar done totals = record { finished = done; turns = totals .turns; counts = totals .counts }
+
+abbrev pub buildSaid : Build → Said Progress
+buildSaid (build.Finished totals) = answerSaid (soFar true totals)
+buildSaid (build.Stopped totals) = answerSaid (soFar false totals)
+buildSaid (build.Refused r) = refusalSaid noProgress r
 
 -- the three lent slices of a build: their lengths, and what is left in them
 abbrev pub lentSpace : (combinations metastates arcs : List ℕ) → Space
@@ -41,8 +48,3 @@ buildAnswer header tables space limit = buildOf (header .states) (build header t
 abbrev pub buildLeft : Header → Tables → Space → (limit : ℕ) → Buffers
 buildLeft header tables space limit =
     buffersLeft (tablesBook header tables) space (build header tables space limit)
-
--- where a part stands, in words
-unfoldable pub standingOf : Outcome Part → Standing
-standingOf (answered part) = standing.Part (arcSize * part .start) (arcSize * part .count)
-standingOf (refused r) = standing.Refused r

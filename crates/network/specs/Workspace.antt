@@ -5,11 +5,13 @@ use Prim.Native.Nat.{ℕ, _≤_, _<_}
 use lib.ListN.{length}
 use Rattle.definitions.specs.declared.Header.{Header}
 use Rattle.definitions.specs.Lists.{cleared}
-use Rattle.network.specs.Chains.{headsIn}
-use Rattle.network.specs.Combinations.{Connectable, Ending}
-use Rattle.network.specs.Networks.{metastateRoom}
-use Rattle.network.specs.Indexing.{endsSize, farthest}
-use Rattle.network.specs.Spans.{spanSize}
+use Rattle.definitions.specs.Connecting.{noNetwork}
+use Rattle.index.specs.Combinations.{Connectable, Ending, combinationsIn}
+use Rattle.index.specs.Indexing.{endsSize, farthest}
+use Rattle.metastates.specs.Chains.{headsIn}
+use Rattle.metastates.specs.Networks.{metastateRoom, Holds}
+use Rattle.followers.specs.Spans.{spanSize}
+use Rattle.followers.specs.Turns.{Searchable}
 
 -- combinations that can be connected, where those of each phone end, and cleared space
 pub record Ready (header : Header) (nodes words ends metastates arcs : List ℕ) : Type 0 where
@@ -27,3 +29,8 @@ pub record Workspace (half : ℕ) (metastates chains spans index : List ℕ) : T
   pub spans-clear : spans ≡ cleared (length spans)
   pub ends-room : endsSize ≤ length index
   pub index-small : length index ≤ farthest
+
+-- no network yet
+pub record Startable (header : Header) (nodes words index metastates arcs chains : List ℕ) : Type 0 where
+  pub searchable : Searchable header nodes words index
+  pub empty : Holds (header .half) (length (combinationsIn header words)) noNetwork metastates arcs chains

@@ -1,41 +1,12 @@
--- The laws of this crate: the words of combinations; a network held in words, and more of it; metastates
--- found by chains; entering, following, expanding, starting and turning; combinations that can be connected;
--- the build as a whole; lent arcs and the arcs that leave a state.
-pub mod KnownArcs
-pub mod RecordWords
-pub mod CutRecords
-pub mod Keys
-pub mod Finding
-pub mod Linking
-pub mod KeptBack
-pub mod KeptMore
-pub mod Entered
-pub mod HeldBack
-pub mod HeldRows
-pub mod Steps
-pub mod Putting
-pub mod HoldsMore
-pub mod ArcInto
-pub mod Entering
-pub mod Followers
-pub mod NextMember
-pub mod Filling
-pub mod Rows
-pub mod Following
-pub mod OwnArcs
-pub mod PlainArcs
-pub mod PerformedArcs
-pub mod Spans
-pub mod Copying
-pub mod Expanding
+-- The laws of this crate: starting and turning; refusals; combinations that can be connected;
+-- what a build says; the build as a whole.
 pub mod Starting
 pub mod Beginning
-pub mod Outcomes
-pub mod Repeating
+pub mod Refused
 pub mod Turning
 pub mod Connecting
 pub mod Nodes
 pub mod PhoneEnds
 pub mod UsableCombinations
+pub mod Said
 pub mod Building
-pub mod Leaving

@@ -1,20 +1,22 @@
 // The build from lent tables into lent space: 18, then 30, then 31 or 32 as construction meets them.
 use crate::Build;
 use crate::connecting::connect;
+use combinations::Combined;
+use combinations::combining::combine;
 use definitions::Header;
 use definitions::sizes::combination_size;
 use lines::clearing::clear_wide_words;
 use lines::clearing::clear_words;
-use metastates::Combined;
-use metastates::combining::combine;
 ghost use mathlib.Core.Path.{_≡_};
 ghost use Prim.Native.Nat.{_*_, _≤_};
 ghost use lib.ListN.{length, take};
+ghost use Rattle.definitions.specs.Building.{build};
 ghost use Rattle.definitions.specs.Combinations.{combinationSize};
+ghost use Rattle.definitions.specs.Said.{saidOf, progressOf, noProgress};
 ghost use Rattle.tables.specs.Lending.{lentTables};
-ghost use Rattle.network.specs.Answers.{lentSpace, lentBuffers, buildAnswer, buildLeft};
-ghost use Rattle.network.specs.Outcomes.{connectedIn};
-ghost use Rattle.network.specs.Steps.{BuiltIn};
+ghost use Rattle.metastates.specs.Outcomes.{connectedIn};
+ghost use Rattle.network.specs.Answers.{buildSaid, lentSpace, lentBuffers, buildLeft};
+ghost use Rattle.network.specs.Connected.{BuiltIn};
 ghost use Rattle.network.specs.Workspace.{Ready};
 
 // Connects the combinations in the space; all three buffers are cleared where there is no room.
@@ -79,8 +81,9 @@ pub fn build(
     limit: u32,
 ) -> Build
     ensures answer { λ r. ⌜
-        r ≡ buildAnswer header (lentTables (now (nodes .entry)) (now (classes .entry)) (now (roots .entry)))
-        (lentSpace (now (combinations .entry)) (now (metastates .entry)) (now (arcs .entry))) limit
+        buildSaid r ≡ saidOf (progressOf (header .states)) noProgress
+        (build header (lentTables (now (nodes .entry)) (now (classes .entry)) (now (roots .entry)))
+        (lentSpace (now (combinations .entry)) (now (metastates .entry)) (now (arcs .entry))) limit)
         ⌝ }
     ensures leaves { λ r. ⌜
         lentBuffers (now (combinations .exit)) (now (metastates .exit)) (now (arcs .exit))

@@ -1,167 +1,52 @@
 // Connecting by turns: the start metastates, then each turn expands the oldest unexpanded metastate.
-use crate::Arcs;
 use crate::Build;
-use crate::Expanded;
-use crate::Sizes;
-use crate::Source;
-use crate::Step;
 use crate::Totals;
-use crate::Turn;
-use crate::adding::add_arcs;
-use crate::adding::last_state;
-use crate::adding::metastate_room;
-use crate::following::follow;
-use crate::indexing::fill_index;
-use crate::records::metastate_at;
-use crate::records::model_of;
-use crate::records::phone_of;
-use crate::repeating::follow_on;
-use definitions::ARC_SIZE;
 use definitions::Counts;
-use definitions::Fault;
 use definitions::Header;
+use definitions::MOST_COMBINATIONS;
+use definitions::MOST_METASTATES;
 use definitions::Refusal;
 use definitions::wide;
-use matrix::Matrix;
+use followers::Source;
+use followers::following::follow;
+use followers::repeating::SPAN_SIZE;
+use index::indexing::BLOCK_SIZE;
+use index::indexing::ENDS_SIZE;
+use index::indexing::fill_index;
 use matrix::sets::all_phones;
 use matrix::shaping::around;
-use matrix::shaping::shift;
-use matrix::testing::ends_here;
-ghost use mathlib.Core.List.{List, [], _∷_, _++_};
+use metastates::Sizes;
+use metastates::Step;
+use metastates::adding::metastate_room;
+use turns::Turn;
+use turns::expanding::expand;
 ghost use mathlib.Core.Path.{_≡_};
 ghost use Prim.Native.Nat.{_<_};
-ghost use Rattle.definitions.specs.Arcs.{Arc, arc};
-ghost use Rattle.matrix.specs.Shapes.{matrixIn};
-ghost use Rattle.network.specs.Outcomes.{startedIn, expandedAt, turnedFrom, connectedIn};
-ghost use Rattle.network.specs.Steps.{StepLeft, TurnLeft, AreArcs, Addable, ownOf, plainOf, Connected};
-ghost use Rattle.network.specs.Underway.{Placed, PlacedMetastate, Startable, BetweenTurns, Expandable};
-ghost use Rattle.network.specs.Workspace.{Ready, Workspace};
+ghost use Rattle.metastates.specs.Outcomes.{startedIn, turnedFrom, connectedIn};
+ghost use Rattle.metastates.specs.Steps.{StepLeft};
+ghost use Rattle.followers.specs.Turns.{BetweenTurns};
+ghost use Rattle.network.specs.Connected.{Connected};
+ghost use Rattle.network.specs.Workspace.{Startable, Ready, Workspace};
 
-// The new arcs and one more.
-fn with_arc(new: Arcs, from: usize, to: usize, model: u32) -> Arcs
-    requires { ⌜ Addable new from to ⌝ }
-    ensures { λ r. ⌜
-        ((arcs : List Arc) → AreArcs new arcs → AreArcs r (arcs ++ (arc from to model 0 ∷ [])))
-        ⌝ }
-{
-    let mut words = new.words;
-    let at = ARC_SIZE * new.count;
-    words[at] = from as u32;
-    words[at + 1] = to as u32;
-    words[at + 2] = model;
-    words[at + 3] = 0;
-    Arcs {
-        count: new.count + 1,
-        words,
-    }
-}
+// Space for fewer metastates than these gets short tables. There is a head and a link for each of so many metastates, a
+// slot for a span of each, and an index of as many words.
+const FEW: usize = 4096;
 
-// The arcs between a metastate's own states, with the target's model.
-fn own_arcs(
-    header: Header,
-    nodes: &[u32],
-    combinations: &[u64],
-    place: usize,
-    number: usize,
-) -> Arcs
-    requires { ⌜ Placed header (now nodes) (now combinations) number place ⌝ }
-    ensures { λ r. ⌜
-        AreArcs r (ownOf header (now (nodes .entry)) (now (combinations .entry)) place
-        (record { number = number; carried = [] }))
-        ⌝ }
-{
-    let states = wide(header.states);
-    let first = 2 + place * states;
-    let mut new = Arcs {
-        count: 0,
-        words: [0; 12],
-    };
-    let mut state = 1;
-    while state < states {
-        let model = model_of(header.half, nodes, combinations, number, state);
-        new = with_arc(new, first + state - 1, first + state, model);
-        state += 1;
-    }
-    new
-}
+const SHORT_CHAINS: usize = 2 * FEW;
 
-// A metastate's own arcs, and the arc to FINAL where it may end.
-fn plain_arcs(
-    header: Header,
-    nodes: &[u32],
-    combinations: &[u64],
-    place: usize,
-    number: usize,
-    m: Matrix,
-) -> Arcs
-    requires { ⌜ PlacedMetastate header (now nodes) (now combinations) number place (m .columns) ⌝ }
-    ensures { λ r. ⌜
-        AreArcs r (plainOf header (now (nodes .entry)) (now (combinations .entry)) place
-        (record { number = number; carried = matrixIn (header .half) (m .columns) }))
-        ⌝ }
-{
-    let own = own_arcs(header, nodes, combinations, place, number);
-    if phone_of(header.half, combinations, number) != 1 {
-        return own;
-    }
-    if !ends_here(m, header.half) {
-        return own;
-    }
-    with_arc(own, wide(last_state(header, place)), 1, 0)
-}
+const SHORT_SPANS: usize = SPAN_SIZE * FEW;
 
-// One turn: appends the plain arcs of the metastate at a place, then the arcs to its followers.
-fn expand(
-    header: Header,
-    nodes: &[u32],
-    combinations: &[u64],
-    index: &[u64],
-    metastates: &mut [u64],
-    arcs: &mut [u32],
-    chains: &mut [u32],
-    spans: &mut [u32],
-    turn: Turn,
-) -> Step
-    requires { ⌜
-        Expandable header (now nodes) (now combinations) (now index) (now metastates) (now arcs)
-        (now chains) (now spans) (turn .sizes) (turn .place)
-        ⌝ }
-    ensures { λ r. ⌜
-        TurnLeft header (now (nodes .entry)) (now (combinations .entry)) (now (metastates .entry))
-        (now (arcs .entry)) (now (chains .entry)) (now (spans .entry))
-        (expandedAt header (now (nodes .entry)) (now (combinations .entry)) (now (metastates .entry))
-        (now (arcs .entry)) (turn .sizes) (turn .place))
-        r (now (metastates .exit)) (now (arcs .exit)) (now (chains .exit)) (now (spans .exit))
-        ⌝ }
-{
-    let place = turn.place;
-    let sizes = turn.sizes;
-    let q = metastate_at(header.half, metastates, place);
-    let new = plain_arcs(header, nodes, combinations, place, q.number, q.met);
-    if !add_arcs(arcs, sizes.arcs, new) {
-        return Step::Stop(Fault::Tangle);
-    }
-    let next = Sizes {
-        metastates: sizes.metastates,
-        arcs: sizes.arcs + new.count,
-    };
-    let shifted = shift(q.met, 2 * wide(header.half), all_phones(header.phones));
-    follow_on(
-        header,
-        nodes,
-        combinations,
-        index,
-        metastates,
-        arcs,
-        chains,
-        spans,
-        Expanded {
-            place,
-            shifted,
-            sizes: next,
-        },
-    )
-}
+const SHORT_INDEX: usize = FEW;
+
+// Else there is one more head, link and slot than a network has metastates at most; and the index has the ends and, for
+// each of 64 phones, a bit for each combination.
+const MANY: usize = MOST_METASTATES + 1;
+
+const LONG_CHAINS: usize = 2 * MANY;
+
+const LONG_SPANS: usize = SPAN_SIZE * MANY;
+
+const LONG_INDEX: usize = ENDS_SIZE + 64 * (MOST_COMBINATIONS / BLOCK_SIZE + 1);
 
 // The start metastates and their arcs: the followers of a matrix with silence in its centre and left of it.
 fn start(
@@ -352,10 +237,10 @@ pub fn connect(
         r (now (metastates .exit)) (now (arcs .exit))
         ⌝ }
 {
-    if metastate_room(header.half, metastates) < 4096 {
-        let mut chains = [0u32; 8192];
-        let mut few = [0u32; 12288];
-        let mut short = [0u64; 4096];
+    if metastate_room(header.half, metastates) < FEW {
+        let mut chains = [0u32; SHORT_CHAINS];
+        let mut few = [0u32; SHORT_SPANS];
+        let mut short = [0u64; SHORT_INDEX];
         return connect_with(
             header,
             nodes,
@@ -369,9 +254,9 @@ pub fn connect(
             limit,
         );
     }
-    let mut chains = [0u32; 131072];
-    let mut many = [0u32; 196608];
-    let mut long = [0u64; 65601];
+    let mut chains = [0u32; LONG_CHAINS];
+    let mut many = [0u32; LONG_SPANS];
+    let mut long = [0u64; LONG_INDEX];
     connect_with(
         header,
         nodes,

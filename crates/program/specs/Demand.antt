@@ -11,7 +11,7 @@ use Rattle.definitions.specs.BookLines.{BookLine}
 use Rattle.definitions.specs.BookReading.{readBook}
 use Rattle.definitions.specs.Program.{programLent}
 use Rattle.definitions.specs.demand.Demand.{Demand3}
-use Rattle.definitions.specs.laws.RoundTrips.{Leaves}
+use Rattle.definitions.specs.NetworkText.{Leaves}
 
 -- Where what is printed begins with a W, the input is an accepted book, and what is printed is network text:
 -- reading it leaves counts and words of which demand 3 holds.

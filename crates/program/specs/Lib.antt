@@ -1,4 +1,5 @@
--- What the program has printed, and the laws about it.
+-- What the program has read and printed, and the laws about it.
 pub mod Printing
+pub mod Reading
 pub mod Demand
 pub mod laws

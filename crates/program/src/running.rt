@@ -1,4 +1,7 @@
 // The program's work: a book's network text, or the line of its refusal.
+use crate::BUFFER_SIZE;
+use crate::LONGEST_INPUT;
+use crate::OUTPUT_SIZE;
 use crate::Output;
 use builder::building::build_book;
 use definitions::ARC_SIZE;
@@ -9,23 +12,25 @@ use definitions::NODE_SIZE;
 use definitions::Refusal;
 use definitions::number;
 use lines::Row;
-use lines::Written;
-use lines::writing::write as write_line;
 use nettext::writer::write as write_network;
 use network::Build;
+use writing::Written;
+use writing::writing::write as write_line;
 ghost use mathlib.Core.Path.{_≡_};
 ghost use Prim.Native.Nat.{_*_, _≤_};
 ghost use lib.Dec.{T};
 ghost use lib.ListN.{length, take};
+ghost use Rattle.definitions.specs.Forms.{mostNumber};
 ghost use Rattle.definitions.specs.Arcs.{arcSize};
 ghost use Rattle.definitions.specs.NetworkText.{networkKnown};
 ghost use Rattle.definitions.specs.Program.{refusalText, program};
 ghost use Rattle.program.specs.Demand.{PrintsDemand3};
 ghost use Rattle.program.specs.Printing.{outputSize, Empty, Prints, textIn, bookText};
+ghost use Rattle.program.specs.Reading.{PrintsInput};
 
 // One line X with number and line.
 fn print_refusal(refusal: Refusal, output: &mut [u8]) -> usize
-    requires { ⌜ (refusal .line ≤ 999999) × Empty (now output) ⌝ }
+    requires { ⌜ (refusal .line ≤ mostNumber) × Empty (now output) ⌝ }
     ensures { λ r. ⌜ Prints (refusalText refusal) (now (output .exit)) r ⌝ }
 {
     let fault = refusal.fault;
@@ -91,12 +96,12 @@ fn print_built(text: &[u8], output: &mut [u8]) -> usize
     }
 }
 
-// 22 before all others, for an input of more than 65536 bytes.
+// 22 before all others, for an input of more bytes than a book may have.
 fn print_all(input: &[u8], output: &mut [u8]) -> usize
     requires { ⌜ Empty (now output) ⌝ }
     ensures { λ r. ⌜ Prints (program (now (input .entry))) (now (output .exit)) r ⌝ }
 {
-    if input.len() > 65536 {
+    if input.len() > LONGEST_INPUT {
         return print_refusal(
             Refusal {
                 fault: Fault::Long,
@@ -108,13 +113,28 @@ fn print_all(input: &[u8], output: &mut [u8]) -> usize
     print_built(input, output)
 }
 
-// What the program prints for an input.
-pub fn run(input: &[u8]) -> Output
-    ensures prints { λ r. ⌜ Prints (program (now (input .entry))) (r .bytes) (r .length) ⌝ }
-    ensures demand { λ r. ⌜ PrintsDemand3 (now (input .entry)) (take (r .length) (r .bytes)) ⌝ }
-    ensures fits { λ r. ⌜ (outputSize ≡ length (r .bytes)) × (r .length ≤ outputSize) ⌝ }
+// The first bytes of a buffer, as many as were read; all of them where the count is greater.
+fn bytes_read<'a>(buffer: &'a [u8], got: usize) -> &'a [u8]
+    ensures { λ r. ⌜ now r ≡ take got (now (buffer .entry)) ⌝ }
 {
-    let mut bytes = [0u8; 64032];
-    let length = print_all(input, &mut bytes);
+    if got >= buffer.len() {
+        return buffer;
+    }
+    &buffer[..got]
+}
+
+// What the program prints for an input, of which as many bytes as are counted stand in the buffer. The buffer has
+// room for one byte more than a book may have: so it is what is printed for the whole of any input that was read
+// into it until its end or the buffer's.
+pub fn run(buffer: &[u8; BUFFER_SIZE], got: usize) -> Output
+    ensures prints { λ r. ⌜ Prints (program (take got (now (buffer .entry)))) (r .bytes) (r .length) ⌝ }
+    ensures demand { λ r. ⌜
+        PrintsDemand3 (take got (now (buffer .entry))) (take (r .length) (r .bytes))
+        ⌝ }
+    ensures fits { λ r. ⌜ (outputSize ≡ length (r .bytes)) × (r .length ≤ outputSize) ⌝ }
+    ensures whole { λ r. ⌜ PrintsInput (now (buffer .entry)) got (r .bytes) (r .length) ⌝ }
+{
+    let mut bytes = [0u8; OUTPUT_SIZE];
+    let length = print_all(bytes_read(buffer, got), &mut bytes);
     Output { bytes, length }
 }

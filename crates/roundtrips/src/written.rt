@@ -1,6 +1,5 @@
 // A network written again, into buffers of several lengths; and networks that reading never leaves.
 use definitions::Counts;
-use lines::Written;
 use nettext::Reading;
 use nettext::reader::read;
 use nettext::writer::write;
@@ -11,6 +10,7 @@ use showing::comparing::used_bytes;
 use showing::printing::print;
 use showing::printing::print_number;
 use showing::printing::print_refusal;
+use writing::Written;
 
 // Writes a network into a buffer, and prints whether its text stands there and what follows it.
 fn show_written(counts: Counts, arcs: &[u32], text: &[u8], buffer: &mut [u8]) {

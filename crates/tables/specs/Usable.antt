@@ -2,18 +2,21 @@
 -- ranges, tables that are wide enough, nodes and roots in range, and no node a child twice. The roots are those
 -- in force, one for each phone and state: it is not asked that they were read from R lines, nor how often they
 -- name a node. Known tables with their own roots are such (`tables-fit`, `own-book` in laws/KnownTables.antt).
-use mathlib.Core.List.{List}
+use mathlib.Core.List.{List, map}
 use Prim.Native.Nat.{ℕ, _≤_}
 use lib.Dec.{T, ltb}
 use lib.ListN.{length, take}
+use Rattle.definitions.specs.BookLines.{TreeNode, rootCount}
+use Rattle.definitions.specs.Tables.{treeNode, Book, nodeRecords}
 use Rattle.definitions.specs.declared.Header.{Header}
 use Rattle.definitions.specs.Lists.{every}
-use Rattle.definitions.specs.BookLines.{rootCount}
-use Rattle.definitions.specs.Tables.{Book, nodeRecords}
 use Rattle.definitions.specs.ForeignTables.{headerKnown, nodesKnown}
-use Rattle.definitions.specs.laws.Books.{InRange}
-use Rattle.definitions.specs.laws.NamedOnce.{ChildOnce}
-use Rattle.tables.specs.laws.Records.{treeNodes}
+use Rattle.definitions.specs.Ranges.{InRange}
+use Rattle.definitions.specs.BookReading.{ChildOnce}
+
+-- the nodes that the records are
+abbrev pub treeNodes : Header → (words : List ℕ) → List TreeNode
+treeNodes header words = map treeNode (nodeRecords header words)
 
 -- the book of these nodes and classes with these roots in force
 unfoldable pub bookWith : Header → (nodes classes roots : List ℕ) → Book

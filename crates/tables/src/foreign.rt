@@ -7,6 +7,7 @@ use crate::naming::first_misnamed;
 use crate::naming::name_node;
 use crate::records::node_at;
 use definitions::Header;
+use definitions::MOST_NODES;
 use definitions::Node;
 use definitions::wide;
 ghost use mathlib.Core.Bool.{_&&_};
@@ -68,7 +69,7 @@ fn named_once(header: Header, nodes: &[u32], roots: &[u32]) -> bool
         r ≡ namedOnce (tablesContents header (lentTables (now (nodes .entry)) [] (now (roots .entry))))
         ⌝ }
 {
-    let mut counts = [0u32; 4096];
+    let mut counts = [0u32; MOST_NODES];
     name_all_children(&mut counts, header, nodes);
     let used = wide(header.phones) * wide(header.states);
     name_roots(&mut counts, &roots[..used]);

@@ -1,5 +1,6 @@
 // A node's record: whether an N or L line leaves it.
 use definitions::Header;
+use definitions::MOST_MODEL;
 use definitions::Node;
 use definitions::wide;
 ghost use mathlib.Core.Bool.{_||_};
@@ -44,7 +45,7 @@ fn leaf_known(node: Node) -> bool
     if node.value < 1 {
         return false;
     }
-    if 65535 < node.value {
+    if MOST_MODEL < node.value {
         return false;
     }
     if node.position != 0 {

@@ -12,7 +12,7 @@ ghost use Rattle.definitions.specs.Transcription.{isUtterance};
 ghost use Rattle.definitions.specs.TreesGive.{contexts};
 
 // Whether all are phones of the book.
-fn all_phones(sequence: &[u32], phones: u32) -> bool
+fn are_phones(sequence: &[u32], phones: u32) -> bool
     ensures { λ r. ⌜ r ≡ every (isPhone phones) (now (sequence .entry)) ⌝ }
 {
     let mut i = 0;
@@ -36,7 +36,7 @@ pub fn is_context(header: Header, context: &[u32]) -> bool
     if context.len() != 2 * wide(header.half) + 1 {
         return false;
     }
-    all_phones(context, header.phones)
+    are_phones(context, header.phones)
 }
 
 // Whether these are phones of the book with silence at both ends.
@@ -47,7 +47,7 @@ pub fn is_utterance(phones: u32, sequence: &[u32]) -> bool
     if count == 0 {
         return false;
     }
-    if !all_phones(sequence, phones) {
+    if !are_phones(sequence, phones) {
         return false;
     }
     let first = sequence[0];

@@ -8,11 +8,12 @@ use definitions::Refusal;
 use tables::foreign::lookup_known;
 ghost use mathlib.Core.Path.{_≡_};
 ghost use Rattle.definitions.specs.Lookup.{leafLookupInTable};
-ghost use Rattle.trees.specs.Answers.{lookupOf};
+ghost use Rattle.definitions.specs.Said.{saidOf};
+ghost use Rattle.trees.specs.Answers.{lookupSaid};
 
 pub fn leaf_of(header: Header, nodes: &[u32], classes: &[u64], root: u32, context: &[u32]) -> Lookup
     ensures { λ r. ⌜
-        r ≡ lookupOf
+        lookupSaid r ≡ saidOf (λ leaf. leaf) 0
         (leafLookupInTable header (now (classes .entry)) (now (nodes .entry)) root (now (context .entry)))
         ⌝ }
 {

@@ -15,7 +15,8 @@ ghost use mathlib.Core.Path.{_≡_};
 ghost use Rattle.trees.specs.Stages.{refusedStage, firstStage, goesOn, placeOf, judgedStage, walkedStage};
 ghost use Rattle.trees.specs.Stages.{nextStage, answerOf};
 
-fn refuse(fault: Fault) -> Stage
+// The refusal of a fault.
+fn refused_stage(fault: Fault) -> Stage
     ensures { λ r. ⌜ r ≡ refusedStage fault ⌝ }
 {
     Stage::Answered(Lookup::Refused(Refusal { fault, line: 0 }))
@@ -26,7 +27,7 @@ pub fn first_stage(header: Header, count: usize, classes: &[u64], root: u32) -> 
     ensures { λ r. ⌜ r ≡ firstStage header count (now (classes .entry)) root ⌝ }
 {
     if !list_known(header, count, classes, root) {
-        return refuse(Fault::Foreign);
+        return refused_stage(Fault::Foreign);
     }
     Stage::Judging(0)
 }
@@ -58,13 +59,13 @@ fn judged_stage(header: Header, root: u32, context: &[u32], at: u32, node: Node)
     ensures { λ r. ⌜ r ≡ judgedStage header root (now (context .entry)) at node ⌝ }
 {
     if !record_known(header, at, node) {
-        return refuse(Fault::Foreign);
+        return refused_stage(Fault::Foreign);
     }
     if wide(at) + 1 < wide(header.nodes) {
         return Stage::Judging(at + 1);
     }
     if !is_context(header, context) {
-        return refuse(Fault::Range);
+        return refused_stage(Fault::Range);
     }
     Stage::Walking(root)
 }

@@ -13,7 +13,8 @@ ghost use mathlib.Core.Path.{_≡_};
 ghost use Prim.Native.Nat.{_<_};
 ghost use lib.ListN.{length};
 ghost use Rattle.definitions.specs.Lookup.{leafLookup};
-ghost use Rattle.trees.specs.Answers.{lookupOf};
+ghost use Rattle.definitions.specs.Said.{saidOf};
+ghost use Rattle.trees.specs.Answers.{lookupSaid};
 ghost use Rattle.trees.specs.Stages.{recordAt};
 
 // The record at a place.
@@ -32,7 +33,7 @@ pub fn leaf_of(
     context: &[u32],
 ) -> Lookup
     ensures { λ r. ⌜
-        r ≡ lookupOf
+        lookupSaid r ≡ saidOf (λ leaf. leaf) 0
         (leafLookup header (now (classes .entry)) (now (nodes .entry)) root (now (context .entry)))
         ⌝ }
 {

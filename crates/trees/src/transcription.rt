@@ -20,11 +20,12 @@ ghost use Rattle.definitions.specs.BookLines.{isPhone};
 ghost use Rattle.definitions.specs.Faults.{answerLeft};
 ghost use Rattle.definitions.specs.Lists.{every};
 ghost use Rattle.definitions.specs.Lookup.{isContext};
+ghost use Rattle.definitions.specs.Said.{saidOf};
 ghost use Rattle.definitions.specs.Transcription.{modelOf, transcription, transcribe};
 ghost use Rattle.definitions.specs.TreesGive.{contexts};
 ghost use Rattle.tables.specs.Lending.{lentTables};
 ghost use Rattle.tables.specs.Usable.{bookWith, Fit};
-ghost use Rattle.trees.specs.Answers.{stateModels, transcriptOf};
+ghost use Rattle.trees.specs.Answers.{stateModels, transcriptSaid};
 
 // The model of the leaf that a context reaches in the tree of its own phone, for a state.
 fn model_of(
@@ -146,7 +147,8 @@ fn all_models(
     }
 }
 
-fn refuse(fault: Fault) -> Transcript
+// The refusal of a fault.
+fn no_models(fault: Fault) -> Transcript
     ensures { λ r. ⌜ r ≡ Transcript.Refused (record { fault = fault; line = 0 }) ⌝ }
 {
     Transcript::Refused(Refusal { fault, line: 0 })
@@ -162,7 +164,7 @@ pub fn transcribe(
     models: &mut [u32],
 ) -> Transcript
     ensures answer { λ r. ⌜
-        r ≡ transcriptOf (transcribe header
+        transcriptSaid r ≡ saidOf length 0 (transcribe header
         (lentTables (now (nodes .entry)) (now (classes .entry)) (now (roots .entry))) (now (sequence .entry))
         (length (now (models .entry))))
         ⌝ }
@@ -174,15 +176,15 @@ pub fn transcribe(
 {
     clear_words(models);
     if !tables_known(header, nodes, classes, roots) {
-        return refuse(Fault::Foreign);
+        return no_models(Fault::Foreign);
     }
     if !is_utterance(header.phones, sequence) {
-        return refuse(Fault::Utterance);
+        return no_models(Fault::Utterance);
     }
     let states = wide(header.states);
     let room = models.len() / states;
     if room < sequence.len() {
-        return refuse(Fault::Short);
+        return no_models(Fault::Short);
     }
     all_models(header, nodes, classes, roots, sequence, models);
     Transcript::Models(sequence.len() * states)

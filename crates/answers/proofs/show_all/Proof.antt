@@ -26,11 +26,14 @@ part-rest-end c = search needs
 title-of-requires : tie.Need-title-of-requires Inv-loop μ-loop
 title-of-requires c κs = search needs
 
+show-title-requires : tie.Need-show-title-requires Inv-loop μ-loop
+show-title-requires c κs = search needs
+
 text-of-requires : tie.Need-text-of-requires Inv-loop μ-loop
 text-of-requires c κs = search needs
 
-show-case-requires : tie.Need-show-case-requires Inv-loop μ-loop
-show-case-requires c κs = search needs
+show-book-requires : tie.Need-show-book-requires Inv-loop μ-loop
+show-book-requires c κs = search needs
 
 end-of-requires : tie.Need-end-of-requires Inv-loop μ-loop
 end-of-requires c κs = search needs
@@ -61,8 +64,9 @@ show-all-spec =
     part-rest-start
     part-rest-end
     title-of-requires
+    show-title-requires
     text-of-requires
-    show-case-requires
+    show-book-requires
     end-of-requires
     add-at
     add-at-2

@@ -5,15 +5,17 @@ use Prim.Native.Nat.{ℕ}
 use Rattle.definitions.specs.declared.Header.{Header}
 use Rattle.definitions.specs.declared.Refusal.{Refusal}
 use Rattle.definitions.specs.Faults.{Outcome, answered, refused}
-use Rattle.definitions.specs.BookLines.{BookLine}
+use Rattle.definitions.specs.BookLines.{BookLine, noHeader, headerOf}
 use Rattle.definitions.specs.BookReading.{Lent, readBook}
+use Rattle.definitions.specs.Said.{saidOf}
 use Rattle.definitions.specs.Tables.{Tables, noTables, tablesOf, tablesLeft, contentsOf}
-use Rattle.definitions.specs.laws.Lists.{clear-length, clear-itself}
+use Rattle.definitions.specs.laws.lists.Lists.{clear-length, clear-itself}
 use Rattle.tables.specs.Lending.{lengthsOf, lentTables}
 use Rattle.book.specs.declared.Reading.{Reading}
 use Rattle.book.specs.declared.Reading.the-variants.{Accepted, Refused}
-use Rattle.book.specs.Answers.{readingOf}
+use Rattle.book.specs.Answers.{readingOf, readingSaid}
 use Rattle.book.specs.Taking.{Cleared, ClearedFrom, Read}
+use Rattle.book.specs.laws.Said.{reading-said}
 
 module _ {nodes classes roots nodes′ classes′ roots′ : List ℕ}
     (c : ClearedFrom nodes classes roots nodes′ classes′ roots′)
@@ -60,26 +62,31 @@ module _ {nodes classes roots nodes₁ classes₁ roots₁ : List ℕ}
     read-answer : answer ≡ readingOf (readBook (lengthsOf nodes classes roots) text)
     read-answer = a ∙ ap (λ (lent : Lent). readingOf (readBook lent text)) (clear-lengths c)
 
+    -- what it says of an answer
+    abbrev Says : Reading → Type 0
+    Says reading =
+        readingSaid reading ≡ saidOf headerOf noHeader (readBook (lengthsOf nodes classes roots) text)
+
     pub accepted-returns : (header : Header) → answer ≡ Accepted header
-        → (Accepted header ≡ readingOf (readBook (lengthsOf nodes classes roots) text))
+        → Says (Accepted header)
         × (lentTables nodes₂ classes₂ roots₂
         ≡ tablesLeft (lengthsOf nodes classes roots) (readBook (lengthsOf nodes classes roots) text))
     accepted-returns header k = (
-      sym k ∙ read-answer,
+      reading-said _ (sym k ∙ read-answer),
       accepted-left (lengthsOf nodes classes roots) _ _ header (sym read-answer ∙ k)
           (subst (λ (lent : Lent). Read lent text nodes₂ classes₂ roots₂) (clear-lengths c) r .book),
     )
 
     pub refused-returns : (refusal : Refusal) {nodes₃ classes₃ roots₃ : List ℕ} → answer ≡ Refused refusal
         → ClearedFrom nodes₂ classes₂ roots₂ nodes₃ classes₃ roots₃
-        → (Refused refusal ≡ readingOf (readBook (lengthsOf nodes classes roots) text))
+        → Says (Refused refusal)
         × (lentTables nodes₃ classes₃ roots₃
         ≡ tablesLeft (lengthsOf nodes classes roots) (readBook (lengthsOf nodes classes roots) text))
     unfolding noTables
     refused-returns refusal k d =
         let lent : Lent = lengthsOf nodes classes roots in
         let same : lengthsOf nodes₂ classes₂ roots₂ ≡ lent = r .lengths ∙ clear-lengths c in (
-          sym k ∙ read-answer,
+          reading-said _ (sym k ∙ read-answer),
           rw (d .nodes-clear, d .classes-clear, d .roots-clear) (ap noTables same)
               ∙ refused-left lent _ refusal (sym read-answer ∙ k),
         )

@@ -16,14 +16,14 @@ use Rattle.definitions.specs.Faults.{answered, refuse, judge}
 use Rattle.definitions.specs.Reading.{readFrom}
 use Rattle.definitions.specs.BookLines.{BookLine, headerOf, TreeNode, nodesOf, rootsOf, rootNames}
 use Rattle.definitions.specs.BookReading.{Lent, bookKind, bookComplete, judgeNames, isLineOf, lineWhere}
-use Rattle.definitions.specs.laws.Tests.{by-test}
-use Rattle.definitions.specs.laws.Judging.{refused-not-answered}
-use Rattle.definitions.specs.laws.Books.{names-judged}
+use Rattle.definitions.specs.laws.lists.Tests.{by-test}
+use Rattle.definitions.specs.laws.text.Judging.{refused-not-answered}
+use Rattle.definitions.specs.laws.books.Books.{names-judged}
 use Rattle.tables.specs.Naming.{firstMisnamed}
 use Rattle.tables.specs.laws.Naming.{orphan-least, orphans-none, orphans-some}
+use Rattle.booklines.specs.States.{stateOf, completeIn}
 use Rattle.book.specs.declared.Reading.{Reading}
 use Rattle.book.specs.declared.Reading.the-variants.{Accepted, Refused}
-use Rattle.book.specs.States.{stateOf, completeIn}
 use Rattle.book.specs.Answers.{readingOf}
 use Rattle.book.specs.Steps.{finishOf, bookTaken, lineNumberOf}
 use Rattle.book.specs.Storing.{namesOf, countsStored}

@@ -9,17 +9,18 @@ use lib.Dec.{T, leb, ltb, eqb, leb→le, ltb→lt, eqb→eq}
 use lib.ListN.{length}
 use borrow.Author.Tests.{lt-ltb, eqb-false}
 use Rattle.definitions.specs.declared.Header.{Header}
-use Rattle.definitions.specs.BookLines.{BookLine, H, Q, N, L, R, headerIn, headerOf, rootCount}
-use Rattle.definitions.specs.BookLines.{nodesOf, nodeIn, nodeLineIn, rootsOf, rootIn}
+use Rattle.definitions.specs.BookLines.{BookLine, H, Q, N, L, R, headerIn, headerOf, rootCount, nodesOf, nodeIn}
+use Rattle.definitions.specs.BookLines.{nodeLineIn, rootsOf, rootIn}
 use Rattle.definitions.specs.BookReading.{Lent, nodeSize, wideEnough, bookFollows, bookInOrder, bookComplete}
 use Rattle.definitions.specs.BookReading.{withinHeader}
-use Rattle.definitions.specs.laws.Tests.{T-and, by-test}
-use Rattle.definitions.specs.laws.SaidLines.{none-says, line-says, nodes-count, roots-count, header-parts}
-use Rattle.definitions.specs.laws.SaidLines.{roots-none, line-of-root}
-use Rattle.definitions.specs.laws.Books.{Fits, InRange, node-started, test-started, roots-few, roomy}
-use Rattle.book.specs.States.{stateOf, HasStates}
+use Rattle.definitions.specs.laws.lists.Tests.{T-and, by-test}
+use Rattle.definitions.specs.laws.books.SaidLines.{none-says, line-says, nodes-count, roots-count, header-parts}
+use Rattle.definitions.specs.laws.books.SaidLines.{roots-none, line-of-root}
+use Rattle.definitions.specs.laws.books.Books.{Fits, node-started, test-started, roots-few, roomy}
+use Rattle.definitions.specs.Ranges.{InRange}
+use Rattle.booklines.specs.States.{stateOf, HasStates}
+use Rattle.booklines.specs.laws.Judged.{no-header-fits}
 use Rattle.book.specs.Storing.{HasRoom}
-use Rattle.book.specs.laws.Judged.{no-header-fits}
 
 pub record Kept (lent : Lent) (before : List BookLine) : Type 0 where
   pub in-range : 0 < length before → InRange (headerOf before)

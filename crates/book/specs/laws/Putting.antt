@@ -6,7 +6,7 @@ use lib.Bits.{bitOr}
 use lib.ListN.{set}
 use Rattle.definitions.specs.Lists.{_!_}
 use Rattle.definitions.specs.PhoneSets.{alone}
-use Rattle.definitions.specs.laws.PhoneSets.{alone-shifted}
+use Rattle.definitions.specs.laws.matrices.PhoneSets.{alone-shifted}
 
 -- a phone put into a set of the table
 pub member-put : (sets : List ℕ) (at phone : ℕ) → 1 ≤ phone → phone ≤ 64

@@ -16,29 +16,29 @@ use Rattle.definitions.specs.Reading.{readFrom}
 use Rattle.definitions.specs.BookLines.{BookLine, rootsOf}
 use Rattle.definitions.specs.BookReading.{Lent, bookKind, readBook}
 use Rattle.definitions.specs.Tables.{tablesOf, contentsOf}
-use Rattle.definitions.specs.laws.Judging.{refused-not-answered}
+use Rattle.definitions.specs.laws.text.Judging.{refused-not-answered}
 use Rattle.lines.specs.Judging.{lineTaken, linesBefore, lineBytes}
 use Rattle.lines.specs.laws.Judging.{lines-none, lines-more, lines-counted, GoesOn, goes-on-first, text-torn}
 use Rattle.lines.specs.laws.Judging.{goes-on-more, goes-on-refused, goes-on-end}
 use Rattle.lines.specs.laws.Texts.{lines-count}
 use Rattle.tables.specs.Lending.{lengthsOf, lentTables}
+use Rattle.booklines.specs.declared.State.{State}
+use Rattle.booklines.specs.States.{stateOf}
 use Rattle.book.specs.declared.Reading.{Reading}
 use Rattle.book.specs.declared.Reading.the-variants.{Refused}
-use Rattle.book.specs.declared.State.{State}
 use Rattle.book.specs.declared.Step.{Step}
 use Rattle.book.specs.declared.Step.the-variants.{Next, Stop}
-use Rattle.book.specs.States.{stateOf}
-use Rattle.book.specs.Storing.{nodesAfter, classesAfter, rootsAfter, countsAfter}
-use Rattle.book.specs.Storing.{nodesStored, classesStored, rootsStored, countsStored}
+use Rattle.book.specs.Storing.{nodesAfter, classesAfter, rootsAfter, countsAfter, nodesStored}
+use Rattle.book.specs.Storing.{classesStored, rootsStored, countsStored}
 use Rattle.book.specs.Answers.{readingOf}
 use Rattle.book.specs.Steps.{bookTaken, stepOf, whereTaken, finishOf}
-use Rattle.book.specs.Taking.{Ready, Endable, Cleared, Read}
-use Rattle.book.specs.Taking.{nodesTaken, classesTaken, rootsTaken, countsTaken}
+use Rattle.book.specs.Taking.{Ready, Endable, Cleared, Read, nodesTaken, classesTaken, rootsTaken}
+use Rattle.book.specs.Taking.{countsTaken}
 use Rattle.book.specs.laws.Steps.{Taken, step-next, step-stop}
 use Rattle.book.specs.laws.Keeping.{Kept, kept-none, kept-more}
 use Rattle.book.specs.laws.Readying.{kept-ready, kept-endable}
-use Rattle.book.specs.laws.Stored.{nodes-stored, classes-stored, roots-stored, counts-stored}
-use Rattle.book.specs.laws.Stored.{stored-none, stored-lengths}
+use Rattle.book.specs.laws.Stored.{nodes-stored, classes-stored, roots-stored, counts-stored, stored-none}
+use Rattle.book.specs.laws.Stored.{stored-lengths}
 use Rattle.book.specs.laws.Finishing.{finish-state, finish-accepted}
 
 -- ---- the state and the tables after the lines `before`

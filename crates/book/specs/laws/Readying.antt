@@ -7,7 +7,7 @@ use native.Mathlib.Omega.{arith}
 use lib.ListN.{length}
 use Rattle.definitions.specs.BookLines.{BookLine}
 use Rattle.definitions.specs.BookReading.{Lent}
-use Rattle.book.specs.States.{stateOf}
+use Rattle.booklines.specs.States.{stateOf}
 use Rattle.book.specs.Steps.{bookTaken}
 use Rattle.book.specs.Taking.{Ready, Endable}
 use Rattle.book.specs.laws.Keeping.{Kept, kept-few, kept-room, kept-states}

@@ -10,17 +10,17 @@ use Rattle.definitions.specs.declared.Fault.{Fault}
 use Rattle.definitions.specs.Forms.{bookForms}
 use Rattle.definitions.specs.BookLines.{BookLine}
 use Rattle.definitions.specs.BookReading.{Lent, bookKind, bookComplete}
-use Rattle.definitions.specs.laws.Books.{Fits, line-fits}
+use Rattle.definitions.specs.laws.books.Books.{Fits, line-fits}
 use Rattle.lines.specs.declared.Verdict.{Verdict}
 use Rattle.lines.specs.declared.Verdict.the-variants.{Passed, Failed}
 use Rattle.lines.specs.Judging.{verdictBy, lineTaken, lineVerdict}
 use Rattle.lines.specs.laws.Judging as judging
 use Rattle.lines.specs.laws.Judging.{verdict-taken}
-use Rattle.book.specs.declared.State.{State}
+use Rattle.booklines.specs.declared.State.{State}
+use Rattle.booklines.specs.States.{stateOf, nextState}
+use Rattle.booklines.specs.laws.States.{tests-state, complete-state, next-state}
 use Rattle.book.specs.declared.Step.the-variants.{Next, Stop}
-use Rattle.book.specs.States.{stateOf, nextState}
 use Rattle.book.specs.Steps.{bookTaken, verdictIn, stepAfter, stepOf}
-use Rattle.book.specs.laws.States.{tests-state, complete-state, next-state}
 
 verdict-state : (lent : Lent) (before : List BookLine) (bytes : List ℕ)
     → verdictIn lent (stateOf before) bytes ≡ lineVerdict (bookKind lent) before bytes

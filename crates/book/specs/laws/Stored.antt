@@ -11,8 +11,7 @@ use native.Mathlib.Omega.{arith}
 use lib.Bits.{bitOr, or-zero-r}
 use lib.Dec.{T, leb, eqb, leb→le, ltb→lt, eqb→eq}
 use lib.ListN.{length, set, replicate, length-append, length-set}
-use lib.Seq.{ext-getD}
-use lib.Seq.{getD-set-same, getD-set-other}
+use lib.Seq.{ext-getD, getD-set-same, getD-set-other}
 use borrow.Author.Tests.{eq-eqb, ne-eqb}
 use Rattle.definitions.specs.declared.Header.{Header}
 use Rattle.definitions.specs.Lists.{_!_, concatMap, select, upFrom, cleared, padded}
@@ -20,27 +19,25 @@ use Rattle.definitions.specs.PhoneSets.{has, alone, setOf}
 use Rattle.definitions.specs.BookLines.{BookLine, H, Q, N, L, R, headerIn, headerOf, Member, membersOf}
 use Rattle.definitions.specs.BookLines.{memberIn, TreeNode, question, leaf, nodesOf, nodeLineIn, rootsOf}
 use Rattle.definitions.specs.BookLines.{rootIn, childrenOf, asks, Root, rootWords}
-use Rattle.definitions.specs.BookReading.{Lent, nodeSize, bookFollows, bookInOrder, withinHeader}
-use Rattle.definitions.specs.BookReading.{bookComplete}
+use Rattle.definitions.specs.BookReading.{Lent, nodeSize, bookFollows, bookInOrder, withinHeader, bookComplete}
 use Rattle.definitions.specs.Tables.{nodeWords, phonesOfClass, classSets}
-use Rattle.definitions.specs.laws.Tests.{T-and}
-use Rattle.definitions.specs.laws.Lists.{concatMap-snoc, map-upFrom-length, map-upFrom-at}
-use Rattle.definitions.specs.laws.Lists.{padded-length}
-use Rattle.definitions.specs.laws.Selected.{select-here, select-past, select-append}
-use Rattle.definitions.specs.laws.PhoneSets.{has-or, same-members}
-use Rattle.definitions.specs.laws.SevenWords.{padded-column}
-use Rattle.definitions.specs.laws.Records.{flat-length}
-use Rattle.definitions.specs.laws.Tables.{node-sized}
-use Rattle.definitions.specs.laws.SaidLines.{none-says, line-says, members-more, nodes-more, header-parts}
-use Rattle.definitions.specs.laws.SaidLines.{roots-none, root-names-more, root-names-count, root-words-more}
-use Rattle.definitions.specs.laws.SaidLines.{root-words-count}
-use Rattle.definitions.specs.laws.Books.{Fits, node-started, test-started, roomy}
-use Rattle.tables.specs.Naming.{countsOf}
-use Rattle.tables.specs.laws.Naming.{counts-none, counts-length, counts-named, children-length}
+use Rattle.definitions.specs.laws.lists.Tests.{T-and}
+use Rattle.definitions.specs.laws.lists.Lists.{concatMap-snoc, map-upFrom-length, map-upFrom-at, padded-length}
+use Rattle.definitions.specs.laws.lists.Selected.{select-here, select-past, select-append}
+use Rattle.definitions.specs.laws.matrices.PhoneSets.{has-or, same-members}
+use Rattle.definitions.specs.laws.matrices.SevenWords.{padded-column}
+use Rattle.definitions.specs.laws.lists.Records.{flat-length}
+use Rattle.definitions.specs.laws.books.Tables.{node-sized}
+use Rattle.definitions.specs.laws.books.SaidLines.{none-says, line-says, members-more, nodes-more, header-parts}
+use Rattle.definitions.specs.laws.books.SaidLines.{roots-none, root-names-more, root-names-count}
+use Rattle.definitions.specs.laws.books.SaidLines.{root-words-more, root-words-count}
+use Rattle.definitions.specs.laws.books.Books.{Fits, node-started, test-started, roomy}
 use Rattle.lines.specs.Putting.{putAt}
 use Rattle.lines.specs.laws.Putting.{put-after, set-after, padded-set, padded-zeros}
-use Rattle.book.specs.Storing.{nodesAfter, classesAfter, rootsAfter, namesIn, countsAfter}
-use Rattle.book.specs.Storing.{nodesStored, classesStored, rootsStored, namesOf, countsStored}
+use Rattle.tables.specs.Naming.{countsOf}
+use Rattle.tables.specs.laws.Naming.{counts-none, counts-length, counts-named, children-length}
+use Rattle.book.specs.Storing.{nodesAfter, classesAfter, rootsAfter, namesIn, countsAfter, nodesStored}
+use Rattle.book.specs.Storing.{classesStored, rootsStored, namesOf, countsStored}
 use Rattle.book.specs.laws.Keeping.{Kept, kept-few, roots-missing}
 
 -- ---- what each of the numbers counted up gives

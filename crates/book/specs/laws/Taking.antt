@@ -3,17 +3,17 @@ use mathlib.Core.Path.{_≡_}
 use mathlib.Core.Bool.{true, false}
 use mathlib.Core.List.{List}
 use Prim.Native.Nat.{ℕ, _+_, _≤_, _<_}
-use borrow.Author.Tests.{lt-ltb, le-ltb}
 use lib.ListN.{take}
+use borrow.Author.Tests.{lt-ltb, le-ltb}
 use Rattle.definitions.specs.declared.Fault.{Fault}
 use Rattle.definitions.specs.declared.Fault.the-variants.{Orphan, Count}
 use Rattle.definitions.specs.BookReading.{Lent}
 use Rattle.lines.specs.declared.Verdict.the-variants.{Passed, Failed}
 use Rattle.tables.specs.Naming.{firstMisnamed}
+use Rattle.booklines.specs.declared.State.{State}
+use Rattle.booklines.specs.States.{completeIn, nextState}
 use Rattle.book.specs.declared.Reading.the-variants.{Accepted, Refused}
-use Rattle.book.specs.declared.State.{State}
 use Rattle.book.specs.declared.Step.the-variants.{Next, Stop}
-use Rattle.book.specs.States.{completeIn, nextState}
 use Rattle.book.specs.Steps.{bookTaken, verdictIn, stepAfter, stepOf, finishOf, lineNumberOf}
 
 module _ (lent : Lent) (s : State) (bytes : List ℕ) where

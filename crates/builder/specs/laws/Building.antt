@@ -10,11 +10,12 @@ use Rattle.definitions.specs.declared.Refusal.{Refusal}
 use Rattle.definitions.specs.declared.Header.{Header}
 use Rattle.definitions.specs.Lists.{cleared}
 use Rattle.definitions.specs.Faults.{Outcome, answered, refused, andThen}
-use Rattle.definitions.specs.BookLines.{BookLine, headerOf}
+use Rattle.definitions.specs.BookLines.{BookLine, noHeader, headerOf}
 use Rattle.definitions.specs.BookReading.{Lent, readBook}
 use Rattle.definitions.specs.Tables.{Tables, tablesLeft, noTables, tablesBook}
 use Rattle.definitions.specs.Building.{Space, build, Buffers, buffersLeft, noBuffers}
 use Rattle.definitions.specs.BookBuilding.{BookBuilt, buildRead, buildBook, tablesAfter, buffersAfter}
+use Rattle.definitions.specs.Said.{saidOf, noProgress, bookProgress}
 use Rattle.definitions.specs.Growing.{finished}
 use Rattle.definitions.specs.Connecting.{Network, Built}
 use Rattle.definitions.specs.demand.Demand.{demand3}
@@ -22,13 +23,15 @@ use Rattle.definitions.specs.demand.Endings.{finished-final}
 use Rattle.tables.specs.Lending.{lengthsOf}
 use Rattle.book.specs.declared.Reading.{Reading}
 use Rattle.book.specs.declared.Reading.the-variants as reading
-use Rattle.book.specs.Answers.{readingOf}
+use Rattle.book.specs.Answers.{readingOf, readingSaid}
+use Rattle.book.specs.laws.Said.{reading-told}
 use Rattle.network.specs.declared.Totals.{Totals}
 use Rattle.network.specs.declared.Build.{Build}
 use Rattle.network.specs.declared.Build.the-variants as build
-use Rattle.network.specs.Answers.{totalsOf, buildOf, lentBuffers, buildAnswer, buildLeft}
+use Rattle.network.specs.Answers.{totalsOf, buildOf, buildSaid, lentBuffers, buildAnswer, buildLeft}
 use Rattle.builder.specs.Answers.{bookAnswer, WhereFinished, MeetsDemand3, KeepsFinalLast}
 use Rattle.builder.specs.Tables.{tablesKept}
+use Rattle.builder.specs.laws.Said.{book-said}
 use Rattle.builder.specs.laws.Keeping.{finished-inverted}
 
 -- ---- what reading answered
@@ -166,7 +169,7 @@ module _ (lent : Lent) (space : Space) (limit : ℕ) (text : List ℕ) (lines : 
 -- what reading and building together answer and leave
 abbrev pub BookEnds : Lent → Space → (limit : ℕ) → (text : List ℕ) → Build → Tables → Buffers → Type 0
 BookEnds lent space limit text answer tables buffers =
-    (answer ≡ bookAnswer (buildBook lent space limit text))
+    (buildSaid answer ≡ saidOf bookProgress noProgress (buildBook lent space limit text))
     × ((tables ≡ tablesAfter lent (buildBook lent space limit text))
     × ((buffers ≡ buffersAfter lent space (buildBook lent space limit text))
     × (MeetsDemand3 lent text answer (buffers .arcs) × KeepsFinalLast answer (buffers .arcs))))
@@ -187,7 +190,7 @@ module _ (lent : Lent) (space : Space) (limit : ℕ) (text : List ℕ) where
       → EndsFrom (headerOf lines) (tablesLeft lent (readBook lent text))
   ends-read lines e answer tables′ buffers n c r a t b =
       let left = ap (λ (x : Buffers). x .arcs) b in (
-        built-answer lent space limit text lines e answer a,
+        book-said _ (built-answer lent space limit text lines e answer a),
         (
           built-tables lent space limit text lines e tables′ (rw (n, c, r)) t,
           (
@@ -201,8 +204,12 @@ module _ (lent : Lent) (space : Space) (limit : ℕ) (text : List ℕ) where
       )
 
   module _ {reads : Reading} {tables : Tables}
-      (told : reads ≡ readingOf (readBook lent text)) (left : tables ≡ tablesLeft lent (readBook lent text))
+      (says : readingSaid reads ≡ saidOf headerOf noHeader (readBook lent text))
+      (left : tables ≡ tablesLeft lent (readBook lent text))
     where
+      told : reads ≡ readingOf (readBook lent text)
+      told = reading-told (readBook lent text) says
+
       pub accepted-returns : (header : Header) → reads ≡ reading.Accepted header → EndsFrom header tables
       accepted-returns header f =
           let (lines, e, same) = read-accepted (readBook lent text) header (sym f ∙ told) in
@@ -216,7 +223,7 @@ module _ (lent : Lent) (space : Space) (limit : ℕ) (text : List ℕ) where
       unfolding noBuffers
       refused-returns r f combinations metastates arcs x y z =
           let e = read-refused (readBook lent text) r (sym f ∙ told) in (
-            refused-answer lent space limit text r e,
+            book-said _ (refused-answer lent space limit text r e),
             (
               refused-tables lent space limit text r e tables left,
               (

@@ -11,11 +11,13 @@ use Rattle.definitions.specs.Faults.{Outcome, answered, refused}
 use Rattle.definitions.specs.Tables.{Tables, noTables}
 use Rattle.definitions.specs.Growing.{finished, stopped}
 use Rattle.definitions.specs.Connecting.{Network, Built}
+use Rattle.definitions.specs.Said.{saidOf, progressOf, noProgress}
 use Rattle.tables.specs.Lending.{lentTables}
 use Rattle.network.specs.declared.Totals.{Totals}
 use Rattle.network.specs.declared.Build.{Build}
 use Rattle.network.specs.declared.Build.the-variants as build
-use Rattle.network.specs.Answers.{totalsOf, buildOf}
+use Rattle.network.specs.Answers.{totalsOf, buildOf, buildSaid}
+use Rattle.network.specs.laws.Said.{build-told}
 use Rattle.builder.specs.Tables.{tablesKept}
 
 -- no two ways are the same
@@ -46,12 +48,14 @@ refused-inverted states (answered (finished turns net)) r e = finished-refused _
 refused-inverted states (answered (stopped turns net)) r e = stopped-refused _ r (sym e)
 refused-inverted states (refused s) r e = let same : r ≡ s = cc in rw same
 
-module _ (states : ℕ) (outcome : Outcome Built) (tables : Tables) {answer : Build}
-    (e : answer ≡ buildOf states outcome)
-  where
-    -- what building from these tables answers and leaves in them
-    abbrev Kept : Build → Tables → Type 0
-    Kept given left = (given ≡ buildOf states outcome) × (left ≡ tablesKept tables outcome)
+module _ (states : ℕ) (outcome : Outcome Built) (tables : Tables) where
+  -- what building from these tables answers and leaves in them
+  abbrev Kept : Build → Tables → Type 0
+  Kept given left = (given ≡ buildOf states outcome) × (left ≡ tablesKept tables outcome)
+
+  module _ {answer : Build} (says : buildSaid answer ≡ saidOf (progressOf states) noProgress outcome) where
+    e : answer ≡ buildOf states outcome
+    e = build-told states outcome says
 
     pub finished-kept : (totals : Totals) → answer ≡ build.Finished totals → Kept (build.Finished totals) tables
     unfolding tablesKept

@@ -1,6 +1,6 @@
 -- The arcs of a build are in range, finished or stopped: their sources and targets are states of the network,
 -- as every metastate that an arc leaves or enters has a place in the table, and their models and phones are
--- those of metastates. Network text asks for these ranges (demand/KnownNetwork.antt).
+-- those of metastates. Network text asks for these ranges (demand/BuiltKnown.antt).
 use mathlib.Core.Path.{_≡_, refl, sym, subst}
 use mathlib.Core.Logic.{inl, inr, ⊎-elim}
 use mathlib.Core.List.{List, [], _∷_, _++_, map}
@@ -11,19 +11,20 @@ use lib.Dec.{T}
 use lib.ListN.{length, drop, length-drop}
 use borrow.Author.Tests.{lt-ltb}
 use Rattle.definitions.specs.declared.Counts.{Counts}
-use Rattle.definitions.specs.Lists.{concatMap}
+use Rattle.definitions.specs.Lists.{concatMap, isIn}
 use Rattle.definitions.specs.Forms.{_‥_}
 use Rattle.definitions.specs.Lines.{inRanges}
 use Rattle.definitions.specs.Arcs.{Arc, INITIAL, firstState, lastState}
 use Rattle.definitions.specs.Metastates.{Metastate, sameMetastate}
-use Rattle.definitions.specs.Connecting.{Rules, ownArcs, finalArcs, arcInto, Network, noMetastate}
+use Rattle.definitions.specs.Connecting.{Rules, ownArcs, finalArcs, arcInto, Network, noMetastate, arcTo}
 use Rattle.definitions.specs.NetworkText.{isState, arcKnown}
-use Rattle.definitions.specs.laws.Members.{isIn, in-left, of-append, in-map, of-map, of-concatMap}
-use Rattle.definitions.specs.laws.Members.{of-one, in-at}
-use Rattle.definitions.specs.laws.Known.{within-passes}
-use Rattle.definitions.specs.laws.Metastates.{metastates-told}
-use Rattle.definitions.specs.construction.Table.{placeOf, placed}
-use Rattle.definitions.specs.construction.Finished.{arcTo, turnArcs, Expansion}
+use Rattle.definitions.specs.laws.lists.Members.{in-left, of-append, in-map, of-map, of-concatMap, of-one}
+use Rattle.definitions.specs.laws.lists.Members.{in-at}
+use Rattle.definitions.specs.laws.books.AcceptedKnown.{within-passes}
+use Rattle.definitions.specs.laws.networks.Metastates.{metastates-told}
+use Rattle.definitions.specs.Growing.{placeOf}
+use Rattle.definitions.specs.construction.Table.{placed}
+use Rattle.definitions.specs.construction.Finished.{turnArcs, Expansion}
 
 -- ---- in range
 

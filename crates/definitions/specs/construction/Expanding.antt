@@ -9,7 +9,7 @@ use lib.ListN.{length, take, getD}
 use lib.Seq.{take-append-le, take-all}
 use Rattle.definitions.specs.Faults.{answered}
 use Rattle.definitions.specs.Growing.{Grown, Event, Machine, Room, Done, finished, grownIn, begun, grow}
-use Rattle.definitions.specs.laws.Tests.{Tells}
+use Rattle.definitions.specs.laws.lists.Tests.{Tells}
 use Rattle.definitions.specs.construction.Performing.{Performed, performed-append, all-performed}
 use Rattle.definitions.specs.construction.Turning.{Turn, KeptByTurns, AtEnd, claim-at-end, one-turn}
 use Rattle.definitions.specs.construction.Turning.{grow-keeps}

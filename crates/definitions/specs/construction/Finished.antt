@@ -7,35 +7,28 @@ use mathlib.Core.List.{List, [], _∷_, _++_, map, append-nil, map-append, map-m
 use Prim.Native.Nat.{ℕ, suc, _+_, _<_}
 use native.Mathlib.Omega.{arith}
 use lib.ListN.{length, take, drop, getD, length-append, List·getD-append, take-append-drop}
-use Rattle.definitions.specs.Lists.{concatMap}
+use Rattle.definitions.specs.Connecting.{arcTo, Rules, ownArcs, finalArcs, startEvents, turnEvents}
+use Rattle.definitions.specs.Connecting.{Network, Built, noMetastate, connecting, connect}
+use Rattle.definitions.specs.Lists.{concatMap, isIn, distinct}
 use Rattle.definitions.specs.Faults.{answered}
 use Rattle.definitions.specs.Arcs.{Arc, INITIAL, firstState, lastState}
 use Rattle.definitions.specs.Metastates.{Metastate, sameMetastate}
-use Rattle.definitions.specs.Growing.{plain, enter, Room, finished, grownIn}
-use Rattle.definitions.specs.Connecting.{Rules, ownArcs, finalArcs, startEvents, turnEvents, arcInto}
-use Rattle.definitions.specs.Connecting.{Network, Built, noMetastate, connecting, connect}
-use Rattle.definitions.specs.laws.Lists.{concatMap-append}
-use Rattle.definitions.specs.laws.Members.{isIn, distinct, in-left, in-right, in-map, of-map}
-use Rattle.definitions.specs.laws.Members.{in-concatMap}
-use Rattle.definitions.specs.laws.Metastates.{metastates-told}
-use Rattle.definitions.specs.construction.Table.{placeOf, place-at}
+use Rattle.definitions.specs.Growing.{plain, enter, Room, finished, grownIn, placeOf}
+use Rattle.definitions.specs.laws.lists.Lists.{concatMap-append}
+use Rattle.definitions.specs.laws.lists.Members.{in-left, in-right, in-map, of-map, in-concatMap}
+use Rattle.definitions.specs.laws.networks.Metastates.{metastates-told}
+use Rattle.definitions.specs.construction.Table.{place-at}
 use Rattle.definitions.specs.construction.Performing.{enteredBy, enteredIn, eventArc}
 use Rattle.definitions.specs.construction.Turning.{entered-enter, entered-plain, passed-on}
-use Rattle.definitions.specs.construction.Expanding.{eventsFrom, Expanded, grown-expanded}
-use Rattle.definitions.specs.construction.Expanding.{grown-finished}
+use Rattle.definitions.specs.construction.Expanding.{eventsFrom, Expanded, grown-expanded, grown-finished}
 
 module _ (rules : Rules) where
-  -- the arc from a state to a metastate that starts or follows, where the table is this one
-  abbrev pub arcTo : (table : List Metastate) → (from : ℕ) → Metastate → Arc
-  arcTo table from x =
-      arcInto rules from (placeOf sameMetastate table (rules .kept x)) (rules .kept x)
-
   -- the arcs of one metastate of a table
   unfoldable pub turnArcs : (table : List Metastate) → Metastate → List Arc
   turnArcs table q =
       ownArcs (firstState (rules .states) (placeOf sameMetastate table q)) (drop 1 (rules .models q))
       ++ finalArcs rules (placeOf sameMetastate table q) q
-      ++ map (arcTo table (lastState (rules .states) (placeOf sameMetastate table q))) (rules .followers q)
+      ++ map (arcTo rules table (lastState (rules .states) (placeOf sameMetastate table q))) (rules .followers q)
 
   -- a network whose table begins with these, the expanded ones
   pub record Expansion (done : List Metastate) (net : Network) : Type 0 where
@@ -47,7 +40,7 @@ module _ (rules : Rules) where
     pub followers-in : (x y : Metastate) → isIn x done → isIn y (rules .followers x)
         → isIn (rules .kept y) (net .table)
     pub arcs : net .arcs
-        ≡ map (arcTo (net .table) INITIAL) (rules .starts) ++ concatMap (turnArcs (net .table)) done
+        ≡ map (arcTo rules (net .table) INITIAL) (rules .starts) ++ concatMap (turnArcs (net .table)) done
 
   -- all of the table are expanded
   abbrev pub Finished : Network → Type 0
@@ -115,7 +108,7 @@ module _ (rules : Rules) where
     plain-arcs arcs = map-map (eventArc (connecting rules) table) plain arcs ∙ map-id arcs
 
     pub enter-arcs : (from : ℕ) (xs : List Metastate)
-        → map (eventArc (connecting rules) table) (map (enter from) xs) ≡ map (arcTo table from) xs
+        → map (eventArc (connecting rules) table) (map (enter from) xs) ≡ map (arcTo rules table from) xs
     unfolding eventArc
     enter-arcs from xs = map-map (eventArc (connecting rules) table) (enter from) xs
 
@@ -152,7 +145,7 @@ module _ (rules : Rules) where
         → ((i : ℕ) → i < length done → placeOf sameMetastate table (getD done i noMetastate) ≡ i)
         → map (eventArc (connecting rules) table)
         (startEvents rules ++ eventsFrom (connecting rules) 0 done)
-        ≡ map (arcTo table INITIAL) (rules .starts) ++ concatMap (turnArcs table) done
+        ≡ map (arcTo rules table INITIAL) (rules .starts) ++ concatMap (turnArcs table) done
     unfolding startEvents
     all-arcs done at =
         map-append (eventArc (connecting rules) table) (startEvents rules) _

@@ -8,18 +8,17 @@ use mathlib.Core.Option.{Option, none, some}
 use Prim.Native.Nat.{ℕ}
 use native.Mathlib.Omega.{arith}
 use lib.ListN.{length}
-use Rattle.definitions.specs.Lists.{concatMap}
+use Rattle.definitions.specs.Lists.{concatMap, isIn, distinct}
 use Rattle.definitions.specs.Faults.{answered}
 use Rattle.definitions.specs.Arcs.{Arc}
 use Rattle.definitions.specs.Growing.{Grown, Event, plain, enter, Machine, placeFrom, Room, addArc}
-use Rattle.definitions.specs.Growing.{addBoth, perform, performAll}
-use Rattle.definitions.specs.laws.Tests.{Tells}
-use Rattle.definitions.specs.laws.Lists.{concatMap-append}
-use Rattle.definitions.specs.laws.Members.{isIn, distinct, in-left, in-right, of-append}
-use Rattle.definitions.specs.laws.Members.{distinct-more}
-use Rattle.definitions.specs.laws.Judging.{judge-answered, andThen-answered}
-use Rattle.definitions.specs.laws.Limits.{arc-added, both-added}
-use Rattle.definitions.specs.construction.Table.{placeOf, place-stays, place-found, place-new}
+use Rattle.definitions.specs.Growing.{addBoth, perform, performAll, placeOf}
+use Rattle.definitions.specs.laws.lists.Tests.{Tells}
+use Rattle.definitions.specs.laws.lists.Lists.{concatMap-append}
+use Rattle.definitions.specs.laws.lists.Members.{in-left, in-right, of-append, distinct-more}
+use Rattle.definitions.specs.laws.text.Judging.{judge-answered, andThen-answered}
+use Rattle.definitions.specs.laws.networks.Limits.{arc-added, both-added}
+use Rattle.definitions.specs.construction.Table.{place-stays, place-found, place-new}
 
 module _ {X E : Type 0} (m : Machine X E) where
   -- the elements that an event enters, and that events enter

@@ -8,8 +8,8 @@ use Rattle.definitions.specs.Faults.{answered}
 use Rattle.definitions.specs.Metastates.{Metastate}
 use Rattle.definitions.specs.Growing.{Room, grownIn}
 use Rattle.definitions.specs.Connecting.{Rules, Built, noMetastate, connect}
-use Rattle.definitions.specs.laws.Members.{same-place}
-use Rattle.definitions.specs.laws.Metastates.{metastates-equal}
+use Rattle.definitions.specs.laws.lists.Members.{same-place}
+use Rattle.definitions.specs.laws.networks.Metastates.{metastates-equal}
 use Rattle.definitions.specs.construction.Finished.{build-expanded}
 
 module _ (rules : Rules) (room : Room) (limit : ℕ) (built : Built)

@@ -1,6 +1,6 @@
 -- The sources of a build's arcs never descend, finished or stopped: the arcs from INITIAL come first, then
 -- those of the expanded metastates in the order of the table, each from its first state to its last. Network
--- text asks for that order (demand/KnownNetwork.antt).
+-- text asks for that order (demand/BuiltKnown.antt).
 use mathlib.Core.Path.{_≡_, refl, subst}
 use mathlib.Core.Logic.{inl, inr}
 use mathlib.Core.List.{List, [], _∷_, _++_, map}
@@ -9,15 +9,14 @@ use native.Mathlib.Nat.{suc-mul}
 use native.Mathlib.Omega.{arith}
 use lib.Dec.{T, leb, le→leb}
 use lib.ListN.{length, drop, getD, length-drop}
-use Rattle.definitions.specs.Lists.{concatMap}
+use Rattle.definitions.specs.Lists.{concatMap, isIn}
 use Rattle.definitions.specs.Arcs.{Arc, INITIAL, firstState, lastState}
 use Rattle.definitions.specs.Metastates.{Metastate, sameMetastate}
-use Rattle.definitions.specs.Connecting.{Rules, ownArcs, finalArcs, arcInto, Network, noMetastate}
+use Rattle.definitions.specs.Connecting.{Rules, ownArcs, finalArcs, arcInto, Network, noMetastate, arcTo}
 use Rattle.definitions.specs.NetworkText.{neverDescending}
-use Rattle.definitions.specs.laws.Tests.{T-and, by-test}
-use Rattle.definitions.specs.laws.Members.{isIn}
-use Rattle.definitions.specs.construction.Table.{placeOf}
-use Rattle.definitions.specs.construction.Finished.{arcTo, turnArcs, Expansion}
+use Rattle.definitions.specs.laws.lists.Tests.{T-and, by-test}
+use Rattle.definitions.specs.Growing.{placeOf}
+use Rattle.definitions.specs.construction.Finished.{turnArcs, Expansion}
 
 -- ---- rising
 

@@ -9,15 +9,10 @@ use Prim.Native.Nat.{ℕ, suc, _+_, _<_}
 use native.Mathlib.Omega.{arith}
 use lib.Dec.{T}
 use lib.ListN.{length, getD}
-use Rattle.definitions.specs.Lists.{if_then_else_}
-use Rattle.definitions.specs.Growing.{placeFrom}
-use Rattle.definitions.specs.laws.Tests.{Tells, by-test, if-true}
-use Rattle.definitions.specs.laws.Members.{isIn, distinct, in-at, same-place}
-
--- the place of an element in a table, beyond its end where it is not in it
-unfoldable pub placeOf : {X : Type 0} → (X → X → Bool) → List X → X → ℕ
-placeOf same [] x = 0
-placeOf same (y ∷ table) x = if same x y then 0 else suc (placeOf same table x)
+use Rattle.definitions.specs.Growing.{placeOf, placeFrom}
+use Rattle.definitions.specs.laws.lists.Tests.{Tells, by-test, if-true}
+use Rattle.definitions.specs.Lists.{isIn, distinct}
+use Rattle.definitions.specs.laws.lists.Members.{in-at, same-place}
 
 module _ {X : Type 0} (same : X → X → Bool) (tells : Tells same) where
   -- ---- sameness

@@ -11,14 +11,14 @@ use native.Mathlib.Omega.{arith}
 use lib.Dec.{ltb}
 use lib.ListN.{length, getD, length-append}
 use borrow.Author.Tests.{ltb-true, ltb-false}
-use Rattle.definitions.specs.Lists.{concatMap}
+use Rattle.definitions.specs.Lists.{concatMap, isIn}
 use Rattle.definitions.specs.Faults.{Outcome, answered}
 use Rattle.definitions.specs.Arcs.{Arc}
 use Rattle.definitions.specs.Growing.{Grown, Event, plain, enter, Machine, Room, Done, finished, stopped}
 use Rattle.definitions.specs.Growing.{grownIn, begun, performAll, expand, turnsFrom, grow}
-use Rattle.definitions.specs.laws.Tests.{Tells, by-test}
-use Rattle.definitions.specs.laws.Members.{isIn, in-at, of-append}
-use Rattle.definitions.specs.laws.Judging.{andThen-answered}
+use Rattle.definitions.specs.laws.lists.Tests.{Tells, by-test}
+use Rattle.definitions.specs.laws.lists.Members.{in-at, of-append}
+use Rattle.definitions.specs.laws.text.Judging.{andThen-answered}
 use Rattle.definitions.specs.construction.Performing.{enteredBy, enteredIn, Performed, all-performed}
 
 module _ {X : Type 0} where

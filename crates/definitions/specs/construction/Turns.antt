@@ -14,15 +14,15 @@ use Rattle.definitions.specs.Combinations.{combine}
 use Rattle.definitions.specs.Arcs.{Arc}
 use Rattle.definitions.specs.Matrices.{matrixSize}
 use Rattle.definitions.specs.Growing.{Grown, Event, plain, enter, Machine, placeFrom, Room, addArc}
-use Rattle.definitions.specs.Growing.{addBoth, Done, stopped, grownIn, begun, perform, performAll}
-use Rattle.definitions.specs.Growing.{expand, grow}
+use Rattle.definitions.specs.Growing.{addBoth, Done, stopped, grownIn, begun, perform, performAll, expand}
+use Rattle.definitions.specs.Growing.{grow}
 use Rattle.definitions.specs.Connecting.{Rules, Network, noNetwork, Built, connecting, connect, rulesOf}
 use Rattle.definitions.specs.Building.{Space, roomIn, build}
 use Rattle.definitions.specs.Program.{programSpace, programTurns}
-use Rattle.definitions.specs.laws.Tests.{Tells}
-use Rattle.definitions.specs.laws.Judging.{judge-answered, andThen-answered}
-use Rattle.definitions.specs.laws.Limits.{arc-added, both-added}
-use Rattle.definitions.specs.laws.Metastates.{metastates-told}
+use Rattle.definitions.specs.laws.lists.Tests.{Tells}
+use Rattle.definitions.specs.laws.text.Judging.{judge-answered, andThen-answered}
+use Rattle.definitions.specs.laws.networks.Limits.{arc-added, both-added}
+use Rattle.definitions.specs.laws.networks.Metastates.{metastates-told}
 use Rattle.definitions.specs.construction.Turning.{AtEnd, claim-at-end, grow-keeps}
 
 -- the elements and the arcs have room

@@ -12,9 +12,9 @@ use Rattle.definitions.specs.Lists.{_!_}
 use Rattle.definitions.specs.BookLines.{isPhone}
 use Rattle.definitions.specs.Tables.{Book}
 use Rattle.definitions.specs.Metastates.{Metastate}
-use Rattle.definitions.specs.laws.Lists.{every-parts, every-split, part-at}
-use Rattle.definitions.specs.laws.Sound.{AllPhones, Sound}
-use Rattle.definitions.specs.laws.Contexts.{silence-phones}
+use Rattle.definitions.specs.laws.lists.Lists.{every-parts, every-split, part-at}
+use Rattle.definitions.specs.laws.books.Sound.{AllPhones, Sound}
+use Rattle.definitions.specs.laws.trees.Contexts.{silence-phones}
 use Rattle.definitions.specs.graph.Graph.{Alive}
 use Rattle.definitions.specs.demand.Carrier.{fits, fits-take, SomeWindow, holds-fits}
 use Rattle.definitions.specs.demand.ChoicesAlong.{Along, choices-along}

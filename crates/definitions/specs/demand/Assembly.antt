@@ -16,15 +16,14 @@ use Rattle.definitions.specs.Combinations.{Combination, combinations, co
 use Rattle.definitions.specs.Arcs.{arcsIn}
 use Rattle.definitions.specs.Growing.{finished}
 use Rattle.definitions.specs.Connecting.{Network, Built, connect}
-use Rattle.definitions.specs.Building.{Space, roomIn, build, networkIn, countsIn, buffersOf}
-use Rattle.definitions.specs.Building.{buffersLeft}
+use Rattle.definitions.specs.Building.{Space, roomIn, build, networkIn, countsIn, buffersOf, buffersLeft}
 use Rattle.definitions.specs.Paths.{Carries}
 use Rattle.definitions.specs.TreesGive.{Given}
-use Rattle.definitions.specs.laws.Records.{arcs-read}
-use Rattle.definitions.specs.laws.Judging.{passes-at, judge-answered, andThen-answered}
-use Rattle.definitions.specs.laws.Books.{accepted-book}
-use Rattle.definitions.specs.laws.Accepted.{accepted-sound}
-use Rattle.definitions.specs.laws.ModelsAlong.{given-is}
+use Rattle.definitions.specs.laws.lists.Records.{arcs-read}
+use Rattle.definitions.specs.laws.text.Judging.{passes-at, judge-answered, andThen-answered}
+use Rattle.definitions.specs.laws.books.Books.{accepted-book}
+use Rattle.definitions.specs.laws.books.Accepted.{accepted-sound}
+use Rattle.definitions.specs.laws.trees.ModelsAlong.{given-is}
 use Rattle.definitions.specs.demand.Network.{bookRules, BuiltFrom}
 use Rattle.definitions.specs.demand.Main.{book-exactly}
 

@@ -17,12 +17,13 @@ use Rattle.definitions.specs.Tables.{Book}
 use Rattle.definitions.specs.Lookup.{answers}
 use Rattle.definitions.specs.Matrices.{Matrix, rootMatrix, valid, meet, shift, startCut, endsHere}
 use Rattle.definitions.specs.Combinations.{onYes, onNo}
-use Rattle.definitions.specs.laws.Tests.{Tells}
-use Rattle.definitions.specs.laws.Lists.{same-lists, same-self}
-use Rattle.definitions.specs.laws.Matrices.{Below, meet-length, meet-below, shift-length, shift-below}
-use Rattle.definitions.specs.laws.Matrices.{start-length, start-below, yes-length, yes-below}
-use Rattle.definitions.specs.laws.Matrices.{no-length, no-below, root-length, root-below}
-use Rattle.definitions.specs.laws.Sound.{columnsOf, AllPhones}
+use Rattle.definitions.specs.laws.lists.Tests.{Tells}
+use Rattle.definitions.specs.laws.lists.Lists.{same-lists, same-self}
+use Rattle.definitions.specs.laws.matrices.Matrices.{Below, meet-length, meet-below, shift-length}
+use Rattle.definitions.specs.laws.matrices.Matrices.{shift-below, start-length, start-below, yes-length}
+use Rattle.definitions.specs.laws.matrices.Matrices.{yes-below, no-length, no-below, root-length}
+use Rattle.definitions.specs.laws.matrices.Matrices.{root-below}
+use Rattle.definitions.specs.laws.books.Sound.{columnsOf, AllPhones}
 use Rattle.definitions.specs.demand.Windows.{admits, admits-take, admits-meet, meet-admits}
 use Rattle.definitions.specs.demand.Windows.{shift-admits-rest, shift-admits-from, admits-valid}
 use Rattle.definitions.specs.demand.Windows.{valid-admits, admits-ends, ends-admits, start-admits}

@@ -14,8 +14,8 @@ use lib.Seq.{drop-at}
 use Rattle.definitions.specs.Lists.{every}
 use Rattle.definitions.specs.BookLines.{isPhone}
 use Rattle.definitions.specs.Tables.{Book}
-use Rattle.definitions.specs.laws.Lists.{every-cons, every-parts}
-use Rattle.definitions.specs.laws.Sound.{columnsOf, AllPhones}
+use Rattle.definitions.specs.laws.lists.Lists.{every-cons, every-parts}
+use Rattle.definitions.specs.laws.books.Sound.{columnsOf, AllPhones}
 use Rattle.definitions.specs.demand.Carrier.{Carrier, holdsSome, meetOf, shiftOf, fits, Wide, Formed}
 use Rattle.definitions.specs.demand.Carrier.{meet-wide, meet-fits, shift-wide, shift-fits-rest}
 use Rattle.definitions.specs.demand.Carrier.{shift-fits-from, fits-holds}

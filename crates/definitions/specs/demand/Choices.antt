@@ -10,19 +10,18 @@ use Prim.Native.Nat.{ℕ, _≤_, _<_}
 use native.Mathlib.Omega.{arith}
 use lib.Dec.{T, eqb, eqb-refl}
 use lib.ListN.{length}
-use Rattle.definitions.specs.Lists.{_!_, select, upFrom}
-use Rattle.definitions.specs.Tables.{Book}
+use Rattle.definitions.specs.Lists.{_!_, select, upFrom, isIn}
+use Rattle.definitions.specs.Tables.{Book, rootOf}
 use Rattle.definitions.specs.Lookup.{leafReached}
-use Rattle.definitions.specs.Tables.{rootOf}
-use Rattle.definitions.specs.Combinations.{Leaf, leavesOf, Combination, choose}
-use Rattle.definitions.specs.Combinations.{combinationsOf, combinations}
+use Rattle.definitions.specs.Combinations.{Leaf, leavesOf, Combination, choose, combinationsOf}
+use Rattle.definitions.specs.Combinations.{combinations}
 use Rattle.definitions.specs.Metastates.{noCombination}
-use Rattle.definitions.specs.laws.Tests.{if-true, every-at}
-use Rattle.definitions.specs.laws.Members.{isIn, of-upFrom}
-use Rattle.definitions.specs.laws.Selected.{select-none, select-one, one-passes, map-one}
-use Rattle.definitions.specs.laws.Selected.{select-concatMap, concatMap-one, select-upFrom}
-use Rattle.definitions.specs.laws.Ranges.{phone-range}
-use Rattle.definitions.specs.laws.Sound.{columnsOf, AllPhones, Sound}
+use Rattle.definitions.specs.laws.lists.Tests.{if-true, every-at}
+use Rattle.definitions.specs.laws.lists.Members.{of-upFrom}
+use Rattle.definitions.specs.laws.lists.Selected.{select-none, select-one, one-passes, map-one}
+use Rattle.definitions.specs.laws.lists.Selected.{select-concatMap, concatMap-one, select-upFrom}
+use Rattle.definitions.specs.laws.text.Ranges.{phone-range}
+use Rattle.definitions.specs.laws.books.Sound.{columnsOf, AllPhones, Sound}
 use Rattle.definitions.specs.demand.Carrier.{Carrier, holdsSome, meetOf, topOf, fits, Wide, fits-meet}
 use Rattle.definitions.specs.demand.Carrier.{meet-wide, meet-fits, fits-holds, top-wide, fits-top}
 use Rattle.definitions.specs.demand.Trees.{leafAdmits, one-leaf}

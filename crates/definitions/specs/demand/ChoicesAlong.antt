@@ -14,8 +14,8 @@ use Rattle.definitions.specs.BookLines.{isPhone}
 use Rattle.definitions.specs.Tables.{Book}
 use Rattle.definitions.specs.Combinations.{combinations}
 use Rattle.definitions.specs.TreesGive.{windows}
-use Rattle.definitions.specs.laws.Lists.{every-split}
-use Rattle.definitions.specs.laws.Sound.{columnsOf, AllPhones, Sound}
+use Rattle.definitions.specs.laws.lists.Lists.{every-split}
+use Rattle.definitions.specs.laws.books.Sound.{columnsOf, AllPhones, Sound}
 use Rattle.definitions.specs.demand.Carrier.{fits, fits-take}
 use Rattle.definitions.specs.demand.Chains.{AdmitEach}
 use Rattle.definitions.specs.demand.Chosen.{combinationAt, chosen-at}

@@ -9,22 +9,21 @@ use Prim.Native.Nat.{ℕ, suc, _+_, _≤_, _<_}
 use native.Mathlib.Omega.{arith}
 use lib.Dec.{T}
 use lib.ListN.{length, length-append}
-use Rattle.definitions.specs.Lists.{_!_, upFrom}
+use Rattle.definitions.specs.Lists.{_!_, upFrom, isIn}
 use Rattle.definitions.specs.BookLines.{isPhone}
-use Rattle.definitions.specs.Tables.{Book}
-use Rattle.definitions.specs.Tables.{rootOf}
-use Rattle.definitions.specs.Combinations.{Leaf, leavesOf, Combination, choose}
-use Rattle.definitions.specs.Combinations.{combinationsOf, combinations}
-use Rattle.definitions.specs.Metastates.{noCombination}
-use Rattle.definitions.specs.laws.Lists.{upFrom-length}
-use Rattle.definitions.specs.laws.Members.{isIn, in-at, of-append, of-concatMap, of-one, of-upFrom}
-use Rattle.definitions.specs.laws.Ranges.{phone-range}
-use Rattle.definitions.specs.laws.Walks.{IsLeaf}
-use Rattle.definitions.specs.laws.Sound.{Sound}
-use Rattle.definitions.specs.laws.Leaves.{below-all, of-ascending}
-use Rattle.definitions.specs.laws.Metastates.{numbered}
+use Rattle.definitions.specs.Tables.{Book, rootOf}
+use Rattle.definitions.specs.Combinations.{Leaf, leavesOf, Combination, choose, combinationsOf}
+use Rattle.definitions.specs.Combinations.{combinations}
+use Rattle.definitions.specs.Metastates.{noCombination, numbered}
+use Rattle.definitions.specs.laws.lists.Lists.{upFrom-length}
+use Rattle.definitions.specs.laws.lists.Members.{in-at, of-append, of-concatMap, of-one, of-upFrom}
+use Rattle.definitions.specs.laws.text.Ranges.{phone-range}
+use Rattle.definitions.specs.laws.trees.Walks.{IsLeaf}
+use Rattle.definitions.specs.laws.books.Sound.{Sound}
+use Rattle.definitions.specs.laws.trees.Leaves.{below-all, of-ascending}
 use Rattle.definitions.specs.demand.Carrier.{Carrier, holdsSome, meetOf, topOf, fits, Wide, Formed}
-use Rattle.definitions.specs.demand.Carrier.{meet-wide, meet-fits, top-wide, top-centre, yes-wide, no-wide}
+use Rattle.definitions.specs.demand.Carrier.{meet-wide, meet-fits, top-wide, top-centre, yes-wide}
+use Rattle.definitions.specs.demand.Carrier.{no-wide}
 
 -- ---- a leaf of a tree is a leaf of the book, and has its form
 

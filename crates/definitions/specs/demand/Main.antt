@@ -17,15 +17,14 @@ use Rattle.definitions.specs.Connecting.{Network}
 use Rattle.definitions.specs.Paths.{accepting, Carries, finalLast}
 use Rattle.definitions.specs.TreesGive.{silentEnds}
 use Rattle.definitions.specs.Transcription.{transcription}
-use Rattle.definitions.specs.laws.Members.{every-in}
-use Rattle.definitions.specs.laws.Sound.{Sound}
-use Rattle.definitions.specs.laws.ModelsAlong.{Reaches}
+use Rattle.definitions.specs.laws.lists.Members.{every-in}
+use Rattle.definitions.specs.laws.books.Sound.{Sound}
+use Rattle.definitions.specs.laws.trees.ModelsAlong.{Reaches}
 use Rattle.definitions.specs.graph.Graph.{Graph, Proper, arcsOf}
 use Rattle.definitions.specs.graph.Arcs.{none-from-final}
 use Rattle.definitions.specs.graph.Theorem.{exactly, one-path, every-arc}
 use Rattle.definitions.specs.demand.Network.{graphOf, BuiltFrom}
-use Rattle.definitions.specs.demand.Meaning.{ways-unique, way-phones-silent, way-transcribed}
-use Rattle.definitions.specs.demand.Meaning.{way-exists}
+use Rattle.definitions.specs.demand.Meaning.{ways-unique, way-phones-silent, way-transcribed, way-exists}
 use Rattle.definitions.specs.demand.ProperNetwork.{proper, arcs-are, reached-and-alive}
 
 module _ (book : Book) (net : Network) (built : BuiltFrom book net) where

@@ -8,19 +8,19 @@ use native.Mathlib.Omega.{arith}
 use lib.Dec.{T}
 use lib.ListN.{length, length-map}
 use Rattle.definitions.specs.Lists.{_!_, concatMap, upFrom}
-use Rattle.definitions.specs.Tables.{Book}
+use Rattle.definitions.specs.Tables.{Book, rootOf}
 use Rattle.definitions.specs.Lookup.{modelAt, leafReached}
-use Rattle.definitions.specs.Tables.{rootOf}
 use Rattle.definitions.specs.Combinations.{combinations}
 use Rattle.definitions.specs.Metastates.{Metastate, combinationOf, phoneOf, modelsOf}
 use Rattle.definitions.specs.TreesGive.{windows, contextsWithin, silences, withSilence, contexts}
 use Rattle.definitions.specs.TreesGive.{silentEnds}
 use Rattle.definitions.specs.Transcription.{modelOf, transcription}
-use Rattle.definitions.specs.laws.Lists.{concatMap-map}
-use Rattle.definitions.specs.laws.Sound.{AllPhones, Sound}
-use Rattle.definitions.specs.laws.Walks.{reached-model}
-use Rattle.definitions.specs.laws.ModelsAlong.{leafModels}
-use Rattle.definitions.specs.laws.Contexts.{around-middle, silences-length, silent-length, silent-phones}
+use Rattle.definitions.specs.laws.lists.Lists.{concatMap-map}
+use Rattle.definitions.specs.laws.books.Sound.{AllPhones, Sound}
+use Rattle.definitions.specs.laws.trees.Walks.{reached-model}
+use Rattle.definitions.specs.laws.trees.ModelsAlong.{leafModels}
+use Rattle.definitions.specs.laws.trees.Contexts.{around-middle, silences-length, silent-length}
+use Rattle.definitions.specs.laws.trees.Contexts.{silent-phones}
 use Rattle.definitions.specs.graph.Graph.{Way}
 use Rattle.definitions.specs.demand.Chains.{AdmitEach}
 use Rattle.definitions.specs.demand.Chosen.{combinationAt}

@@ -8,10 +8,9 @@ use Rattle.definitions.specs.Faults.{answered}
 use Rattle.definitions.specs.Tables.{Book}
 use Rattle.definitions.specs.Combinations.{combinations}
 use Rattle.definitions.specs.Metastates.{Metastate, sameMetastate}
-use Rattle.definitions.specs.Growing.{Room, finished}
+use Rattle.definitions.specs.Growing.{Room, finished, placeOf}
 use Rattle.definitions.specs.Connecting.{Rules, rulesOf, Network, connect}
-use Rattle.definitions.specs.laws.Sound.{Sound}
-use Rattle.definitions.specs.construction.Table.{placeOf}
+use Rattle.definitions.specs.laws.books.Sound.{Sound}
 use Rattle.definitions.specs.graph.Graph.{Graph}
 
 -- the rules of a book

@@ -9,8 +9,8 @@ use lib.ListN.{length}
 use Rattle.definitions.specs.Tables.{Book}
 use Rattle.definitions.specs.Combinations.{combinations}
 use Rattle.definitions.specs.Metastates.{Metastate, followers, mayEnd}
-use Rattle.definitions.specs.laws.Members.{isIn}
-use Rattle.definitions.specs.laws.Metastates.{metastates-equal, FollowerOf, follower-is}
+use Rattle.definitions.specs.Lists.{isIn}
+use Rattle.definitions.specs.laws.networks.Metastates.{metastates-equal, FollowerOf, follower-is}
 use Rattle.definitions.specs.graph.Graph.{Onward}
 use Rattle.definitions.specs.demand.Carrier.{Carrier, holdsSome}
 use Rattle.definitions.specs.demand.Chains.{stepTo, Steps}

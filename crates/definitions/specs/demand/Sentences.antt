@@ -15,16 +15,16 @@ use Rattle.definitions.specs.BookLines.{isPhone}
 use Rattle.definitions.specs.Tables.{Book}
 use Rattle.definitions.specs.Combinations.{combinations}
 use Rattle.definitions.specs.Metastates.{Metastate, phoneOf, combinationOf}
-use Rattle.definitions.specs.laws.Lists.{every-parts, every-split}
-use Rattle.definitions.specs.laws.Sound.{columnsOf, AllPhones, Sound}
-use Rattle.definitions.specs.laws.Metastates.{FollowerOf, may-end}
-use Rattle.definitions.specs.laws.Contexts.{silence-phones}
+use Rattle.definitions.specs.laws.lists.Lists.{every-parts, every-split}
+use Rattle.definitions.specs.laws.books.Sound.{columnsOf, AllPhones, Sound}
+use Rattle.definitions.specs.laws.networks.Metastates.{FollowerOf, may-end}
+use Rattle.definitions.specs.laws.trees.Contexts.{silence-phones}
 use Rattle.definitions.specs.demand.Carrier.{holdsSome, endTest, fits, Formed, meet-wide, meet-fits}
 use Rattle.definitions.specs.demand.Carrier.{shift-wide, fits-ends, ends-fits}
 use Rattle.definitions.specs.demand.Chains.{AdmitEach, AllWide, afterSteps, Steps, Trace, chain}
 use Rattle.definitions.specs.demand.Chosen.{combinationAt, chosen-at}
-use Rattle.definitions.specs.demand.Passages.{Listed, carriersOf, phonesOf, stepOf, lastAlong}
-use Rattle.definitions.specs.demand.Passages.{Passage, follower-step}
+use Rattle.definitions.specs.demand.Passages.{Listed, carriersOf, phonesOf, stepOf, lastAlong, Passage}
+use Rattle.definitions.specs.demand.Passages.{follower-step}
 
 module _ (book : Book) where
   -- what the construction keeps of a metastate

@@ -14,9 +14,10 @@ use Rattle.definitions.specs.Lists.{_!_, every}
 use Rattle.definitions.specs.BookLines.{isPhone}
 use Rattle.definitions.specs.PhoneSets.{has}
 use Rattle.definitions.specs.Matrices.{Matrix, rootMatrix, yesSide, noSide}
-use Rattle.definitions.specs.laws.Tests.{T-and, eq→eqb, same-tests, every-at}
-use Rattle.definitions.specs.laws.PhoneSets.{has-alone, has-all, has-and, has-without}
-use Rattle.definitions.specs.laws.Matrices.{root-length, root-column, root-other, yes-set, no-set}
+use Rattle.definitions.specs.laws.lists.Tests.{T-and, eq→eqb, same-tests, every-at}
+use Rattle.definitions.specs.laws.matrices.PhoneSets.{has-alone, has-all, has-and, has-without}
+use Rattle.definitions.specs.laws.matrices.Matrices.{root-length, root-column, root-other, yes-set}
+use Rattle.definitions.specs.laws.matrices.Matrices.{no-set}
 use Rattle.definitions.specs.demand.Windows.{admits}
 
 -- ---- the two sides of a question

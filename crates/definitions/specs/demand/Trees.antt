@@ -11,15 +11,14 @@ use lib.Dec.{T}
 use lib.ListN.{length, length-map}
 use Rattle.definitions.specs.Lists.{if_then_else_, select}
 use Rattle.definitions.specs.BookLines.{TreeNode, question, Asked}
-use Rattle.definitions.specs.Tables.{Book}
+use Rattle.definitions.specs.Tables.{Book, rootOf}
 use Rattle.definitions.specs.Lookup.{nodeAt, walk, reached, leafReached, answers}
-use Rattle.definitions.specs.Tables.{rootOf}
 use Rattle.definitions.specs.Combinations.{Leaf, leavesBelow, leavesOf, onYes, onNo}
-use Rattle.definitions.specs.laws.Tests.{if-true}
-use Rattle.definitions.specs.laws.Selected.{select-append}
-use Rattle.definitions.specs.laws.Walks.{walk-leaf, walk-question, by-node}
-use Rattle.definitions.specs.laws.Sound.{Sound}
-use Rattle.definitions.specs.laws.Leaves.{below-leaf, below-question, select-ascending}
+use Rattle.definitions.specs.laws.lists.Tests.{if-true}
+use Rattle.definitions.specs.laws.lists.Selected.{select-append}
+use Rattle.definitions.specs.laws.trees.Walks.{walk-leaf, walk-question, by-node}
+use Rattle.definitions.specs.laws.books.Sound.{Sound}
+use Rattle.definitions.specs.laws.trees.Leaves.{below-leaf, below-question, select-ascending}
 use Rattle.definitions.specs.demand.Carrier.{Carrier, topOf, fits, Wide, top-wide, yes-wide, no-wide}
 use Rattle.definitions.specs.demand.Carrier.{fits-yes, fits-no}
 

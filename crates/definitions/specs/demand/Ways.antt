@@ -10,7 +10,7 @@ use native.Mathlib.Omega.{arith}
 use lib.Dec.{T, eqb}
 use lib.ListN.{length, take, drop, replicate, length-map, take-append-drop}
 use lib.Seq.{drop-drop}
-use Rattle.definitions.specs.Lists.{_!_, every}
+use Rattle.definitions.specs.Lists.{_!_, every, isIn}
 use Rattle.definitions.specs.Faults.{answered}
 use Rattle.definitions.specs.BookLines.{isPhone}
 use Rattle.definitions.specs.Tables.{Book}
@@ -20,22 +20,21 @@ use Rattle.definitions.specs.Growing.{Room}
 use Rattle.definitions.specs.Connecting.{Built, connect}
 use Rattle.definitions.specs.Building.{networkIn}
 use Rattle.definitions.specs.TreesGive.{around, silences, withSilence, silentEnds}
-use Rattle.definitions.specs.laws.Tests.{T-and, T-eqb}
-use Rattle.definitions.specs.laws.Lists.{every-cons}
-use Rattle.definitions.specs.laws.Members.{isIn}
-use Rattle.definitions.specs.laws.Sound.{AllPhones, Sound}
-use Rattle.definitions.specs.laws.Metastates.{metastates-equal, StartOf, start-is, follower-is, may-end}
-use Rattle.definitions.specs.laws.Contexts.{around-left, around-right, silences-length, silent-length}
-use Rattle.definitions.specs.laws.Contexts.{silent-phones}
+use Rattle.definitions.specs.laws.lists.Tests.{T-and, T-eqb}
+use Rattle.definitions.specs.laws.lists.Lists.{every-cons}
+use Rattle.definitions.specs.laws.books.Sound.{AllPhones, Sound}
+use Rattle.definitions.specs.laws.networks.Metastates.{metastates-equal, StartOf, start-is, follower-is}
+use Rattle.definitions.specs.laws.networks.Metastates.{may-end}
+use Rattle.definitions.specs.laws.trees.Contexts.{around-left, around-right, silences-length}
+use Rattle.definitions.specs.laws.trees.Contexts.{silent-length, silent-phones}
 use Rattle.definitions.specs.construction.Finished.{table-holds}
 use Rattle.definitions.specs.graph.Graph.{Way}
 use Rattle.definitions.specs.demand.Carrier.{cutOf, fits, cut-wide, cut-fits, fits-holds}
 use Rattle.definitions.specs.demand.Chains.{AdmitEach}
 use Rattle.definitions.specs.demand.Chosen.{combinationAt, chosen-at}
 use Rattle.definitions.specs.demand.Network.{bookRules, graphOf}
-use Rattle.definitions.specs.demand.Passages.{numbersAlong, Listed, carriersOf, phonesOf, stepOf}
-use Rattle.definitions.specs.demand.Passages.{along, lastAlong, Passage, onward-passage}
-use Rattle.definitions.specs.demand.Passages.{passage-onward}
+use Rattle.definitions.specs.demand.Passages.{numbersAlong, Listed, carriersOf, phonesOf, stepOf, along}
+use Rattle.definitions.specs.demand.Passages.{lastAlong, Passage, onward-passage, passage-onward}
 use Rattle.definitions.specs.demand.Sentences.{Constructed, Sentence, sentence-all, constructed-follower}
 use Rattle.definitions.specs.demand.Sentences.{passage-sentence, sentence-passage, centres, last-phone}
 

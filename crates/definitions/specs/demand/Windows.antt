@@ -17,11 +17,11 @@ use Rattle.definitions.specs.Lists.{_!_, every, same}
 use Rattle.definitions.specs.BookLines.{isPhone}
 use Rattle.definitions.specs.PhoneSets.{has, alone, allPhones}
 use Rattle.definitions.specs.Matrices.{Matrix, valid, meet, shift, startCut, endsHere}
-use Rattle.definitions.specs.laws.Tests.{T-and, every-at}
-use Rattle.definitions.specs.laws.Lists.{every-cons, every-split, same-is}
-use Rattle.definitions.specs.laws.Ranges.{phone-range}
-use Rattle.definitions.specs.laws.PhoneSets.{has-none, has-and, has-alone, has-all, has-below}
-use Rattle.definitions.specs.laws.Matrices.{Below, column-member}
+use Rattle.definitions.specs.laws.lists.Tests.{T-and, every-at}
+use Rattle.definitions.specs.laws.lists.Lists.{every-cons, every-split, same-is}
+use Rattle.definitions.specs.laws.text.Ranges.{phone-range}
+use Rattle.definitions.specs.laws.matrices.PhoneSets.{has-none, has-and, has-alone, has-all, has-below}
+use Rattle.definitions.specs.laws.matrices.Matrices.{Below, column-member}
 
 -- whether the columns of a matrix hold the first phones of a list, one each
 unfoldable pub admits : Matrix → (W : List ℕ) → Bool

@@ -51,6 +51,7 @@ use Rattle.definitions.specs.TreesGive.{putInClass, answersByLines, walk
 use Rattle.definitions.specs.TreesGive.{modelGiven, together, modelsAlong, treesGive, silentEnds}
 use Rattle.definitions.specs.Transcription.{modelOf, transcription, isUtterance, transcribe}
 use Rattle.definitions.specs.BookBuilding.{buildRead, buildBook, tablesAfter, buffersAfter}
+use Rattle.definitions.specs.Said.{saidOf, progressOf}
 use Rattle.definitions.specs.Program.{textOfBuilt, networkOf, refusalText, printed}
 use Rattle.definitions.specs.Program.{program}
 
@@ -77,5 +78,5 @@ unfolding every atLeastOne firstWhere mapOption select lastPasses concatMap upFr
     networkText writeNetwork windows around contextsWithin rootLine nodeLine putInClass answersByLines
     walkByLines reachedByLines modelGiven together modelsAlong treesGive silentEnds modelOf transcription
     isUtterance transcribe buildRead buildBook tablesAfter buffersAfter textOfBuilt networkOf refusalText
-    printed program addElement grow grownIn finalLast matrixSize matrixRecord
+    printed program addElement grow grownIn finalLast matrixSize matrixRecord saidOf progressOf
 everything = tt

@@ -3,17 +3,16 @@
 -- works on arcs and speaks of places only through this file.
 use mathlib.Core.Path.{_≡_, refl, sym, ap, ap₂, _∙_, subst}
 use mathlib.Core.Logic.{inl, inr, _↔_}
-use mathlib.Core.List.{List, [], _∷_, map, map-map, nil≢cons, cons≢nil, head-eq-of-cons-eq}
-use mathlib.Core.List.{tail-eq-of-cons-eq}
+use mathlib.Core.List.{List, [], _∷_, map, map-map, nil≢cons, cons≢nil, head-eq-of-cons-eq, tail-eq-of-cons-eq}
 use mathlib.Core.Bool.{Bool}
 use Prim.Native.Nat.{ℕ, _<_}
 use lib.Dec.{T, ltb, eqb, ltb→lt, lt→ltb, eqb→eq}
 use lib.ListN.{length}
-use Rattle.definitions.specs.Lists.{atLeastOne}
+use Rattle.definitions.specs.Lists.{atLeastOne, isIn, distinct}
 use Rattle.definitions.specs.Arcs.{Arc, arc}
 use Rattle.definitions.specs.Paths.{arcAt, leads, withoutZeros, modelsCarried, phonesCarried}
-use Rattle.definitions.specs.laws.Tests.{T-three, T-or, eq→eqb}
-use Rattle.definitions.specs.laws.Members.{isIn, distinct, in-at, place-of, same-place}
+use Rattle.definitions.specs.laws.lists.Tests.{T-three, T-or, eq→eqb}
+use Rattle.definitions.specs.laws.lists.Members.{in-at, place-of, same-place}
 
 -- what a list of arcs carries
 abbrev pub modelsOn : List Arc → List ℕ

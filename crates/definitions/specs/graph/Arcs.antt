@@ -9,10 +9,10 @@ use native.Mathlib.Omega.{arith}
 use lib.Dec.{T}
 use lib.Arith.{digits-div}
 use lib.ListN.{length, drop, length-drop}
-use Rattle.definitions.specs.Lists.{_!_, concatMap}
+use Rattle.definitions.specs.Lists.{_!_, concatMap, isIn}
 use Rattle.definitions.specs.Arcs.{Arc, arc, INITIAL, FINAL, firstState, lastState}
 use Rattle.definitions.specs.Connecting.{ownArcs}
-use Rattle.definitions.specs.laws.Members.{isIn, of-append, of-map, of-concatMap, of-one}
+use Rattle.definitions.specs.laws.lists.Members.{of-append, of-map, of-concatMap, of-one}
 use Rattle.definitions.specs.graph.Graph.{Graph, Proper, entryOf, exitOf, arcTo, innerArcs, endArcs}
 use Rattle.definitions.specs.graph.Graph.{followArcs, block, arcsOf}
 use Rattle.definitions.specs.graph.ArcPaths.{same-from}

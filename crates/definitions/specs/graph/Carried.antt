@@ -9,15 +9,13 @@ use Prim.Native.Nat.{ℕ, suc, _≤_}
 use native.Mathlib.Omega.{arith}
 use lib.Dec.{T, eqb}
 use lib.ListN.{length, drop}
-use Rattle.definitions.specs.Lists.{_!_, every, select, concatMap}
+use Rattle.definitions.specs.Lists.{_!_, every, select, concatMap, isIn}
 use Rattle.definitions.specs.Arcs.{Arc}
 use Rattle.definitions.specs.Connecting.{ownArcs}
 use Rattle.definitions.specs.Paths.{withoutZeros}
-use Rattle.definitions.specs.laws.Tests.{if-true}
-use Rattle.definitions.specs.laws.Lists.{every-cons}
-use Rattle.definitions.specs.laws.Members.{isIn}
-use Rattle.definitions.specs.graph.Graph.{Graph, Proper, entryOf, exitOf, arcTo, innerArcs, Onward}
-use Rattle.definitions.specs.graph.Graph.{Way}
+use Rattle.definitions.specs.laws.lists.Tests.{if-true}
+use Rattle.definitions.specs.laws.lists.Lists.{every-cons}
+use Rattle.definitions.specs.graph.Graph.{Graph, Proper, entryOf, exitOf, arcTo, innerArcs, Onward, Way}
 use Rattle.definitions.specs.graph.ArcPaths.{modelsOn, phonesOn}
 use Rattle.definitions.specs.graph.Ways.{trail}
 

@@ -7,10 +7,9 @@ use mathlib.Core.Bool.{Bool, not}
 use Prim.Native.Nat.{ℕ, _≤_}
 use lib.Dec.{T, eqb}
 use lib.ListN.{length, drop}
-use Rattle.definitions.specs.Lists.{if_then_else_, _!_, every, concatMap}
+use Rattle.definitions.specs.Lists.{if_then_else_, _!_, every, concatMap, isIn, distinct}
 use Rattle.definitions.specs.Arcs.{Arc, arc, INITIAL, FINAL, firstState, lastState}
 use Rattle.definitions.specs.Connecting.{ownArcs}
-use Rattle.definitions.specs.laws.Members.{isIn, distinct}
 
 pub record Graph (X : Type 0) : Type 0 where
   -- how many states each element has

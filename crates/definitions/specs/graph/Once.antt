@@ -8,12 +8,11 @@ use mathlib.Core.Bool.{not}
 use Prim.Native.Nat.{ℕ, suc, _+_, _<_}
 use native.Mathlib.Omega.{arith}
 use lib.Dec.{T, eqb}
-use Rattle.definitions.specs.Lists.{concatMap}
+use Rattle.definitions.specs.Lists.{concatMap, isIn, distinct}
 use Rattle.definitions.specs.Arcs.{Arc, arc, INITIAL, FINAL, firstState}
 use Rattle.definitions.specs.Connecting.{ownArcs}
-use Rattle.definitions.specs.laws.Members.{isIn, distinct, of-append, of-map, of-concatMap}
-use Rattle.definitions.specs.laws.Members.{distinct-append, distinct-map, distinct-concatMap}
-use Rattle.definitions.specs.laws.Members.{distinct-kept}
+use Rattle.definitions.specs.laws.lists.Members.{of-append, of-map, of-concatMap, distinct-append}
+use Rattle.definitions.specs.laws.lists.Members.{distinct-map, distinct-concatMap, distinct-kept}
 use Rattle.definitions.specs.graph.Graph.{Graph, Proper, entryOf, exitOf, arcTo, innerArcs, endArcs}
 use Rattle.definitions.specs.graph.Graph.{block, arcsOf}
 use Rattle.definitions.specs.graph.ArcPaths.{same-from}

@@ -7,14 +7,14 @@ use mathlib.Core.List.{List, [], _∷_, _++_, map}
 use Prim.Native.Nat.{ℕ, _<_}
 use lib.Dec.{T, eqb}
 use lib.ListN.{length}
-use Rattle.definitions.specs.Lists.{concatMap, atLeastOne}
+use Rattle.definitions.specs.Lists.{concatMap, atLeastOne, isIn}
 use Rattle.definitions.specs.Arcs.{Arc, INITIAL, FINAL}
 use Rattle.definitions.specs.Paths.{Carries, arcAt, accepting, modelsCarried, phonesCarried}
-use Rattle.definitions.specs.laws.Members.{isIn, in-at, in-left, in-right}
+use Rattle.definitions.specs.laws.lists.Members.{in-at, in-left, in-right}
 use Rattle.definitions.specs.graph.Graph.{Graph, Proper, exitOf, innerArcs, arcsOf, Onward, Way}
 use Rattle.definitions.specs.graph.Graph.{Reachable, Alive}
-use Rattle.definitions.specs.graph.ArcPaths.{modelsOn, phonesOn, arcsAt, models-on, phones-on}
-use Rattle.definitions.specs.graph.ArcPaths.{linked-at, places-of, same-places, place-on}
+use Rattle.definitions.specs.graph.ArcPaths.{modelsOn, phonesOn, arcsAt, models-on, phones-on, linked-at}
+use Rattle.definitions.specs.graph.ArcPaths.{places-of, same-places, place-on}
 use Rattle.definitions.specs.graph.Arcs.{OfGraph, starting, leaving, of-graph, OfBlock, inner, ending}
 use Rattle.definitions.specs.graph.Arcs.{following, of-block}
 use Rattle.definitions.specs.graph.Once.{arcs-once}

@@ -9,10 +9,10 @@ use native.Mathlib.Omega.{arith}
 use lib.Dec.{T}
 use lib.ListN.{length, drop, drop-of-length-le}
 use lib.Seq.{drop-cons}
-use Rattle.definitions.specs.Lists.{_!_}
+use Rattle.definitions.specs.Lists.{_!_, isIn}
 use Rattle.definitions.specs.Arcs.{Arc, arc, INITIAL, FINAL, firstState, lastState}
 use Rattle.definitions.specs.Connecting.{ownArcs}
-use Rattle.definitions.specs.laws.Members.{isIn, in-left, in-right, in-map, in-concatMap, in-kept}
+use Rattle.definitions.specs.laws.lists.Members.{in-left, in-right, in-map, in-concatMap, in-kept}
 use Rattle.definitions.specs.graph.Graph.{Graph, Proper, entryOf, exitOf, arcTo, innerArcs, endArcs}
 use Rattle.definitions.specs.graph.Graph.{followArcs, block, arcsOf, Onward, Way}
 use Rattle.definitions.specs.graph.ArcPaths.{Linked, same-from}

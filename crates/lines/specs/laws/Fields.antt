@@ -12,7 +12,7 @@ use borrow.Author.Tests.{eq-eqb, ne-eqb, le-leb, lt-leb}
 use Rattle.definitions.specs.Lists.{if_then_else_, _!_, every}
 use Rattle.definitions.specs.Numerals.{isDigit, isNumeral, valueOf}
 use Rattle.definitions.specs.Lines.{space, Field, blank, malformed, number, skipSpaces, digitsField, fieldOf}
-use Rattle.definitions.specs.laws.Tests.{by-test}
+use Rattle.definitions.specs.laws.lists.Tests.{by-test}
 
 -- ---- leading spaces
 

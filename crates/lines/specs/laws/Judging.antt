@@ -16,9 +16,9 @@ use Rattle.definitions.specs.Forms.{Form}
 use Rattle.definitions.specs.Lines.{Line, lineOf, linesOf, wholeLines}
 use Rattle.definitions.specs.Reading as reading
 use Rattle.definitions.specs.Reading.{Kind, lineTests, lineRead, readFrom, readText}
-use Rattle.definitions.specs.laws.Tests.{by-test, held, failed}
-use Rattle.definitions.specs.laws.Judging.{allPass}
-use Rattle.definitions.specs.laws.Reading as lines
+use Rattle.definitions.specs.laws.lists.Tests.{by-test, held, failed}
+use Rattle.definitions.specs.laws.text.Judging.{allPass}
+use Rattle.definitions.specs.laws.text.Reading as lines
 use Rattle.lines.specs.Judging.{verdictOf, verdictBy, lineTaken, lineVerdict, linesBefore, lineBytes}
 use Rattle.lines.specs.Rows.{lineIn, parsedOf}
 use Rattle.lines.specs.declared.Verdict.{Verdict}

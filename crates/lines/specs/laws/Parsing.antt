@@ -13,12 +13,12 @@ use lib.Seq.{drop-cons, drop-drop, take-all, take-suc-set}
 use borrow.Author.Tests.{ltb-true, ltb-false}
 use Rattle.definitions.specs.Lists.{if_then_else_, _!_, every, cleared, padded}
 use Rattle.definitions.specs.Forms.{Range, Form}
-use Rattle.definitions.specs.Lines.{Field, blank, malformed, number, isBlank, fieldOf, skipSpaces}
-use Rattle.definitions.specs.Lines.{digitsField, fieldsOf, numbersOf, formOf, withLetter, lineOf}
-use Rattle.definitions.specs.laws.Tests.{by-test}
-use Rattle.definitions.specs.laws.Lists.{padded-none}
-use Rattle.definitions.specs.laws.Records.{read-at}
-use Rattle.definitions.specs.laws.Lines.{line-known, line-unknown, form-letter, fields-five}
+use Rattle.definitions.specs.Lines.{Field, blank, malformed, number, isBlank, fieldOf, skipSpaces, digitsField}
+use Rattle.definitions.specs.Lines.{fieldsOf, numbersOf, formOf, withLetter, lineOf}
+use Rattle.definitions.specs.laws.lists.Tests.{by-test}
+use Rattle.definitions.specs.laws.lists.Lists.{padded-none}
+use Rattle.definitions.specs.laws.lists.Records.{read-at}
+use Rattle.definitions.specs.laws.text.Lines.{line-known, line-unknown, form-letter, fields-five}
 use Rattle.lines.specs.declared.Letters.{Letters}
 use Rattle.lines.specs.declared.Letters.the-variants.{Book, Network}
 use Rattle.lines.specs.Places.{formIn, formAt, rangesAt, formCount}

@@ -11,7 +11,7 @@ use lib.ListN.{replicate-append-replicate}
 use lib.Seq.{take-suc-set, drop-set-lt, take-append-seam, drop-append-add, append-snoc, set-split}
 use lib.Seq.{set-append-left}
 use Rattle.definitions.specs.Lists.{cleared, padded}
-use Rattle.definitions.specs.laws.Lists.{drop-cleared, padded-length}
+use Rattle.definitions.specs.laws.lists.Lists.{drop-cleared, padded-length}
 use Rattle.lines.specs.Putting.{putAt}
 
 -- ---- words put one by one

@@ -12,7 +12,7 @@ use lib.Seq.{drop-cons}
 use Rattle.definitions.specs.Lists.{_!_}
 use Rattle.definitions.specs.Forms.{Range, Form, _‥_}
 use Rattle.definitions.specs.Lines.{formOf, inRanges, inFixedRanges}
-use Rattle.definitions.specs.laws.Tests.{by-test}
+use Rattle.definitions.specs.laws.lists.Tests.{by-test}
 use Rattle.lines.specs.Places.{formIn, formAt, rangesAt, rangeAt, formCount}
 use Rattle.lines.specs.Rows.{lineIn}
 use Rattle.lines.specs.declared.Row.{Row}

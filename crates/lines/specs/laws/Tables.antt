@@ -8,19 +8,18 @@ use Prim.Native.Nat.{ℕ, zero, suc, _+_, _-_, _≤_, _<_}
 use native.Mathlib.Omega.{arith}
 use native.Mathlib.Numerals.{add-one}
 use lib.Dec.{leb, leb→le}
-use lib.ListN.{length, take, drop, getD, replicate, length-map, List·getD-append, List·getD-map}
+use lib.ListN.{length, getD, replicate, length-map, List·getD-append, List·getD-map}
 use lib.Seq.{drop-cons}
 use borrow.Author.Tests.{eq-eqb, ne-eqb, le-leb, lt-leb}
 use Rattle.definitions.specs.Lists.{every}
 use Rattle.definitions.specs.Forms.{Range, Form, _‥_, formH}
 use Rattle.definitions.specs.Lines.{formOf}
-use Rattle.definitions.specs.laws.Tests.{every-at}
-use Rattle.definitions.specs.laws.Lists.{map-at}
-use Rattle.lines.specs.declared.Letters.{Letters}
-use Rattle.lines.specs.declared.forms.Form.{Form as HeldForm}
+use Rattle.definitions.specs.laws.lists.Tests.{every-at}
+use Rattle.definitions.specs.laws.lists.Lists.{map-at}
 use Rattle.lines.specs.declared.forms.Range.{Range as HeldRange}
-use Rattle.lines.specs.Places.{allForms, formIn, formAt, rangesOf, rangesAt, rangeAt, formCount}
-use Rattle.lines.specs.Rows.{formsOf}
+use Rattle.lines.specs.declared.forms.Form.{Form as HeldForm}
+use Rattle.lines.specs.Places.{formsBetween, allForms, formIn, formAt, rangesOf, rangesAt, rangeAt}
+use Rattle.lines.specs.Places.{formCount}
 
 -- ---- the table of a letter
 
@@ -104,16 +103,6 @@ module _ (place : ℕ) (h : place < formCount) where
       rw (le-leb _ _ low, range-held field k)
 
 -- ---- the search for a letter
-
--- the tables from a place to an end
-abbrev pub formsBetween : (place end : ℕ) → List Form
-formsBetween place end = take (end - place) (drop place allForms)
-
--- where the letters of a kind of text stand
-pub record Placed (letters : Letters) (from end : ℕ) : Type 0 where
-  pub ordered : from ≤ end
-  pub within : end ≤ formCount
-  pub tables : formsOf letters ≡ formsBetween from end
 
 formsBetween-more : (place end : ℕ) → place < end → end ≤ formCount
     → formsBetween place end ≡ formHere place ∷ formsBetween (place + 1) end

@@ -11,8 +11,8 @@ use lib.Seq.{drop-cons, take-suc}
 use borrow.Author.Tests.{lt-ltb, ne-eqb}
 use Rattle.definitions.specs.Lists.{_!_}
 use Rattle.definitions.specs.Lines.{lineFeed, linesOf, endsInLineFeed, wholeLines}
-use Rattle.definitions.specs.laws.Lists.{part-at}
-use Rattle.definitions.specs.laws.Records.{records-length, record-at}
+use Rattle.definitions.specs.laws.lists.Lists.{part-at}
+use Rattle.definitions.specs.laws.lists.Records.{records-length, record-at}
 use Rattle.lines.specs.laws.Passing.{Passed}
 
 -- ---- the lines of a text

@@ -13,8 +13,8 @@ use borrow.Author.Tests.{eq-eqb, ne-eqb}
 use Rattle.definitions.specs.Lists.{_!_, every}
 use Rattle.definitions.specs.PhoneSets.{has}
 use Rattle.definitions.specs.Matrices.{Matrix, yesSide, noSide, meet, valid, endsHere}
-use Rattle.definitions.specs.laws.PhoneSets.{without-is-mask}
-use Rattle.definitions.specs.laws.Matrices.{yes-set, no-set, meet-length}
+use Rattle.definitions.specs.laws.matrices.PhoneSets.{without-is-mask}
+use Rattle.definitions.specs.laws.matrices.Matrices.{yes-set, no-set, meet-length}
 use Rattle.lines.specs.laws.Passing.{Passed, passed-more, passed-stop}
 
 -- ---- one column cut by a set, in a matrix that has it or not

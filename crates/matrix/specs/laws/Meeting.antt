@@ -12,11 +12,12 @@ use lib.Seq.{take-all, length-take-le, getD-drop, getD-take}
 use borrow.Author.Tests.{leb-true, leb-false, eqb-true, eqb-false}
 use Rattle.definitions.specs.Lists.{_!_, every}
 use Rattle.definitions.specs.Matrices.{Matrix, mostColumns, meet, valid}
-use Rattle.definitions.specs.laws.Matrices.{meet-column}
-use Rattle.definitions.specs.laws.Members.{in-at, in-every}
-use Rattle.definitions.specs.laws.Tests.{by-test}
+use Rattle.definitions.specs.laws.matrices.Matrices.{meet-column}
+use Rattle.definitions.specs.laws.lists.Members.{in-at, in-every}
+use Rattle.definitions.specs.laws.lists.Tests.{by-test}
 use Rattle.matrix.specs.laws.Columns.{meet-sized, someMember, empty-column}
-use Rattle.matrix.specs.laws.Words.{firstSeven, seven-length, seven-at}
+use Rattle.matrix.specs.Words.{firstSeven}
+use Rattle.matrix.specs.laws.Words.{seven-length, seven-at}
 
 module _ (m : Matrix) (words : List ℕ) (from : ℕ) where
   abbrev pub metAt : Matrix

@@ -11,8 +11,8 @@ use lib.Pow.{pow-pos}
 use borrow.Author.Tests.{le-leb, lt-leb}
 use Rattle.definitions.specs.Lists.{if_then_else_}
 use Rattle.definitions.specs.PhoneSets.{has, alone, allPhones}
-use Rattle.definitions.specs.laws.PhoneSets.{has-below, one-shifted, alone-shifted}
-use Rattle.definitions.specs.laws.Tests.{by-test}
+use Rattle.definitions.specs.laws.matrices.PhoneSets.{has-below, one-shifted, alone-shifted}
+use Rattle.definitions.specs.laws.lists.Tests.{by-test}
 
 -- ---- all phones
 

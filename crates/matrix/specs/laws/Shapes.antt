@@ -12,9 +12,9 @@ use borrow.Author.Tests.{eqb-true, eqb-false, ltb-true, ltb-false, le-leb, lt-lt
 use Rattle.definitions.specs.Lists.{if_then_else_, _!_}
 use Rattle.definitions.specs.PhoneSets.{alone, allPhones}
 use Rattle.definitions.specs.Matrices.{Matrix, mostColumns, matrixWords, rootMatrix, shift}
-use Rattle.definitions.specs.laws.Tests.{by-test}
-use Rattle.definitions.specs.laws.Lists.{map-upFrom-length, map-upFrom-at}
-use Rattle.definitions.specs.laws.SevenWords.{words-length, words-shift}
+use Rattle.definitions.specs.laws.lists.Tests.{by-test}
+use Rattle.definitions.specs.laws.lists.Lists.{map-upFrom-length, map-upFrom-at}
+use Rattle.definitions.specs.laws.matrices.SevenWords.{words-length, words-shift}
 use Rattle.matrix.specs.Shapes.{columnsAround, shiftedColumn, shiftedWords}
 use Rattle.matrix.specs.laws.Words.{seven-length, seven-at}
 

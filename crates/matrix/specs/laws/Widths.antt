@@ -7,8 +7,8 @@ use native.Mathlib.Omega.{arith}
 use lib.ListN.{length, take, length-take}
 use lib.Seq.{length-take-le}
 use Rattle.definitions.specs.Matrices.{Matrix, mostColumns, matrixWords, meet}
-use Rattle.definitions.specs.laws.Matrices.{meet-length}
-use Rattle.definitions.specs.laws.SevenWords.{words-length, words-take, words-meet}
+use Rattle.definitions.specs.laws.matrices.Matrices.{meet-length}
+use Rattle.definitions.specs.laws.matrices.SevenWords.{words-length, words-take, words-meet}
 use Rattle.matrix.specs.Shapes.{HasWidth}
 
 -- the words of a matrix of that width

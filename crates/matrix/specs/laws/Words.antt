@@ -10,11 +10,11 @@ use lib.ListN.{take-append-drop, drop-of-length-le}
 use lib.Seq.{paste, paste-zero, paste-suc, take-append-le, length-take-le, take-all, drop-append-add, getD-take}
 use Rattle.definitions.specs.Lists.{_!_, cleared, padded}
 use Rattle.definitions.specs.Matrices.{Matrix, mostColumns, matrixWords, matrixRecord}
-use Rattle.definitions.specs.laws.Lists.{drop-cleared}
-use Rattle.definitions.specs.laws.SevenWords.{padded-column, words-length}
-use Rattle.definitions.specs.laws.Sizes.{record-value}
+use Rattle.definitions.specs.laws.lists.Lists.{drop-cleared}
+use Rattle.definitions.specs.laws.matrices.SevenWords.{padded-column, words-length}
+use Rattle.definitions.specs.laws.matrices.Sizes.{record-value}
 use Rattle.lines.specs.laws.Filling.{Filled, filled-more, filled-end}
-use Rattle.matrix.specs.Words.{overwritten}
+use Rattle.matrix.specs.Words.{firstSeven, overwritten}
 
 -- the elements from a place on, beyond the first part
 drop-past : (k l : List ℕ) (i : ℕ) → length k ≤ i → drop i (k ++ l) ≡ drop (i - length k) l
@@ -40,9 +40,6 @@ module _ {t s : List ℕ} {c : ℕ} (e : length t ≡ mostColumns) (f : Columns 
   columns-end h = filled-end e f (omega (arith, f .sized))
 
 -- ---- the seven words that words begin, 0 where there are no more
-
-abbrev pub firstSeven : (words : List ℕ) → List ℕ
-firstSeven words = take mostColumns (padded mostColumns words)
 
 pub seven-length : (words : List ℕ) → length (firstSeven words) ≡ mostColumns
 unfolding padded

@@ -7,12 +7,14 @@ use Rattle.definitions.specs.declared.Counts.{Counts}
 use Rattle.definitions.specs.declared.Refusal.{Refusal}
 use Rattle.definitions.specs.Faults.{Outcome, answered, refused}
 use Rattle.definitions.specs.Lists.{cleared}
-use Rattle.definitions.specs.NetworkText.{NetworkLine, readNetwork, arcsLeft}
-use Rattle.definitions.specs.laws.Lists.{clear-length}
+use Rattle.definitions.specs.NetworkText.{NetworkLine, noCounts, countsOf, readNetwork, arcsLeft}
+use Rattle.definitions.specs.Said.{saidOf}
+use Rattle.definitions.specs.laws.lists.Lists.{clear-length}
 use Rattle.nettext.specs.declared.Reading.{Reading}
 use Rattle.nettext.specs.declared.Reading.the-variants.{Accepted, Refused}
-use Rattle.nettext.specs.Answers.{readingOf}
+use Rattle.nettext.specs.Answers.{readingOf, readingSaid}
 use Rattle.nettext.specs.Taking.{Read}
+use Rattle.nettext.specs.laws.Said.{reading-said}
 
 -- an accepted network: the arcs hold it
 accepted-left : (lent : ℕ) (o : Outcome (List NetworkLine)) (arcs : List ℕ) (counts : Counts)
@@ -38,21 +40,25 @@ module _ (lent : List ℕ) {arcs : List ℕ} (c : arcs ≡ cleared (length lent)
     read-answer : answer ≡ readingOf (readNetwork (length lent) text)
     read-answer = a ∙ ap (λ (n : ℕ). readingOf (readNetwork n text)) (clear-length lent arcs c)
 
+    -- what it says of an answer
+    abbrev Says : Reading → Type 0
+    Says reading = readingSaid reading ≡ saidOf countsOf noCounts (readNetwork (length lent) text)
+
     pub accepted-returns : (counts : Counts) → answer ≡ Accepted counts
-        → (Accepted counts ≡ readingOf (readNetwork (length lent) text))
+        → Says (Accepted counts)
         × (after ≡ arcsLeft (length lent) (readNetwork (length lent) text))
     accepted-returns counts k = (
-      sym k ∙ read-answer,
+      reading-said _ (sym k ∙ read-answer),
       accepted-left (length lent) _ after counts (sym read-answer ∙ k)
           (subst (λ (n : ℕ). Read n text after) (clear-length lent arcs c) r .network),
     )
 
     pub refused-returns : (refusal : Refusal) {last : List ℕ} → answer ≡ Refused refusal
         → last ≡ cleared (length after)
-        → (Refused refusal ≡ readingOf (readNetwork (length lent) text))
+        → Says (Refused refusal)
         × (last ≡ arcsLeft (length lent) (readNetwork (length lent) text))
     refused-returns refusal k d = (
-      sym k ∙ read-answer,
+      reading-said _ (sym k ∙ read-answer),
       d ∙ ap cleared (r .sized ∙ clear-length lent arcs c)
           ∙ refused-left (length lent) _ refusal (sym read-answer ∙ k),
     )

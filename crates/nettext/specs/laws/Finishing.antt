@@ -9,8 +9,8 @@ use Rattle.definitions.specs.declared.Fault.the-variants.{Count}
 use Rattle.definitions.specs.Faults.{answered, judge}
 use Rattle.definitions.specs.Reading.{readFrom}
 use Rattle.definitions.specs.NetworkText.{NetworkLine, networkComplete, networkKind}
-use Rattle.definitions.specs.laws.Tests.{by-test}
-use Rattle.definitions.specs.laws.Judging.{test-answered}
+use Rattle.definitions.specs.laws.lists.Tests.{by-test}
+use Rattle.definitions.specs.laws.text.Judging.{test-answered}
 use Rattle.nettext.specs.Answers.{readingOf}
 use Rattle.nettext.specs.States.{stateOf, completeIn}
 use Rattle.nettext.specs.Taking.{finishOf}

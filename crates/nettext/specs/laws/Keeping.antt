@@ -11,10 +11,10 @@ use borrow.Author.Tests.{lt-ltb, eqb-false}
 use Rattle.definitions.specs.Arcs.{arcSize}
 use Rattle.definitions.specs.Lists.{concatMap}
 use Rattle.definitions.specs.Reading.{lineTests}
-use Rattle.definitions.specs.NetworkText.{NetworkLine, W, A, countsInLine, countsOf, arcInLine}
-use Rattle.definitions.specs.NetworkText.{arcsOf, networkFollows, networkTests, networkComplete, networkKind}
-use Rattle.definitions.specs.laws.Tests.{by-test}
-use Rattle.definitions.specs.laws.Judging.{passes-at}
+use Rattle.definitions.specs.NetworkText.{NetworkLine, W, A, countsInLine, countsOf, arcInLine, arcsOf}
+use Rattle.definitions.specs.NetworkText.{networkFollows, networkTests, networkComplete, networkKind}
+use Rattle.definitions.specs.laws.lists.Tests.{by-test}
+use Rattle.definitions.specs.laws.text.Judging.{passes-at}
 use Rattle.lines.specs.Judging.{lineTaken}
 use Rattle.lines.specs.laws.Judging.{Taken, verdict-taken}
 use Rattle.nettext.specs.States.{stateOf}

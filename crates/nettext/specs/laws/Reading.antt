@@ -13,7 +13,7 @@ use Rattle.definitions.specs.Faults.{refuse}
 use Rattle.definitions.specs.Lines.{wholeLines}
 use Rattle.definitions.specs.Reading.{Kind, readFrom}
 use Rattle.definitions.specs.NetworkText.{NetworkLine, networkKind, readNetwork, arcsLeft}
-use Rattle.definitions.specs.laws.Judging.{refused-not-answered}
+use Rattle.definitions.specs.laws.text.Judging.{refused-not-answered}
 use Rattle.lines.specs.Judging.{lineTaken, linesBefore, lineBytes}
 use Rattle.lines.specs.laws.Judging.{verdict-taken, lines-none, lines-more, lines-counted, GoesOn}
 use Rattle.lines.specs.laws.Judging.{goes-on-first, text-torn, goes-on-more, goes-on-refused, goes-on-end}

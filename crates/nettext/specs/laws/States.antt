@@ -14,7 +14,7 @@ use Rattle.definitions.specs.Forms.{networkForms}
 use Rattle.definitions.specs.Reading.{lineTests}
 use Rattle.definitions.specs.NetworkText.{NetworkLine, W, A, networkLine, countsOf, arcInLine, arcsOf}
 use Rattle.definitions.specs.NetworkText.{networkFollows, networkInOrder, networkComplete, networkKind}
-use Rattle.definitions.specs.laws.Lists.{concatMap-snoc}
+use Rattle.definitions.specs.laws.lists.Lists.{concatMap-snoc}
 use Rattle.lines.specs.Judging.{verdictBy, lineVerdict}
 use Rattle.nettext.specs.declared.State.{State}
 use Rattle.nettext.specs.States.{lastSource, stateOf, followsIn, inOrderIn, testsIn, completeIn}

@@ -8,8 +8,8 @@ use lib.ListN.{length}
 use Rattle.definitions.specs.Arcs.{arcSize, arcWords}
 use Rattle.definitions.specs.Lists.{concatMap, cleared}
 use Rattle.definitions.specs.NetworkText.{NetworkLine, W, A, arcInLine, arcsOf}
-use Rattle.definitions.specs.laws.Lists.{concatMap-snoc, padded-length}
-use Rattle.definitions.specs.laws.Records.{flat-length, arc-sized}
+use Rattle.definitions.specs.laws.lists.Lists.{concatMap-snoc, padded-length}
+use Rattle.definitions.specs.laws.lists.Records.{flat-length, arc-sized}
 use Rattle.lines.specs.laws.Putting.{put-after, padded-zeros}
 use Rattle.nettext.specs.Storing.{arcsAfter, arcsStored}
 use Rattle.nettext.specs.laws.States.{arcs-more}

@@ -15,30 +15,33 @@ use borrow.Rule.Slice.PartMut.{putMid}
 use Rattle.definitions.specs.declared.Counts.{Counts}
 use Rattle.definitions.specs.declared.Fault.{Fault}
 use Rattle.definitions.specs.declared.Fault.the-variants.{Foreign, Short}
-use Rattle.definitions.specs.Lists.{if_then_else_, _!_, every, concatMap, records, cleared, padded}
+use Rattle.definitions.specs.Lists.{if_then_else_, _!_, every, concatMap, records, cleared, padded, isIn}
 use Rattle.definitions.specs.Faults.{refuse, judge, answerLeft}
+use Rattle.definitions.specs.Said.{saidOf}
 use Rattle.definitions.specs.Lines.{Line, lineText}
 use Rattle.definitions.specs.Arcs.{Arc, arcSize, arcWords, arcOf, arcsIn}
-use Rattle.definitions.specs.NetworkText.{arcKnown, networkKnown, lineOfCounts, lineOfArc}
-use Rattle.definitions.specs.NetworkText.{networkText, writeNetwork}
-use Rattle.definitions.specs.laws.Tests.{T-and, by-test, every-at}
-use Rattle.definitions.specs.laws.Lists.{map-at, part-at, drop-cleared}
-use Rattle.definitions.specs.laws.Members.{isIn, in-every, every-weaker}
-use Rattle.definitions.specs.laws.Records.{record-at, written-length, written-records}
-use Rattle.definitions.specs.laws.LineFields.{allFit}
-use Rattle.definitions.specs.laws.Lines.{line-length}
-use Rattle.definitions.specs.laws.NetworkLines.{countsRanged, counts-fit, arc-fit, known-ranged}
-use Rattle.definitions.specs.laws.NetworkTexts.{arcText}
-use Rattle.definitions.specs.laws.NetworkKnown.{arcs-length, known-parts}
-use Rattle.definitions.specs.laws.RoundTrips.{text-length, known-written}
-use Rattle.lines.specs.Rows.{lineIn, writable, written}
-use Rattle.lines.specs.laws.Rows.{isSmall}
+use Rattle.definitions.specs.NetworkText.{arcKnown, networkKnown, lineOfCounts, lineOfArc, networkText}
+use Rattle.definitions.specs.NetworkText.{writeNetwork}
+use Rattle.definitions.specs.laws.lists.Tests.{T-and, by-test, every-at}
+use Rattle.definitions.specs.laws.lists.Lists.{map-at, part-at, drop-cleared}
+use Rattle.definitions.specs.laws.lists.Members.{in-every, every-weaker}
+use Rattle.definitions.specs.laws.lists.Records.{record-at, written-length, written-records}
+use Rattle.definitions.specs.laws.text.LineFields.{allFit}
+use Rattle.definitions.specs.laws.text.Lines.{line-length}
+use Rattle.definitions.specs.laws.networks.NetworkLines.{countsRanged, counts-fit, arc-fit, known-ranged}
+use Rattle.definitions.specs.laws.networks.NetworkTexts.{arcText}
+use Rattle.definitions.specs.laws.networks.KnownNetworks.{arcs-length, known-parts}
+use Rattle.definitions.specs.laws.networks.RoundTrips.{text-length, known-written}
+use Rattle.lines.specs.Rows.{lineIn}
+use Rattle.writing.specs.laws.Rows.{isSmall}
 use Rattle.lines.specs.declared.Row.{Row}
-use Rattle.network.specs.laws.KnownArcs.{allArcs, arcAt, arc-at, source-at, known-arcs, known-taken}
-use Rattle.lines.specs.Answers.{writtenOf}
+use Rattle.writing.specs.Writing.{writable, written}
+use Rattle.writing.specs.Answers.{writtenOf, writtenSaid}
+use Rattle.writing.specs.laws.Said.{written-said}
+use Rattle.writing.specs.declared.Written.{Written}
+use Rattle.writing.specs.declared.Written.the-variants.{Bytes, Refused}
+use Rattle.arcs.specs.laws.KnownArcs.{allArcs, arcAt, arc-at, source-at, known-arcs, known-taken}
 use Rattle.nettext.specs.Writing.{arcInRange}
-use Rattle.lines.specs.declared.Written.{Written}
-use Rattle.lines.specs.declared.Written.the-variants.{Bytes, Refused}
 
 -- ---- lines that fit
 
@@ -211,7 +214,7 @@ module _ (counts : Counts) (words : List ℕ) (known : networkKnown counts words
 
 abbrev TextLeft : Counts → (words : List ℕ) → (size : ℕ) → Written → (after : List ℕ) → Type 0
 TextLeft counts words size answer after =
-    (answer ≡ writtenOf (writeNetwork counts words size))
+    (writtenSaid answer ≡ saidOf length 0 (writeNetwork counts words size))
     × (after ≡ answerLeft size (writeNetwork counts words size))
 
 abbrev refusal : Fault → Written
@@ -222,7 +225,7 @@ module _ (counts : Counts) (words : List ℕ) (size : ℕ) where
     refused-by : (fault : Fault) → writeNetwork counts words size ≡ refuse fault 0
         → answer ≡ refusal fault → after ≡ cleared size → TextLeft counts words size answer after
     unfolding writtenOf answerLeft
-    refused-by fault e a z = (a ∙ rw (e, writtenOf), z ∙ rw (e, answerLeft))
+    refused-by fault e a z = (written-said _ (a ∙ rw (e, writtenOf)), z ∙ rw (e, answerLeft))
 
     pub write-foreign : networkKnown counts words ≡ false
         → answer ≡ refusal Foreign → after ≡ cleared size → TextLeft counts words size answer after
@@ -246,5 +249,7 @@ module _ (counts : Counts) (words : List ℕ) (size : ℕ) where
   write-done k {count} e l first part f p =
       let said = known-written counts words size (rw k tt) (omega arith) in
       let long : 32 + 32 * count ≡ length (networkText counts (arcsIn (counts .arcs) words)) =
-      rw e (sym (text-length counts words (rw k tt))) in
-      (ap Bytes long ∙ rw (said, writtenOf), arcs-put counts words k e first part l f p ∙ rw (said, answerLeft))
+      rw e (sym (text-length counts words (rw k tt))) in (
+        written-said _ (ap Bytes long ∙ rw (said, writtenOf)),
+        arcs-put counts words k e first part l f p ∙ rw (said, answerLeft),
+      )

@@ -13,17 +13,17 @@ use Rattle.definitions.specs.Matrices.{Matrix, mostColumns, matrixWords}
 use Rattle.definitions.specs.Combinations.{Combination}
 use Rattle.definitions.specs.Metastates.{Metastate, starts, followersFrom}
 use Rattle.definitions.specs.Connecting.{startEvents, Network, noNetwork}
-use Rattle.definitions.specs.laws.Known.{header-ranges}
+use Rattle.definitions.specs.laws.books.AcceptedKnown.{header-ranges}
 use Rattle.tables.specs.Usable.{bookWith}
 use Rattle.matrix.specs.laws.Shapes.{around-length, around-words}
-use Rattle.network.specs.declared.Sizes.{Sizes}
-use Rattle.network.specs.declared.Step.{Step}
 use Rattle.matrix.specs.Shapes.{widthOf, matrixIn, HasWidth, columnsAround}
 use Rattle.matrix.specs.laws.Widths.{matrix-back, has-width}
-use Rattle.network.specs.Combinations.{combinationsIn, Usable}
-use Rattle.network.specs.Networks.{networkHeld, Holds}
-use Rattle.network.specs.Outcomes.{enteringAll, followedFrom, startedIn}
-use Rattle.network.specs.Steps.{StepLeft}
+use Rattle.index.specs.Combinations.{combinationsIn, Usable}
+use Rattle.metastates.specs.declared.Sizes.{Sizes}
+use Rattle.metastates.specs.declared.Step.{Step}
+use Rattle.metastates.specs.Networks.{networkHeld, Holds}
+use Rattle.metastates.specs.Outcomes.{enteringAll, followedFrom, startedIn}
+use Rattle.metastates.specs.Steps.{StepLeft}
 use Rattle.network.specs.laws.Starting.{beforeStart, starts-follow}
 
 -- no records hold no network
@@ -41,40 +41,42 @@ holds-none {half} {count} {metastates} {arcs} {chains} h =
     subst (λ (net : Network). Holds half count net metastates arcs chains)
     (sym (none-held half metastates arcs)) h
 
-module _ {header : Header} {combinations : List ℕ} (usable : Usable header combinations) {all : ℕ}
-    {columns : List ℕ} (a : all ≡ allPhones (min (header .phones) 64))
-    (e : columns ≡ take mostColumns (matrixWords (columnsAround (header .half) 1 1 all)))
+module _ {header : Header} {combinations : List ℕ} (usable : Usable header combinations) (all : ℕ)
+    {columns : List ℕ} (e : columns ≡ take mostColumns (matrixWords (columnsAround (header .half) 1 1 all)))
   where
-    columns-are : columns ≡ matrixWords (beforeStart header)
-    columns-are =
-        let ranges = header-ranges header (usable .header-known) in
-        let phones : min (header .phones) 64 ≡ header .phones = omega (arith, ranges .phones-range .high) in
-        e ∙ around-words (header .half) 1 1 all (ranges .half-range .high)
-        ∙ ap (λ (n : ℕ). matrixWords (columnsAround (header .half) 1 1 n)) (a ∙ ap allPhones phones)
+    before-words : columns ≡ matrixWords (columnsAround (header .half) 1 1 all)
+    before-words =
+        e ∙ around-words (header .half) 1 1 all (header-ranges header (usable .header-known) .half-range .high)
 
-    before-length : length (beforeStart header) ≡ widthOf (header .half)
-    before-length = omega (arith, around-length (header .half) 1 1 (allPhones (header .phones)))
+    before-length : length (columnsAround (header .half) 1 1 all) ≡ widthOf (header .half)
+    before-length = omega (arith, around-length (header .half) 1 1 all)
 
-    columns-is : matrixIn (header .half) columns ≡ beforeStart header
-    columns-is = matrix-back (beforeStart header) before-length columns-are
-
+    -- the matrix before the start, with any set in its right columns
     pub before-wide : HasWidth (widthOf (header .half)) columns
-    before-wide = has-width (beforeStart header) before-length columns-are
+    before-wide = has-width (columnsAround (header .half) 1 1 all) before-length before-words
 
     abbrev cs : List Combination
     cs = combinationsIn header combinations
 
-    pub started : (nodes : List ℕ) {metastates arcs chains metastates′ arcs′ chains′ : List ℕ} {answer : Step}
+    -- where all phones stand there, the start metastates are entered
+    columns-is : all ≡ allPhones (min (header .phones) 64) → matrixIn (header .half) columns ≡ beforeStart header
+    columns-is a =
+        let phones : min (header .phones) 64 ≡ header .phones =
+        omega (arith, header-ranges header (usable .header-known) .phones-range .high) in
+        matrix-back (columnsAround (header .half) 1 1 all) before-length before-words
+        ∙ ap (columnsAround (header .half) 1 1) (a ∙ ap allPhones phones)
+
+    pub started : all ≡ allPhones (min (header .phones) 64) → (nodes : List ℕ) {metastates arcs chains metastates′ arcs′ chains′ : List ℕ} {answer : Step}
         → StepLeft header combinations metastates arcs chains
         (followedFrom header nodes combinations metastates arcs none 0 columns)
         answer metastates′ arcs′ chains′
         → StepLeft header combinations metastates arcs chains
         (startedIn header nodes combinations metastates arcs) answer metastates′ arcs′ chains′
     unfolding startEvents starts bookWith arcsIn records
-    started nodes {metastates} {arcs} {chains} {metastates′} {arcs′} {chains′} {answer} left =
+    started a nodes {metastates} {arcs} {chains} {metastates′} {arcs′} {chains′} {answer} left =
         subst (λ (l : List Metastate).
         StepLeft header combinations metastates arcs chains
         (enteringAll header nodes combinations 0 metastates arcs noNetwork l)
         answer metastates′ arcs′ chains′)
-        (ap (λ (m : Matrix). followersFrom m 0 cs) columns-is
+        (ap (λ (m : Matrix). followersFrom m 0 cs) (columns-is a)
         ∙ sym (starts-follow header cs (usable .each))) left

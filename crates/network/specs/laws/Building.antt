@@ -21,22 +21,25 @@ use Rattle.definitions.specs.Metastates.{metastateWords}
 use Rattle.definitions.specs.Growing.{finished, stopped}
 use Rattle.definitions.specs.Connecting.{rulesOf, Network, Built, connect}
 use Rattle.definitions.specs.Building.{Space, roomIn, build, networkIn, buffersOf, noBuffers, buffersLeft}
-use Rattle.definitions.specs.laws.Judging.{passes-at, judge-answered}
-use Rattle.definitions.specs.laws.Records.{records-within}
-use Rattle.definitions.specs.laws.Lists.{padded-length, padded-take, clear-length, clear-itself}
-use Rattle.metastates.specs.declared.Combined.{Combined}
-use Rattle.metastates.specs.declared.Combined.the-variants as combined
-use Rattle.metastates.specs.Answers.{combinedOf, endsOf, endsLeft}
+use Rattle.definitions.specs.Said.{saidOf, progressOf, noProgress}
+use Rattle.definitions.specs.laws.text.Judging.{passes-at, judge-answered}
+use Rattle.definitions.specs.laws.lists.Records.{records-within}
+use Rattle.definitions.specs.laws.lists.Lists.{padded-length, padded-take, clear-length, clear-itself}
 use Rattle.tables.specs.Lending.{lentTables}
+use Rattle.combinations.specs.declared.Combined.{Combined}
+use Rattle.combinations.specs.declared.Combined.the-variants as combined
+use Rattle.combinations.specs.Answers.{combinedOf, combinedSaid, endsOf, endsLeft}
+use Rattle.combinations.specs.laws.Said.{combined-told}
+use Rattle.index.specs.Combinations.{combinationsIn, nodesBook, Modelled}
+use Rattle.metastates.specs.Networks.{roomOf}
+use Rattle.metastates.specs.Outcomes.{connectedIn}
 use Rattle.network.specs.declared.Totals.{Totals}
 use Rattle.network.specs.declared.Build.{Build}
 use Rattle.network.specs.declared.Build.the-variants as build
-use Rattle.network.specs.Answers.{buildOf, lentSpace, lentBuffers}
-use Rattle.network.specs.Combinations.{combinationsIn, nodesBook, Modelled}
-use Rattle.network.specs.Networks.{roomOf}
+use Rattle.network.specs.Answers.{buildOf, buildSaid, lentSpace, lentBuffers}
 use Rattle.network.specs.Workspace.{Ready}
-use Rattle.network.specs.Outcomes.{connectedIn}
-use Rattle.network.specs.Steps.{Connected, BuiltIn}
+use Rattle.network.specs.Connected.{Connected, BuiltIn}
+use Rattle.network.specs.laws.Said.{build-said}
 use Rattle.network.specs.laws.Nodes.{connect-nodes}
 use Rattle.network.specs.laws.UsableCombinations.{combinations-length, combinations-back}
 use Rattle.network.specs.laws.UsableCombinations.{combinations-usable, combinations-modelled}
@@ -201,13 +204,17 @@ module _ (header : Header) (nodes classes roots space : List ℕ) where
     abbrev building : (limit : ℕ) → Outcome Built
     building limit = build header tables lent limit
 
+    -- what it says of an answer
+    abbrev Says : (limit : ℕ) → Build → Type 0
+    Says limit answer = buildSaid answer ≡ saidOf (progressOf (header .states)) noProgress (building limit)
+
     -- what combining answered and left
     module _ {answer : Combined} {ends space₁ : List ℕ}
-        (e : answer ≡ combinedOf combining) (f : ends ≡ endsLeft book combining)
+        (e : combinedSaid answer ≡ saidOf length 0 combining) (f : ends ≡ endsLeft book combining)
         (g : space₁ ≡ combinationSpace (header .half) (length space) combining) where
       module _ (count : ℕ) (k : answer ≡ combined.Combinations count) where
         c : Counted count
-        c = counted e count k
+        c = counted (combined-told combining e) count k
 
         words-length : length words ≡ combinationSize (header .half) * count
         words-length =
@@ -303,23 +310,23 @@ module _ (header : Header) (nodes classes roots space : List ℕ) where
                   (b .metastates-cleared r q ∙ ap cleared (clear-length metastates metastates₁ m))
                   (b .arcs-cleared r q ∙ ap cleared (clear-length arcs arcs₁ a))
 
-              pub connect-returns : (own ≡ buildOf (header .states) (building limit))
+              pub connect-returns : Says limit own
                   × (lentBuffers space₂ metastates₂ arcs₂ ≡ buffersLeft book lent (building limit))
               connect-returns = (
-                b .answers ∙ ap (buildOf (header .states)) (sym built-is),
+                build-said (header .states) _ (b .answers ∙ ap (buildOf (header .states)) (sym built-is)),
                 left connected refl ∙ ap (buffersLeft book lent) (sym built-is),
               )
 
       -- what combining refuses, the build refuses
       pub combine-returns : (limit : ℕ) (r : Refusal) → answer ≡ combined.Refused r
-          → (build.Refused r ≡ buildOf (header .states) (building limit))
+          → Says limit (build.Refused r)
           × (lentBuffers space₁ metastates₁ arcs₁ ≡ buffersLeft book lent (building limit))
       unfolding build andThen buildOf buffersLeft noBuffers combinationSpace
       combine-returns limit r k =
-          let refuses : combining ≡ refused r = turned-down e r k in
+          let refuses : combining ≡ refused r = turned-down (combined-told combining e) r k in
           let none : building limit ≡ refused r =
           ap (λ o. andThen o (λ cs. connect (rulesOf book cs) (roomIn (header .half) lent) limit)) refuses in (
-            sym (ap (buildOf (header .states)) none),
+            build-said (header .states) _ (sym (ap (buildOf (header .states)) none)),
             buffers-equal (g ∙ ap (combinationSpace (header .half) (length space)) refuses) m a
                 ∙ sym (ap (buffersLeft book lent) none),
           )

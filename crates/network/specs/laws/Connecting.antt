@@ -16,30 +16,31 @@ use Rattle.definitions.specs.Metastates.{metastateWords}
 use Rattle.definitions.specs.Building.{roomIn, networkIn}
 use Rattle.definitions.specs.Growing.{Room, turnsFrom, grow}
 use Rattle.definitions.specs.Connecting.{rulesOf, startEvents, Network, noNetwork, machineOf}
-use Rattle.definitions.specs.laws.RefusalLines.{performs-line}
-use Rattle.network.specs.declared.Sizes.{Sizes}
-use Rattle.network.specs.declared.Step.{Step}
-use Rattle.network.specs.declared.Step.the-variants as step
+use Rattle.definitions.specs.laws.text.RefusalLines.{performs-line}
+use Rattle.index.specs.Combinations.{combinationsIn, nodesBook}
+use Rattle.index.specs.Indexing.{endsSize, farthest}
+use Rattle.index.specs.Filling.{Fillable, Filled}
+use Rattle.index.specs.laws.RecordWords.{combinations-length}
+use Rattle.index.specs.laws.Followers.{narrow}
+use Rattle.index.specs.laws.Filling.{indexed}
+use Rattle.metastates.specs.declared.Sizes.{Sizes}
+use Rattle.metastates.specs.declared.Step.{Step}
+use Rattle.metastates.specs.declared.Step.the-variants as step
+use Rattle.metastates.specs.Chains.{headsIn}
+use Rattle.metastates.specs.Networks.{networkHeld, metastateRoom, roomOf, Holds}
+use Rattle.metastates.specs.Outcomes.{startedIn, turnedFrom, connectedIn}
+use Rattle.metastates.specs.Steps.{AfterStep, StepLeft}
+use Rattle.metastates.specs.laws.Steps.{step-stop, next-answered}
+use Rattle.metastates.specs.laws.HeldBack.{held-empty}
+use Rattle.followers.specs.Spans.{spanSize}
+use Rattle.followers.specs.Turns.{BetweenTurns}
+use Rattle.followers.specs.laws.Spans.{no-spans-in}
 use Rattle.network.specs.declared.Build.{Build}
 use Rattle.network.specs.declared.Build.the-variants as build
 use Rattle.network.specs.Answers.{buildOf}
-use Rattle.network.specs.Chains.{headsIn}
-use Rattle.network.specs.Combinations.{combinationsIn, nodesBook}
-use Rattle.network.specs.Networks.{networkHeld, metastateRoom, roomOf, Holds}
-use Rattle.network.specs.Indexing.{endsSize, farthest}
-use Rattle.network.specs.Filling.{Fillable, Filled}
-use Rattle.network.specs.Spans.{spanSize}
-use Rattle.network.specs.Underway.{Startable, BetweenTurns}
-use Rattle.network.specs.Workspace.{Ready, Workspace}
-use Rattle.network.specs.Outcomes.{startedIn, turnedFrom, connectedIn}
-use Rattle.network.specs.Steps.{AfterStep, StepLeft, Connected}
-use Rattle.network.specs.laws.RecordWords.{combinations-length}
-use Rattle.network.specs.laws.Steps.{step-stop}
-use Rattle.network.specs.laws.HeldBack.{held-empty}
-use Rattle.network.specs.laws.Followers.{narrow}
-use Rattle.network.specs.laws.Filling.{indexed}
-use Rattle.network.specs.laws.Spans.{no-spans-in}
-use Rattle.network.specs.laws.Outcomes.{next-answered, refused-left}
+use Rattle.network.specs.Workspace.{Startable, Ready, Workspace}
+use Rattle.network.specs.Connected.{Connected}
+use Rattle.network.specs.laws.Refused.{refused-left}
 
 -- cleared words are words to work with
 pub cleared-workspace : {half : ℕ} {metastates : List ℕ} (chains spans index : ℕ)

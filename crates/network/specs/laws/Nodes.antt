@@ -10,7 +10,7 @@ use Rattle.definitions.specs.Growing.{Room}
 use Rattle.definitions.specs.Connecting.{Rules, rulesOf, connect}
 use Rattle.tables.specs.Lending.{lentTables}
 use Rattle.tables.specs.Usable.{bookWith}
-use Rattle.network.specs.Combinations.{nodesBook}
+use Rattle.index.specs.Combinations.{nodesBook}
 
 module _ (header : Header) (nodes classes roots : List ℕ) (cs : List Combination) where
   rules-nodes : rulesOf (tablesBook header (lentTables nodes classes roots)) cs

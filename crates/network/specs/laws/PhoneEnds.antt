@@ -6,20 +6,19 @@ use Prim.Native.Nat.{ℕ, suc, _+_, _-_, _≤_, _<_}
 use native.Mathlib.Omega.{arith}
 use lib.ListN.{length, length-append, List·getD-append}
 use lib.Seq.{getD-append-add}
-use Rattle.definitions.specs.Lists.{_!_, concatMap, upFrom, padded}
+use Rattle.definitions.specs.Lists.{_!_, concatMap, upFrom, padded, isIn}
 use Rattle.definitions.specs.Tables.{Book}
 use Rattle.definitions.specs.Combinations.{Combination, combinationsOf, combinations}
-use Rattle.definitions.specs.Metastates.{noCombination}
-use Rattle.definitions.specs.laws.Lists.{concatMap-append, map-upFrom-length, map-upFrom-at, padded-length}
-use Rattle.definitions.specs.laws.Lists.{upFrom-parts}
-use Rattle.definitions.specs.laws.Members.{isIn, in-at, of-concatMap, of-upFrom}
-use Rattle.definitions.specs.laws.SevenWords.{padded-column}
-use Rattle.definitions.specs.laws.Sound.{Sound}
+use Rattle.definitions.specs.Metastates.{noCombination, numbered}
+use Rattle.definitions.specs.laws.lists.Lists.{concatMap-append, map-upFrom-length, map-upFrom-at}
+use Rattle.definitions.specs.laws.lists.Lists.{padded-length, upFrom-parts}
+use Rattle.definitions.specs.laws.lists.Members.{in-at, of-concatMap, of-upFrom}
+use Rattle.definitions.specs.laws.matrices.SevenWords.{padded-column}
+use Rattle.definitions.specs.laws.books.Sound.{Sound}
 use Rattle.definitions.specs.demand.Carrier.{topOf, top-wide}
 use Rattle.definitions.specs.demand.Chosen.{choose-begins}
-use Rattle.metastates.specs.Answers.{endOf, endsOf}
-use Rattle.definitions.specs.laws.Metastates.{numbered}
-use Rattle.network.specs.Combinations.{EndsAt}
+use Rattle.combinations.specs.Answers.{endOf, endsOf}
+use Rattle.index.specs.Combinations.{EndsAt}
 
 module _ (book : Book) (sound : Sound book) where
   abbrev ofPhones : (first count : ℕ) → List Combination

@@ -16,15 +16,14 @@ use Rattle.definitions.specs.Lists.{if_then_else_, _!_}
 use Rattle.definitions.specs.PhoneSets.{has, alone, allPhones}
 use Rattle.definitions.specs.Matrices.{Matrix, valid, meet, startCut}
 use Rattle.definitions.specs.Combinations.{Combination}
-use Rattle.definitions.specs.Metastates.{Metastate, startsFrom, followersFrom}
-use Rattle.definitions.specs.laws.Tests.{T-and, by-test}
-use Rattle.definitions.specs.laws.PhoneSets.{has-and, has-alone, same-members, within-all}
-use Rattle.definitions.specs.laws.Matrices.{meet-column, meet-length, start-column, start-other, start-length}
-use Rattle.definitions.specs.laws.Matrices.{valid-columns}
+use Rattle.definitions.specs.Metastates.{Metastate, startsFrom, followersFrom, numbered}
+use Rattle.definitions.specs.laws.lists.Tests.{T-and, by-test}
+use Rattle.definitions.specs.laws.matrices.PhoneSets.{has-and, has-alone, same-members, within-all}
+use Rattle.definitions.specs.laws.matrices.Matrices.{meet-column, meet-length, start-column, start-other}
+use Rattle.definitions.specs.laws.matrices.Matrices.{start-length, valid-columns}
 use Rattle.matrix.specs.Shapes.{columnsAround}
 use Rattle.matrix.specs.laws.Shapes.{around-length, around-left, around-centre, around-right}
-use Rattle.definitions.specs.laws.Metastates.{numbered}
-use Rattle.network.specs.Combinations.{IsCombination}
+use Rattle.index.specs.Combinations.{IsCombination}
 
 -- the matrix that the starts follow
 abbrev pub beforeStart : Header → Matrix

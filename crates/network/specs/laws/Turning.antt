@@ -19,23 +19,25 @@ use Rattle.definitions.specs.Metastates.{metastateWords}
 use Rattle.definitions.specs.Building.{roomIn, networkIn, countsIn}
 use Rattle.definitions.specs.Growing.{Room, finished, stopped, grownIn, expand, turnsFrom}
 use Rattle.definitions.specs.Connecting.{Network, Built, machineOf}
-use Rattle.definitions.specs.laws.RefusalLines.{performs-line}
-use Rattle.network.specs.declared.Sizes.{Sizes}
-use Rattle.network.specs.declared.Step.{Step}
-use Rattle.network.specs.declared.Step.the-variants as step
+use Rattle.definitions.specs.laws.text.RefusalLines.{performs-line}
+use Rattle.index.specs.Combinations.{combinationsIn, nodesBook, machineIn}
+use Rattle.index.specs.laws.Followers.{narrow}
+use Rattle.metastates.specs.declared.Sizes.{Sizes}
+use Rattle.metastates.specs.declared.Step.{Step}
+use Rattle.metastates.specs.declared.Step.the-variants as step
+use Rattle.metastates.specs.Networks.{networkHeld, roomOf}
+use Rattle.metastates.specs.Underway.{Underway}
+use Rattle.metastates.specs.Outcomes.{expandedAt, turnedFrom}
+use Rattle.metastates.specs.Steps.{AfterStep}
+use Rattle.metastates.specs.laws.Steps.{step-stop, next-answered}
+use Rattle.metastates.specs.laws.HoldsMore.{held-sizes}
+use Rattle.followers.specs.Turns.{BetweenTurns, TurnLeft}
 use Rattle.network.specs.declared.Totals.{Totals}
 use Rattle.network.specs.declared.Build.{Build}
 use Rattle.network.specs.declared.Build.the-variants as build
 use Rattle.network.specs.Answers.{totalsOf, buildOf}
-use Rattle.network.specs.Combinations.{combinationsIn, nodesBook, machineIn}
-use Rattle.network.specs.Networks.{networkHeld, roomOf}
-use Rattle.network.specs.Underway.{Underway, BetweenTurns}
-use Rattle.network.specs.Outcomes.{expandedAt, turnedFrom}
-use Rattle.network.specs.Steps.{AfterStep, TurnLeft, Connected}
-use Rattle.network.specs.laws.Steps.{step-stop}
-use Rattle.network.specs.laws.HoldsMore.{held-sizes}
-use Rattle.network.specs.laws.Followers.{narrow}
-use Rattle.network.specs.laws.Outcomes.{next-answered, refused-left}
+use Rattle.network.specs.Connected.{Connected}
+use Rattle.network.specs.laws.Refused.{refused-left}
 
 -- ---- the turns of the definition
 

@@ -9,32 +9,31 @@ use lib.Dec.{T}
 use lib.ListN.{length, take, drop, length-append}
 use lib.Seq.{take-at, drop-at}
 use Rattle.definitions.specs.declared.Header.{Header}
-use Rattle.definitions.specs.Lists.{_!_, concatMap, cleared, padded}
+use Rattle.definitions.specs.Lists.{_!_, concatMap, cleared, padded, isIn}
 use Rattle.definitions.specs.Matrices.{matrixSize, matrixRecord}
 use Rattle.definitions.specs.Tables.{Book, tablesBook, bookIn, tablesContents}
 use Rattle.definitions.specs.ForeignTables.{tablesKnown}
 use Rattle.definitions.specs.BookLines.{leaf}
 use Rattle.definitions.specs.Lookup.{nodeAt}
 use Rattle.definitions.specs.Combinations.{Combination, combinations, combinationSize, combinationWords}
-use Rattle.definitions.specs.Metastates.{noCombination}
-use Rattle.definitions.specs.laws.Lists.{padded-length, padded-take}
-use Rattle.definitions.specs.laws.Members.{isIn, in-at, place-of, map-back}
-use Rattle.definitions.specs.laws.Records.{written-length, written-all}
-use Rattle.definitions.specs.laws.Sizes.{record-length}
-use Rattle.definitions.specs.laws.Ranges.{phone-range}
-use Rattle.definitions.specs.laws.Books.{InRange}
-use Rattle.definitions.specs.laws.Tables.{tree-nodes-length}
+use Rattle.definitions.specs.Metastates.{noCombination, numbered}
+use Rattle.definitions.specs.laws.lists.Lists.{padded-length, padded-take}
+use Rattle.definitions.specs.laws.lists.Members.{in-at, place-of, map-back}
+use Rattle.definitions.specs.laws.lists.Records.{written-length, written-all}
+use Rattle.definitions.specs.laws.matrices.Sizes.{record-length}
+use Rattle.definitions.specs.laws.text.Ranges.{phone-range}
+use Rattle.definitions.specs.Ranges.{InRange}
+use Rattle.definitions.specs.laws.books.Tables.{tree-nodes-length}
 use Rattle.definitions.specs.demand.Windows.{valid-through}
 use Rattle.definitions.specs.demand.Chosen.{Chosen, chosen-at}
-use Rattle.metastates.specs.Answers.{endsOf}
+use Rattle.definitions.specs.laws.books.AcceptedKnown.{header-ranges}
 use Rattle.tables.specs.Lending.{lentTables}
 use Rattle.tables.specs.Usable.{bookWith}
-use Rattle.definitions.specs.laws.Known.{header-ranges}
-use Rattle.matrix.specs.Shapes.{matrixIn}
 use Rattle.tables.specs.laws.KnownTables.{known-header, known-sound}
-use Rattle.definitions.specs.laws.Metastates.{numbered}
-use Rattle.network.specs.Combinations.{combinationIn, combinationsIn, IsCombination}
-use Rattle.network.specs.Combinations.{nodesBook, Usable, Modelled, EndsAt, Ending}
+use Rattle.matrix.specs.Shapes.{matrixIn}
+use Rattle.combinations.specs.Answers.{endsOf}
+use Rattle.index.specs.Combinations.{combinationIn, combinationsIn, IsCombination, nodesBook, Usable, Modelled}
+use Rattle.index.specs.Combinations.{EndsAt, Ending}
 use Rattle.network.specs.laws.PhoneEnds.{ends-sized, ends-at}
 
 -- ---- combinations read back

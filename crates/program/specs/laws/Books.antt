@@ -16,16 +16,19 @@ use Rattle.definitions.specs.Connecting.{Built}
 use Rattle.definitions.specs.Building.{Space, build, networkIn, countsIn, Buffers, buffersOf, buffersLeft}
 use Rattle.definitions.specs.BookBuilding.{BookBuilt, buildRead, buildBook, buffersAfter}
 use Rattle.definitions.specs.NetworkText.{networkKnown}
-use Rattle.definitions.specs.Program.{textOfBuilt, networkOf, refusalText, printed}
-use Rattle.definitions.specs.laws.Judging.{andThen-answered}
-use Rattle.definitions.specs.laws.Records.{arcs-read}
-use Rattle.definitions.specs.laws.RefusalLines.{built-line}
+use Rattle.definitions.specs.Said.{saidOf, noProgress, bookProgress}
+use Rattle.definitions.specs.Program.{programLent, programSpace, programTurns, textOfBuilt, networkOf}
+use Rattle.definitions.specs.Program.{refusalText, printed}
+use Rattle.definitions.specs.laws.text.Judging.{andThen-answered}
+use Rattle.definitions.specs.laws.lists.Records.{arcs-read}
+use Rattle.definitions.specs.laws.text.RefusalLines.{built-line}
 use Rattle.network.specs.declared.Build.{Build}
 use Rattle.network.specs.declared.Build.the-variants as build
-use Rattle.network.specs.Answers.{buildOf, totalsOf}
+use Rattle.network.specs.Answers.{buildOf, buildSaid, totalsOf}
 use Rattle.builder.specs.Answers.{bookAnswer}
-use Rattle.nettext.specs.laws.BuiltNetworks.{built-known}
-use Rattle.program.specs.Printing.{textIn}
+use Rattle.builder.specs.laws.Said.{book-told as book-answered}
+use Rattle.program.specs.laws.BuiltNetworks.{built-known}
+use Rattle.program.specs.Printing.{textIn, bookText}
 
 -- ---- what is told of an answer and the words in the arc buffer
 
@@ -105,12 +108,21 @@ module _ (lent : Lent) (space : Space) where
     outcome-told (answered b) = book-told b
     outcome-told (refused r) = refl
 
-    module _ (answer : Build) (buffers : Buffers) (told : answer ≡ bookAnswer (buildBook lent space limit text))
+    module _ (answer : Build) (buffers : Buffers)
+        (says : buildSaid answer ≡ saidOf bookProgress noProgress (buildBook lent space limit text))
         (left : buffers ≡ buffersAfter lent space (buildBook lent space limit text))
       where
+        told : answer ≡ bookAnswer (buildBook lent space limit text)
+        told = book-answered (buildBook lent space limit text) says
+
         pub answer-printable : length text ≤ 65536 → Printable answer (buffers .arcs)
         answer-printable h = rw (told, left) (outcome-printable (buildBook lent space limit text) refl h)
 
         pub answer-told : textTold answer (buffers .arcs)
             ≡ printed (networkOf (buildBook lent space limit text))
         answer-told = rw (told, left) (outcome-told (buildBook lent space limit text))
+
+        -- what is told is what the program prints of the book, where the build had its turns and its space
+        pub answer-text : limit ≡ programTurns → lent ≡ programLent → space ≡ programSpace
+            → textTold answer (buffers .arcs) ≡ bookText text
+        answer-text turns tables room = answer-told ∙ rw (turns, tables, room)

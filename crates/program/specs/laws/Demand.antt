@@ -21,15 +21,15 @@ use Rattle.definitions.specs.Growing.{finished, stopped, grownIn}
 use Rattle.definitions.specs.Connecting.{Built}
 use Rattle.definitions.specs.Building.{build, countsIn, buffersLeft}
 use Rattle.definitions.specs.BookBuilding.{BookBuilt, buildRead, buildBook}
-use Rattle.definitions.specs.Program.{programLent, programSpace, programTurns, textOfBuilt, networkOf, refusalText}
-use Rattle.definitions.specs.Program.{printed, program}
-use Rattle.definitions.specs.laws.Tests.{by-test}
-use Rattle.definitions.specs.laws.Judging.{andThen-answered}
-use Rattle.definitions.specs.laws.Lines.{line-letter}
-use Rattle.definitions.specs.laws.Program.{program-long, program-short}
+use Rattle.definitions.specs.Program.{programLent, programSpace, programTurns, textOfBuilt, networkOf}
+use Rattle.definitions.specs.Program.{refusalText, printed, program}
+use Rattle.definitions.specs.laws.lists.Tests.{by-test}
+use Rattle.definitions.specs.laws.text.Judging.{andThen-answered}
+use Rattle.definitions.specs.laws.text.Lines.{line-letter}
+use Rattle.definitions.specs.laws.networks.Program.{program-long, program-short}
 use Rattle.definitions.specs.construction.Turns.{program-never-stopped}
 use Rattle.definitions.specs.demand.Demand.{Demand3, demand3}
-use Rattle.nettext.specs.laws.RoundTrips.{built-read}
+use Rattle.program.specs.laws.RoundTrips.{built-read}
 use Rattle.program.specs.Printing.{Prints}
 use Rattle.program.specs.Demand.{PrintsDemand3}
 

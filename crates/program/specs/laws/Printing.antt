@@ -16,15 +16,16 @@ use Rattle.definitions.specs.Faults.{answered, numberOf, answerLeft}
 use Rattle.definitions.specs.Arcs.{arcSize}
 use Rattle.definitions.specs.NetworkText.{networkKnown, writeNetwork}
 use Rattle.definitions.specs.Program.{refusalText}
-use Rattle.definitions.specs.laws.Lists.{drop-cleared, padded-none, padded-length}
-use Rattle.definitions.specs.laws.NetworkKnown.{known-holds}
-use Rattle.definitions.specs.laws.RoundTrips.{known-written}
-use Rattle.definitions.specs.laws.Program.{fault-small, refusal-length}
+use Rattle.definitions.specs.laws.lists.Lists.{drop-cleared, padded-none, padded-length}
+use Rattle.definitions.specs.laws.networks.KnownNetworks.{known-holds}
+use Rattle.definitions.specs.laws.networks.RoundTrips.{known-written}
+use Rattle.definitions.specs.laws.networks.Program.{fault-small, refusal-length}
 use Rattle.lines.specs.declared.Row.{Row}
-use Rattle.lines.specs.Rows.{lineIn, writable, written}
-use Rattle.lines.specs.declared.Written.{Written}
-use Rattle.lines.specs.declared.Written.the-variants as written
-use Rattle.lines.specs.Answers.{writtenOf}
+use Rattle.lines.specs.Rows.{lineIn}
+use Rattle.writing.specs.Writing.{writable, written}
+use Rattle.writing.specs.declared.Written.{Written}
+use Rattle.writing.specs.declared.Written.the-variants as written
+use Rattle.writing.specs.Answers.{writtenOf}
 use Rattle.program.specs.Printing.{outputSize, Empty, Prints, textIn}
 
 -- ---- an empty output

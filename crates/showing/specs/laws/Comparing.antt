@@ -8,7 +8,7 @@ use lib.ListN.{length, take}
 use lib.Seq.{take-length}
 use borrow.Author.Tests.{ne-eqb}
 use Rattle.definitions.specs.Lists.{_!_}
-use Rattle.definitions.specs.laws.Tests.{by-test}
+use Rattle.definitions.specs.laws.lists.Tests.{by-test}
 use Rattle.showing.specs.Used.{usedOf}
 
 -- a zero at the end of a part counts for nothing

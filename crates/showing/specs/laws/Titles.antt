@@ -9,7 +9,7 @@ use lib.ListN.{length, take, drop, drop-of-length-le, length-take, length-drop}
 use lib.Seq.{drop-cons, take-all}
 use borrow.Author.Tests.{eq-eqb, ne-eqb}
 use Rattle.definitions.specs.Lists.{_!_}
-use Rattle.definitions.specs.laws.Lists.{drop-take}
+use Rattle.definitions.specs.laws.lists.Lists.{drop-take}
 use Rattle.showing.specs.Titles.{placeOf, titleOf, endOf, textOf}
 
 -- ---- finding a byte

@@ -13,25 +13,24 @@ use Rattle.definitions.specs.declared.Header.{Header}
 use Rattle.definitions.specs.declared.Node.{Node}
 use Rattle.definitions.specs.Lists.{records}
 use Rattle.definitions.specs.BookLines.{rootCount}
-use Rattle.definitions.specs.BookReading.{nodeSize}
+use Rattle.definitions.specs.BookReading.{nodeSize, ChildOnce}
 use Rattle.definitions.specs.Tables.{Tables, nodeOf, treeNode, nodeRecords, tablesBook, askedOf, Contents}
 use Rattle.definitions.specs.Tables.{tablesContents, bookIn}
 use Rattle.definitions.specs.ForeignTables.{headerKnown, nodesKnown, classTableKnown, rootTableKnown, namedOnce}
 use Rattle.definitions.specs.ForeignTables.{tablesKnown}
 use Rattle.definitions.specs.Lookup.{nodeAt}
-use Rattle.definitions.specs.laws.Records.{record-at}
-use Rattle.definitions.specs.laws.Tables.{node-of-first, tree-nodes-length}
-use Rattle.definitions.specs.laws.Accepted.{allFrom, NodeFits, QuestionFits, question-fitting}
-use Rattle.definitions.specs.laws.Accepted.{fitting-forward, fitting-sound}
-use Rattle.definitions.specs.laws.Walks.{Forward}
-use Rattle.definitions.specs.laws.Known.{header-ranges, tables-parts, holds-padded}
-use Rattle.definitions.specs.laws.KnownBooks.{known-nodes, node-table-parts, class-table-parts, root-table-parts}
-use Rattle.definitions.specs.laws.KnownBooks.{none-orphaned, known-stated}
-use Rattle.definitions.specs.laws.Sound.{Sound}
-use Rattle.definitions.specs.laws.NamedOnce.{ChildOnce, child-once}
+use Rattle.definitions.specs.laws.lists.Records.{record-at}
+use Rattle.definitions.specs.laws.books.Tables.{node-of-first, tree-nodes-length}
+use Rattle.definitions.specs.laws.books.Accepted.{allFrom, NodeFits, QuestionFits, question-fitting}
+use Rattle.definitions.specs.laws.books.Accepted.{fitting-forward, fitting-sound}
+use Rattle.definitions.specs.laws.trees.Walks.{Forward}
+use Rattle.definitions.specs.laws.books.AcceptedKnown.{header-ranges, tables-parts, holds-padded}
+use Rattle.definitions.specs.laws.books.KnownBooks.{known-nodes, node-table-parts, class-table-parts}
+use Rattle.definitions.specs.laws.books.KnownBooks.{root-table-parts, none-orphaned, known-stated}
+use Rattle.definitions.specs.laws.books.Sound.{Sound}
+use Rattle.definitions.specs.laws.books.NamedOnce.{child-once}
 use Rattle.tables.specs.Lending.{lentTables}
-use Rattle.tables.specs.laws.Records.{treeNodes}
-use Rattle.tables.specs.Usable.{bookWith, RootsListed, Fit}
+use Rattle.tables.specs.Usable.{treeNodes, bookWith, RootsListed, Fit}
 
 -- ---- the record of a node
 

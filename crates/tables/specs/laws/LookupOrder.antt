@@ -12,7 +12,7 @@ use Rattle.definitions.specs.BookReading.{nodeSize}
 use Rattle.definitions.specs.Tables.{nodeRecords}
 use Rattle.definitions.specs.ForeignTables.{headerKnown, nodesKnown, holdsOnly, nodeTableKnown, classTableKnown}
 use Rattle.definitions.specs.Lookup.{lookupKnown}
-use Rattle.definitions.specs.laws.Tables.{node-records-length}
+use Rattle.definitions.specs.laws.books.Tables.{node-records-length}
 
 -- the length of the table is tested after the header, with its records; that there are as many of these as the
 -- header says needs no test

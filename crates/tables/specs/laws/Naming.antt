@@ -8,17 +8,17 @@ use native.Mathlib.Nat.{zero-add}
 use native.Mathlib.Omega.{arith}
 use native.Mathlib.Decide.{ℕ-discrete}
 use native.Mathlib.Numerals.{add-one}
-use borrow.Author.Tests.{lt-ltb, le-ltb, eq-eqb, ne-eqb, ltb-true, ltb-false}
 use lib.Dec.{ltb, eqb}
-use lib.ListN.{length, set, take, drop, replicate, length-append, length-set, length-replicate}
-use lib.ListN.{getD-replicate, drop-of-length-le}
+use lib.ListN.{length, set, take, drop, replicate, length-append, length-set, length-replicate, getD-replicate}
+use lib.ListN.{drop-of-length-le}
 use lib.Seq.{ext-getD, append-snoc, getD-set-same, getD-set-other, getD-take, length-take-le, drop-cons}
+use borrow.Author.Tests.{lt-ltb, le-ltb, eq-eqb, ne-eqb, ltb-true, ltb-false}
 use Rattle.definitions.specs.Lists.{_!_, select, concatMap, upFrom, occurrences}
 use Rattle.definitions.specs.BookLines.{TreeNode, question, leaf, childrenOf}
 use Rattle.definitions.specs.BookReading.{orphans}
-use Rattle.definitions.specs.laws.Tests.{by-test}
-use Rattle.definitions.specs.laws.Lists.{map-upFrom-length, map-upFrom-at}
-use Rattle.definitions.specs.laws.Occurrences.{occurrences-append, occurrences-least}
+use Rattle.definitions.specs.laws.lists.Tests.{by-test}
+use Rattle.definitions.specs.laws.lists.Lists.{map-upFrom-length, map-upFrom-at}
+use Rattle.definitions.specs.laws.lists.Occurrences.{occurrences-append, occurrences-least}
 use Rattle.tables.specs.Naming.{countsOf, namedAgain, namedAll, firstMisnamed, allNames}
 
 -- ---- how often a number stands in a list

@@ -8,7 +8,7 @@ use native.Mathlib.Omega.{arith}
 use lib.Dec.{T, ltb, ltb→lt, lt→ltb}
 use lib.Pow.{pow-pos}
 use borrow.Author.Tests.{lt-ltb, ltb-true}
-use Rattle.definitions.specs.laws.Tests.{by-test, same-tests}
+use Rattle.definitions.specs.laws.lists.Tests.{by-test, same-tests}
 
 -- ---- records
 

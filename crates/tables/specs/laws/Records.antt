@@ -9,10 +9,9 @@ use lib.Seq.{getD-drop, drop-drop}
 use Rattle.definitions.specs.declared.Header.{Header}
 use Rattle.definitions.specs.declared.Node.{Node}
 use Rattle.definitions.specs.Lists.{_!_, records}
-use Rattle.definitions.specs.BookLines.{TreeNode}
 use Rattle.definitions.specs.BookReading.{nodeSize}
-use Rattle.definitions.specs.Tables.{nodeOf, treeNode, nodeRecords}
-use Rattle.definitions.specs.laws.Tables.{node-of-first}
+use Rattle.definitions.specs.Tables.{nodeOf, nodeRecords}
+use Rattle.definitions.specs.laws.books.Tables.{node-of-first}
 
 -- five words from a place on are a record
 pub node-from-words : (words : List ℕ) (at : ℕ) {kind value position yesNode noNode : ℕ}
@@ -22,10 +21,6 @@ pub node-from-words : (words : List ℕ) (at : ℕ) {kind value position yesNode
     ≡ nodeOf (drop at words)
 unfolding nodeOf
 node-from-words words at a b c d e = rw (a, b, c, d, e) (simp (getD-drop, add-zero))
-
--- the nodes that the records are
-abbrev pub treeNodes : Header → (words : List ℕ) → List TreeNode
-treeNodes header words = map treeNode (nodeRecords header words)
 
 -- the records from a node on
 abbrev pub recordsFrom : (nodes at : ℕ) → (words : List ℕ) → List Node

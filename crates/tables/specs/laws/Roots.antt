@@ -12,7 +12,7 @@ use lib.Seq.{getD-take, length-take-le}
 use Rattle.definitions.specs.declared.Header.{Header}
 use Rattle.definitions.specs.Lists.{_!_}
 use Rattle.definitions.specs.BookLines.{rootCount}
-use Rattle.definitions.specs.laws.Tests.{every-at}
+use Rattle.definitions.specs.laws.lists.Tests.{every-at}
 use Rattle.tables.specs.Usable.{RootsListed}
 
 tree-place : (header : Header) (phone state : ℕ) → 1 ≤ phone → phone ≤ header .phones → 1 ≤ state

@@ -17,8 +17,8 @@ use Rattle.definitions.specs.BookReading.{nodeSize}
 use Rattle.definitions.specs.Tables.{nodeOf}
 use Rattle.definitions.specs.ForeignTables.{questionKnown, leafKnown, nodesKnown, holdsOnly, nodeTableKnown}
 use Rattle.definitions.specs.ForeignTables.{rootTableKnown}
-use Rattle.definitions.specs.laws.Known.{holds-padded}
-use Rattle.definitions.specs.laws.KnownBooks.{root-table-parts}
+use Rattle.definitions.specs.laws.books.AcceptedKnown.{holds-padded}
+use Rattle.definitions.specs.laws.books.KnownBooks.{root-table-parts}
 use Rattle.lines.specs.laws.Passing.{Passed}
 use Rattle.tables.specs.laws.Records.{recordsFrom, records-start, records-next, records-end}
 

@@ -9,18 +9,20 @@ use lib.ListN.{length}
 use Rattle.definitions.specs.declared.Header.{Header}
 use Rattle.definitions.specs.declared.Node.{Node}
 use Rattle.definitions.specs.Faults.{judge}
+use Rattle.definitions.specs.Said.{saidOf}
 use Rattle.definitions.specs.Lists.{concatMap, cleared, padded}
 use Rattle.definitions.specs.BookReading.{nodeSize}
 use Rattle.definitions.specs.Tables.{recordWords, nodeOf, nodeRecords}
 use Rattle.definitions.specs.ForeignTables.{holdsOnly}
 use Rattle.definitions.specs.Lookup.{leafLookup, leafLookupInTable}
-use Rattle.definitions.specs.laws.Tests.{if-true}
-use Rattle.definitions.specs.laws.Members.{map-back}
-use Rattle.definitions.specs.laws.Records.{flat-length}
-use Rattle.definitions.specs.laws.Tables.{written-nodes}
-use Rattle.definitions.specs.laws.Known.{holds-used}
+use Rattle.definitions.specs.laws.lists.Tests.{if-true}
+use Rattle.definitions.specs.laws.lists.Members.{map-back}
+use Rattle.definitions.specs.laws.lists.Records.{flat-length}
+use Rattle.definitions.specs.laws.books.Tables.{written-nodes}
+use Rattle.definitions.specs.laws.books.AcceptedKnown.{holds-used}
 use Rattle.trees.specs.declared.Lookup.{Lookup}
-use Rattle.trees.specs.Answers.{lookupOf}
+use Rattle.trees.specs.Answers.{lookupOf, lookupSaid}
+use Rattle.trees.specs.laws.Said.{lookup-told}
 
 -- ---- over a table of words and over its records
 
@@ -74,12 +76,12 @@ module _ (header : Header) (nodes : List Node) (counted : length nodes ≡ heade
 -- of the two entries ensure of their answers.
 module _ (header : Header) (classes : List ℕ) (nodes : List Node) (root : ℕ) (context : List ℕ) (beyond : ℕ)
     (counted : length nodes ≡ header .nodes) (of-structs of-words : Lookup)
-    (structs-answer : of-structs ≡ lookupOf (leafLookup header classes nodes root context))
-    (words-answer : of-words ≡ lookupOf
+    (structs-say : lookupSaid of-structs ≡ saidOf (λ leaf. leaf) 0 (leafLookup header classes nodes root context))
+    (words-say : lookupSaid of-words ≡ saidOf (λ leaf. leaf) 0
     (leafLookupInTable header classes (concatMap recordWords nodes ++ cleared beyond) root context))
   where
     -- then they answer the same, refusals too
     pub answers-agree : of-structs ≡ of-words
     answers-agree =
         let same = structs-agree header nodes counted beyond classes root context in
-        structs-answer ∙ sym (words-answer ∙ ap lookupOf same)
+        lookup-told _ structs-say ∙ sym (lookup-told _ words-say ∙ ap lookupOf same)

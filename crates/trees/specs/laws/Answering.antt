@@ -14,6 +14,7 @@ use Rattle.definitions.specs.declared.Fault.{Fault}
 use Rattle.definitions.specs.declared.Fault.the-variants.{Foreign, Range, Utterance, Short}
 use Rattle.definitions.specs.declared.Refusal.{Refusal}
 use Rattle.definitions.specs.Faults.{refuse, judge, answerLeft}
+use Rattle.definitions.specs.Said.{saidOf}
 use Rattle.definitions.specs.Lists.{every, cleared, padded}
 use Rattle.definitions.specs.BookLines.{isPhone}
 use Rattle.definitions.specs.BookReading.{nodeSize}
@@ -22,14 +23,16 @@ use Rattle.definitions.specs.ForeignTables.{headerKnown, nodesKnown, holdsOnly,
 use Rattle.definitions.specs.Lookup.{leafReached, lookupKnown, isContext, leafLookup, leafLookupInTable}
 use Rattle.definitions.specs.TreesGive.{silentEnds}
 use Rattle.definitions.specs.Transcription.{transcription, isUtterance, transcribe}
-use Rattle.definitions.specs.laws.Tests.{T-three, by-test}
-use Rattle.definitions.specs.laws.Lists.{drop-cleared}
+use Rattle.definitions.specs.laws.lists.Tests.{T-three, by-test}
+use Rattle.definitions.specs.laws.lists.Lists.{drop-cleared}
+use Rattle.tables.specs.Usable.{treeNodes}
+use Rattle.tables.specs.laws.KnownTables.{tables-fit}
+use Rattle.trees.specs.declared.Lookup.{Lookup}
 use Rattle.trees.specs.declared.Lookup.the-variants as lookup
 use Rattle.trees.specs.declared.Transcript.{Transcript}
 use Rattle.trees.specs.declared.Transcript.the-variants as transcript
-use Rattle.trees.specs.Answers.{lookupOf, transcriptOf}
-use Rattle.tables.specs.laws.Records.{treeNodes}
-use Rattle.tables.specs.laws.KnownTables.{tables-fit}
+use Rattle.trees.specs.Answers.{lookupOf, lookupSaid, transcriptSaid}
+use Rattle.trees.specs.laws.Said.{lookup-said}
 use Rattle.trees.specs.laws.Agreement.{tables-agree}
 use Rattle.trees.specs.laws.Models.{transcription-length}
 
@@ -80,33 +83,33 @@ module _ (header : Header) (words classes : List ℕ) (root : ℕ) (context : Li
   abbrev known : Bool
   known = lookupKnown header classes (nodeRecords header words) root
 
-  in-table : held ≡ true
-      → lookupOf (leafLookup header classes (nodeRecords header words) root context)
-      ≡ lookupOf (leafLookupInTable header classes words root context)
-  in-table e = ap lookupOf (sym (tables-agree header classes words root context (rw e tt)))
+  abbrev Says : Lookup → Type 0
+  Says found = lookupSaid found ≡ saidOf (λ leaf. leaf) 0 (leafLookupInTable header classes words root context)
 
-  pub lookup-foreign : (held && known) ≡ false
-      → lookup.Refused (at-no-line Foreign) ≡ lookupOf (leafLookupInTable header classes words root context)
-  unfolding leafLookupInTable judge lookupOf
+  in-table : {found : Lookup} → held ≡ true
+      → found ≡ lookupOf (leafLookup header classes (nodeRecords header words) root context) → Says found
+  in-table e h =
+      lookup-said _ (h ∙ ap lookupOf (sym (tables-agree header classes words root context (rw e tt))))
+
+  pub lookup-foreign : (held && known) ≡ false → Says (lookup.Refused (at-no-line Foreign))
+  unfolding leafLookupInTable judge saidOf
   lookup-foreign h =
       by-test held
       (λ e. let other : known ≡ false = rw e at h in
-      records-foreign header classes (nodeRecords header words) root context other ∙ in-table e)
+      in-table e (records-foreign header classes (nodeRecords header words) root context other))
       (λ e. rw e)
 
   module _ (h : (held && known) ≡ true) where
-    pub lookup-range : isContext header context ≡ false
-        → lookup.Refused (at-no-line Range) ≡ lookupOf (leafLookupInTable header classes words root context)
+    pub lookup-range : isContext header context ≡ false → Says (lookup.Refused (at-no-line Range))
     lookup-range e =
         let (words-held, all) = both held known h in
-        records-range header classes (nodeRecords header words) root context all e ∙ in-table words-held
+        in-table words-held (records-range header classes (nodeRecords header words) root context all e)
 
     pub lookup-leaf : isContext header context ≡ true → (leaf : ℕ)
-        → leaf ≡ leafReached (treeNodes header words) classes context root
-        → lookup.Leaf leaf ≡ lookupOf (leafLookupInTable header classes words root context)
+        → leaf ≡ leafReached (treeNodes header words) classes context root → Says (lookup.Leaf leaf)
     lookup-leaf e leaf own =
         let (words-held, all) = both held known h in
-        records-leaf header classes (nodeRecords header words) root context all e leaf own ∙ in-table words-held
+        in-table words-held (records-leaf header classes (nodeRecords header words) root context all e leaf own)
 
     pub lookup-fits : T (nodesKnown header 0 (nodeRecords header words)) × (root < header .nodes)
     lookup-fits = records-fit header classes (nodeRecords header words) root context (both held known h .1)
@@ -137,13 +140,13 @@ module _ (header : Header) (tables : Tables) (S : List ℕ) (size : ℕ) (answer
     -- what the code answers and leaves in the buffer
     abbrev Ends : Type 0
     Ends =
-        (answer ≡ transcriptOf (transcribe header tables S size))
+        (transcriptSaid answer ≡ saidOf length 0 (transcribe header tables S size))
         × (left ≡ answerLeft size (transcribe header tables S size))
 
     ends-refused : (fault : Fault) → transcribe header tables S size ≡ refuse fault 0
         → answer ≡ transcript.Refused (at-no-line fault) → left ≡ cleared size → Ends
-    unfolding transcriptOf answerLeft
-    ends-refused fault e a l = rw e (a, l)
+    unfolding saidOf answerLeft
+    ends-refused fault e a l = rw e (ap transcriptSaid a, l)
 
     pub ends-foreign : tablesKnown header tables ≡ false → answer ≡ transcript.Refused (at-no-line Foreign)
         → left ≡ cleared size → Ends
@@ -180,10 +183,11 @@ module _ (header : Header) (tables : Tables) (S : List ℕ) (size : ℕ) (answer
 
           pub ends-given : length S * states ≤ words → answer ≡ transcript.Models (length S * states)
               → (d : List ℕ) → d ≡ cleared size → left ≡ models ++ drop (length S * header .states) d → Ends
-          unfolding transcribe judge transcriptOf answerLeft padded
+          unfolding transcribe judge saidOf answerLeft padded
           ends-given r a d k l =
               let fits : leb (length models) size ≡ true =
               le-leb (length models) size (omega (arith, models-length)) in
               let rest : drop (length S * header .states) d ≡ cleared (size - length models) =
               rw (k, own-length) (drop-cleared (length S * header .states) size) in
-              rw (h, u, own, fits) (a ∙ rw models-length, l ∙ ap (λ (m : List ℕ). models ++ m) rest)
+              rw (h, u, own, fits)
+              (ap transcriptSaid a ∙ rw models-length, l ∙ ap (λ (m : List ℕ). models ++ m) rest)

@@ -19,11 +19,11 @@ use Rattle.definitions.specs.Tables.{Tables, bookOf, tablesLeft}
 use Rattle.definitions.specs.ForeignTables.{tablesKnown}
 use Rattle.definitions.specs.TreesGive.{treesGive}
 use Rattle.definitions.specs.Transcription.{transcription, isUtterance, transcribe}
-use Rattle.definitions.specs.laws.Tests.{T-and, if-true}
-use Rattle.definitions.specs.laws.Judging.{passes-at, judge-passing, judge-answered}
-use Rattle.definitions.specs.laws.Books.{accepted-book}
-use Rattle.definitions.specs.laws.Known.{accepted-known}
-use Rattle.definitions.specs.laws.ModelsAlong.{models-along, given-is}
+use Rattle.definitions.specs.laws.lists.Tests.{T-and, if-true}
+use Rattle.definitions.specs.laws.text.Judging.{passes-at, judge-passing, judge-answered}
+use Rattle.definitions.specs.laws.books.Books.{accepted-book}
+use Rattle.definitions.specs.laws.books.AcceptedKnown.{accepted-known}
+use Rattle.definitions.specs.laws.trees.ModelsAlong.{models-along, given-is}
 use Rattle.trees.specs.laws.Answering.{utterance-phones}
 
 module _ (lent : Lent) (text : List ℕ) (lines : List BookLine) (e : readBook lent text ≡ answered lines)

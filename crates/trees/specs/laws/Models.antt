@@ -14,20 +14,18 @@ use Rattle.definitions.specs.declared.Node.{Node}
 use Rattle.definitions.specs.Lists.{_!_, every, concatMap}
 use Rattle.definitions.specs.BookLines.{TreeNode, rootCount, isPhone}
 use Rattle.definitions.specs.BookReading.{nodeSize}
-use Rattle.definitions.specs.Tables.{Book, nodeOf}
+use Rattle.definitions.specs.Tables.{Book, nodeOf, rootOf}
 use Rattle.definitions.specs.Lookup.{reached, leafReached, modelAt, isContext}
-use Rattle.definitions.specs.Tables.{rootOf}
 use Rattle.definitions.specs.TreesGive.{silences, contexts}
 use Rattle.definitions.specs.Transcription.{modelOf, transcription}
-use Rattle.definitions.specs.laws.Tests.{T-and, eq→eqb}
-use Rattle.definitions.specs.laws.Lists.{map-upFrom-length, map-upFrom-at, concatMap-snoc}
-use Rattle.definitions.specs.laws.Records.{flat-length}
-use Rattle.definitions.specs.laws.Walks.{reached-model}
-use Rattle.definitions.specs.laws.Contexts.{contextAt, contexts-length, context-phones}
-use Rattle.definitions.specs.laws.Contexts.{silent-phones, silent-context-length}
-use Rattle.tables.specs.Usable.{bookWith}
+use Rattle.definitions.specs.laws.lists.Tests.{T-and, eq→eqb}
+use Rattle.definitions.specs.laws.lists.Lists.{map-upFrom-length, map-upFrom-at, concatMap-snoc}
+use Rattle.definitions.specs.laws.lists.Records.{flat-length}
+use Rattle.definitions.specs.laws.trees.Walks.{reached-model}
+use Rattle.definitions.specs.laws.trees.Contexts.{contextAt, contexts-length, context-phones, silent-phones}
+use Rattle.definitions.specs.laws.trees.Contexts.{silent-context-length}
+use Rattle.tables.specs.Usable.{bookWith, treeNodes}
 use Rattle.trees.specs.Answers.{stateModels}
-use Rattle.tables.specs.laws.Records.{treeNodes}
 use Rattle.trees.specs.laws.Walking.{model-is}
 
 -- the record at the leaf that the walk from the root reaches holds the model

@@ -14,8 +14,8 @@ use Rattle.definitions.specs.BookLines.{isPhone}
 use Rattle.definitions.specs.Lookup.{isContext}
 use Rattle.definitions.specs.TreesGive.{silentEnds}
 use Rattle.definitions.specs.Transcription.{isUtterance}
-use Rattle.definitions.specs.laws.Tests.{T-and, every-at}
-use Rattle.definitions.specs.laws.Ranges.{phone-range}
+use Rattle.definitions.specs.laws.lists.Tests.{T-and, every-at}
+use Rattle.definitions.specs.laws.text.Ranges.{phone-range}
 
 -- ---- one number: a phone of the book or not
 

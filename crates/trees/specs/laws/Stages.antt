@@ -16,7 +16,7 @@ use Rattle.definitions.specs.declared.Node.{Node}
 use Rattle.definitions.specs.Tables.{nodeOf}
 use Rattle.definitions.specs.ForeignTables.{headerKnown, questionKnown, leafKnown, nodesKnown, classTableKnown}
 use Rattle.definitions.specs.Lookup.{lookupKnown, isContext, leafLookup}
-use Rattle.definitions.specs.laws.Tests.{T-and, T-three, by-test}
+use Rattle.definitions.specs.laws.lists.Tests.{T-and, T-three, by-test}
 use Rattle.trees.specs.declared.Stage.{Stage}
 use Rattle.trees.specs.declared.Stage.the-variants.{Judging, Walking, Answered}
 use Rattle.trees.specs.Answers.{lookupOf}

@@ -16,8 +16,8 @@ use Rattle.definitions.specs.BookReading.{nodeSize}
 use Rattle.definitions.specs.Tables.{nodeOf, treeNode, askedOf}
 use Rattle.definitions.specs.ForeignTables.{nodesKnown}
 use Rattle.definitions.specs.Lookup.{nodeAt, answers, walk, reached, leafReached, modelAt}
-use Rattle.definitions.specs.laws.Walks.{walk-leaf, walk-question, either-node, model-at}
-use Rattle.tables.specs.laws.Records.{treeNodes}
+use Rattle.definitions.specs.laws.trees.Walks.{walk-leaf, walk-question, either-node, model-at}
+use Rattle.tables.specs.Usable.{treeNodes}
 use Rattle.tables.specs.laws.KnownTables.{node-listed, node-is, record-fits}
 use Rattle.trees.specs.Stages.{recordAt}
 

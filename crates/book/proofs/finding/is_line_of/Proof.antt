@@ -4,7 +4,7 @@ use borrow.Author.Needs.{needs}
 use Rattle.definitions.specs.Lists.{atLeastOne}
 use Rattle.definitions.specs.BookLines.{nodeLineIn}
 use Rattle.definitions.specs.BookReading.{isLineOf}
-use Rattle.book.specs.Entries.{entryLine}
+use Rattle.booklines.specs.Entries.{entryLine}
 use Rattle.book.proofs.finding.is_line_of.Statement.{statement}
 use Rattle.book.proofs.finding.is_line_of.Tie as tie
 

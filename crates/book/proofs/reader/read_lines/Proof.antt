@@ -3,11 +3,11 @@ use Prim.Native.Nat.{_-_, _/_}
 use native.Mathlib.Omega.{arith}
 use lib.ListN.{length}
 use borrow.Author.Needs.{needs}
-use Rattle.definitions.specs.laws.Tests.{held, failed}
-use Rattle.tables.specs.Lending.{lengthsOf}
+use Rattle.definitions.specs.laws.lists.Tests.{held, failed}
 use Rattle.lines.specs.laws.Judging.{next-bytes}
-use Rattle.book.specs.laws.Reading.{Turn, first-turn, turn-ready, turn-endable, turn-next}
-use Rattle.book.specs.laws.Reading.{torn-returns, stop-returns, end-returns}
+use Rattle.tables.specs.Lending.{lengthsOf}
+use Rattle.book.specs.laws.Reading.{Turn, first-turn, turn-ready, turn-endable, turn-next, torn-returns}
+use Rattle.book.specs.laws.Reading.{stop-returns, end-returns}
 use Rattle.book.proofs.reader.read_lines.Statement.{statement}
 use Rattle.book.proofs.reader.read_lines.Tie as tie
 

@@ -5,7 +5,7 @@ use Prim.Native.Nat.{ℕ}
 use native.Mathlib.Omega.{arith}
 use borrow.Author.Needs.{needs}
 use Rattle.tables.specs.Naming.{namedAgain, namedAll}
-use Rattle.book.specs.Entries.{entryLine}
+use Rattle.booklines.specs.Entries.{entryLine}
 use Rattle.book.specs.Storing.{nodesAfter, classesAfter, rootsAfter, countsAfter, namesIn}
 use Rattle.book.proofs.storing.store.Statement.{statement}
 use Rattle.book.proofs.storing.store.Tie as tie

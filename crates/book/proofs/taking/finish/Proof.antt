@@ -5,9 +5,9 @@ use native.Mathlib.Omega.{arith}
 use lib.ListN.{take}
 use lib.Seq.{length-take-le}
 use borrow.Author.Needs.{needs}
-use Rattle.definitions.specs.laws.Tests.{held, failed}
+use Rattle.definitions.specs.laws.lists.Tests.{held, failed}
 use Rattle.tables.specs.Naming.{firstMisnamed}
-use Rattle.book.specs.States.{completeIn}
+use Rattle.booklines.specs.States.{completeIn}
 use Rattle.book.specs.laws.Taking.{finish-early, finish-orphan, finish-fine}
 use Rattle.book.proofs.taking.finish.Statement.{statement}
 use Rattle.book.proofs.taking.finish.Tie as tie

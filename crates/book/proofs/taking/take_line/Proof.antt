@@ -6,8 +6,8 @@ use borrow.Author.Needs.{needs}
 use Rattle.lines.specs.laws.Rows.{none-parsed, some-parsed, whole-row}
 use Rattle.lines.specs.laws.Judging.{verdict-full, verdict-misprint, verdict-line}
 use Rattle.tables.specs.Lending.{lengthsOf}
+use Rattle.booklines.specs.States.{completeIn}
 use Rattle.book.specs.declared.Step.the-variants.{Next}
-use Rattle.book.specs.States.{completeIn}
 use Rattle.book.specs.Steps.{verdictIn, whereTaken}
 use Rattle.book.specs.laws.Taking.{step-failed, step-passed}
 use Rattle.book.proofs.taking.take_line.Statement.{statement}

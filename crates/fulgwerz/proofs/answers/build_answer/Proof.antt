@@ -1,7 +1,8 @@
 -- `answers::build_answer` meets its contract.
 use mathlib.Core.Path.{ap, sym, _∙_}
 use borrow.Author.Needs.{needs}
-use Rattle.fulgwerz.specs.Made.{buildMade}
+use Rattle.network.specs.Answers.{buildSaid}
+use Rattle.fulgwerz.specs.Answers.{buildAnswer}
 use Rattle.fulgwerz.proofs.answers.build_answer.Statement.{statement}
 use Rattle.fulgwerz.proofs.answers.build_answer.Tie as tie
 
@@ -27,16 +28,16 @@ no-counts-requires : tie.Need-no-counts-requires
 no-counts-requires c κs = search needs
 
 returns : tie.Need-returns
-returns c = c .so-far .ensures ∙ ap buildMade (sym (c .before .before .answer .given .1))
+returns c = c .so-far .ensures ∙ ap (λ x. buildAnswer (buildSaid x)) (sym (c .before .before .answer .given .1))
 
 returns-2 : tie.Need-returns-2
-returns-2 c = c .so-far2 .ensures ∙ ap buildMade (sym (c .before .before .answer2 .given .1))
+returns-2 c = c .so-far2 .ensures ∙ ap (λ x. buildAnswer (buildSaid x)) (sym (c .before .before .answer2 .given .1))
 
 returns-3 : tie.Need-returns-3
 returns-3 c =
     let refused = c .before in
     rw (refused .cause-of .ensures .0, refused .cause-of .ensures .1, c .no-counts .ensures)
-    (ap buildMade (sym (refused .before .before .answer3 .given .1)))
+    (ap (λ x. buildAnswer (buildSaid x)) (sym (refused .before .before .answer3 .given .1)))
 
 pub build-answer-spec : {M : Type 1} → statement M
 build-answer-spec =

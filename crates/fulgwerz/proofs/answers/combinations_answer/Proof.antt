@@ -1,7 +1,8 @@
 -- `answers::combinations_answer` meets its contract.
 use mathlib.Core.Path.{ap, sym}
 use borrow.Author.Needs.{needs}
-use Rattle.fulgwerz.specs.Made.{combinationsMade}
+use Rattle.combinations.specs.Answers.{combinedSaid}
+use Rattle.fulgwerz.specs.Answers.{countAnswer}
 use Rattle.fulgwerz.proofs.answers.combinations_answer.Statement.{statement}
 use Rattle.fulgwerz.proofs.answers.combinations_answer.Tie as tie
 
@@ -15,12 +16,12 @@ cause-of-requires : tie.Need-cause-of-requires
 cause-of-requires c κs = search needs
 
 returns : tie.Need-returns
-returns c = ap combinationsMade (sym (c .before .combined .given .1))
+returns c = ap (λ x. countAnswer (combinedSaid x)) (sym (c .before .combined .given .1))
 
 returns-2 : tie.Need-returns-2
 returns-2 c =
     rw (c .cause-of .ensures .0, c .cause-of .ensures .1)
-    (ap combinationsMade (sym (c .before .before .combined2 .given .1)))
+    (ap (λ x. countAnswer (combinedSaid x)) (sym (c .before .before .combined2 .given .1)))
 
 pub combinations-answer-spec : {M : Type 1} → statement M
 combinations-answer-spec =

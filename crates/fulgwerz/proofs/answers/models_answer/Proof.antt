@@ -1,7 +1,8 @@
 -- `answers::models_answer` meets its contract.
 use mathlib.Core.Path.{ap, sym}
 use borrow.Author.Needs.{needs}
-use Rattle.fulgwerz.specs.Made.{modelsMade}
+use Rattle.trees.specs.Answers.{transcriptSaid}
+use Rattle.fulgwerz.specs.Answers.{countAnswer}
 use Rattle.fulgwerz.proofs.answers.models_answer.Statement.{statement}
 use Rattle.fulgwerz.proofs.answers.models_answer.Tie as tie
 
@@ -15,12 +16,12 @@ cause-of-requires : tie.Need-cause-of-requires
 cause-of-requires c κs = search needs
 
 returns : tie.Need-returns
-returns c = ap modelsMade (sym (c .before .transcript .given .1))
+returns c = ap (λ x. countAnswer (transcriptSaid x)) (sym (c .before .transcript .given .1))
 
 returns-2 : tie.Need-returns-2
 returns-2 c =
     rw (c .cause-of .ensures .0, c .cause-of .ensures .1)
-    (ap modelsMade (sym (c .before .before .transcript2 .given .1)))
+    (ap (λ x. countAnswer (transcriptSaid x)) (sym (c .before .before .transcript2 .given .1)))
 
 pub models-answer-spec : {M : Type 1} → statement M
 models-answer-spec =

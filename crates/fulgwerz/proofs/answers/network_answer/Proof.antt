@@ -1,7 +1,8 @@
 -- `answers::network_answer` meets its contract.
 use mathlib.Core.Path.{ap, sym}
 use borrow.Author.Needs.{needs}
-use Rattle.fulgwerz.specs.Made.{networkMade}
+use Rattle.nettext.specs.Answers.{readingSaid}
+use Rattle.fulgwerz.specs.Answers.{networkAnswer}
 use Rattle.fulgwerz.proofs.answers.network_answer.Statement.{statement}
 use Rattle.fulgwerz.proofs.answers.network_answer.Tie as tie
 
@@ -18,13 +19,13 @@ no-counts-requires : tie.Need-no-counts-requires
 no-counts-requires c κs = search needs
 
 returns : tie.Need-returns
-returns c = ap networkMade (sym (c .before .reading .given .1))
+returns c = ap (λ x. networkAnswer (readingSaid x)) (sym (c .before .reading .given .1))
 
 returns-2 : tie.Need-returns-2
 returns-2 c =
     let refused = c .before in
     rw (refused .cause-of .ensures .0, refused .cause-of .ensures .1, c .no-counts .ensures)
-    (ap networkMade (sym (refused .before .before .reading2 .given .1)))
+    (ap (λ x. networkAnswer (readingSaid x)) (sym (refused .before .before .reading2 .given .1)))
 
 pub network-answer-spec : {M : Type 1} → statement M
 network-answer-spec =

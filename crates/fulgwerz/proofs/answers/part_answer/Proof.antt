@@ -1,7 +1,8 @@
 -- `answers::part_answer` meets its contract.
 use mathlib.Core.Path.{ap, sym}
 use borrow.Author.Needs.{needs}
-use Rattle.fulgwerz.specs.Made.{partMade}
+use Rattle.arcs.specs.Standing.{standingSaid}
+use Rattle.fulgwerz.specs.Answers.{partAnswer}
 use Rattle.fulgwerz.proofs.answers.part_answer.Statement.{statement}
 use Rattle.fulgwerz.proofs.answers.part_answer.Tie as tie
 
@@ -15,12 +16,12 @@ cause-of-requires : tie.Need-cause-of-requires
 cause-of-requires c κs = search needs
 
 returns : tie.Need-returns
-returns c = ap partMade (sym (c .before .standing .given .1))
+returns c = ap (λ x. partAnswer (standingSaid x)) (sym (c .before .standing .given .1))
 
 returns-2 : tie.Need-returns-2
 returns-2 c =
     rw (c .cause-of .ensures .0, c .cause-of .ensures .1)
-    (ap partMade (sym (c .before .before .standing2 .given .1)))
+    (ap (λ x. partAnswer (standingSaid x)) (sym (c .before .before .standing2 .given .1)))
 
 pub part-answer-spec : {M : Type 1} → statement M
 part-answer-spec =

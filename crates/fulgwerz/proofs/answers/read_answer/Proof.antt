@@ -1,7 +1,8 @@
 -- `answers::read_answer` meets its contract.
 use mathlib.Core.Path.{ap, sym}
 use borrow.Author.Needs.{needs}
-use Rattle.fulgwerz.specs.Made.{readMade}
+use Rattle.book.specs.Answers.{readingSaid}
+use Rattle.fulgwerz.specs.Answers.{readAnswer}
 use Rattle.fulgwerz.proofs.answers.read_answer.Statement.{statement}
 use Rattle.fulgwerz.proofs.answers.read_answer.Tie as tie
 
@@ -15,12 +16,12 @@ cause-of-requires : tie.Need-cause-of-requires
 cause-of-requires c κs = search needs
 
 returns : tie.Need-returns
-returns c = ap readMade (sym (c .before .reading .given .1))
+returns c = ap (λ x. readAnswer (readingSaid x)) (sym (c .before .reading .given .1))
 
 returns-2 : tie.Need-returns-2
 returns-2 c =
     rw (c .cause-of .ensures .0, c .cause-of .ensures .1)
-    (ap readMade (sym (c .before .before .reading2 .given .1)))
+    (ap (λ x. readAnswer (readingSaid x)) (sym (c .before .before .reading2 .given .1)))
 
 pub read-answer-spec : {M : Type 1} → statement M
 read-answer-spec =

@@ -2,8 +2,7 @@
 -- what it leaves in the buffers.
 use mathlib.Core.Path.{ap, _∙_}
 use borrow.Author.Needs.{needs}
-use Rattle.fulgwerz.specs.Made.{buildMade}
-use Rattle.fulgwerz.specs.laws.Made.{build-made}
+use Rattle.fulgwerz.specs.Answers.{buildAnswer}
 use Rattle.fulgwerz.proofs.building.fulgwerz_build.Statement.{statement}
 use Rattle.fulgwerz.proofs.building.fulgwerz_build.Tie as tie
 
@@ -25,7 +24,7 @@ same-length-3 c = search needs
 returns : tie.Need-returns
 returns c =
     let called = c .before .before .before .before .before .before .before in (
-      c .build-answer .ensures ∙ ap buildMade (called .build .ensures .0) ∙ build-made _ _,
+      c .build-answer .ensures ∙ ap buildAnswer (called .build .ensures .0),
       called .build .ensures .1,
     )
 

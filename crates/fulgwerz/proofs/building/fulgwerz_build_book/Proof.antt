@@ -2,8 +2,8 @@
 -- what it leaves in the buffers. What holds of a finished answer's counts holds of the struct's.
 use mathlib.Core.Path.{ap, _∙_}
 use borrow.Author.Needs.{needs}
-use Rattle.fulgwerz.specs.Made.{buildMade}
-use Rattle.fulgwerz.specs.laws.Made.{book-made, finished-made}
+use Rattle.fulgwerz.specs.Answers.{buildAnswer}
+use Rattle.fulgwerz.specs.laws.Made.{finished-made}
 use Rattle.fulgwerz.proofs.building.fulgwerz_build_book.Statement.{statement}
 use Rattle.fulgwerz.proofs.building.fulgwerz_build_book.Tie as tie
 
@@ -36,7 +36,7 @@ returns c =
     let tables = c .before .before .before .before .before .before in
     let called = tables .before .before .before .before .before .before .before in
     let left = called .build-book .ensures .1 in (
-      c .build-answer .ensures ∙ ap buildMade (called .build-book .ensures .0) ∙ book-made _,
+      c .build-answer .ensures ∙ ap buildAnswer (called .build-book .ensures .0),
       (
         left .0,
         (

@@ -2,8 +2,7 @@
 -- what it leaves in the buffers.
 use mathlib.Core.Path.{ap, _∙_}
 use borrow.Author.Needs.{needs}
-use Rattle.fulgwerz.specs.Made.{combinationsMade}
-use Rattle.fulgwerz.specs.laws.Made.{combinations-made}
+use Rattle.fulgwerz.specs.Answers.{countAnswer}
 use Rattle.fulgwerz.proofs.building.fulgwerz_combine.Statement.{statement}
 use Rattle.fulgwerz.proofs.building.fulgwerz_combine.Tie as tie
 
@@ -19,7 +18,7 @@ same-length c = search needs
 returns : tie.Need-returns
 returns c =
     let called = c .before .before .before in (
-      c .combinations-answer .ensures ∙ ap combinationsMade (called .combine .ensures .0) ∙ combinations-made _,
+      c .combinations-answer .ensures ∙ ap countAnswer (called .combine .ensures .0),
       called .combine .ensures .1 .1,
     )
 

@@ -1,8 +1,7 @@
 -- `lookups::fulgwerz_leaf` meets its contract: what the function called answers, as a struct.
 use mathlib.Core.Path.{ap, _∙_}
 use borrow.Author.Needs.{needs}
-use Rattle.fulgwerz.specs.Made.{leafMade}
-use Rattle.fulgwerz.specs.laws.Made.{leaf-made}
+use Rattle.fulgwerz.specs.Answers.{leafAnswer}
 use Rattle.fulgwerz.proofs.lookups.fulgwerz_leaf.Statement.{statement}
 use Rattle.fulgwerz.proofs.lookups.fulgwerz_leaf.Tie as tie
 
@@ -15,7 +14,7 @@ leaf-answer-requires c κs = search needs
 returns : tie.Need-returns
 returns c =
     let called = c .before in
-    c .leaf-answer .ensures ∙ ap leafMade (called .leaf-of .ensures) ∙ leaf-made _
+    c .leaf-answer .ensures ∙ ap leafAnswer (called .leaf-of .ensures)
 
 pub fulgwerz-leaf-spec : {M : Type 1} → statement M
 fulgwerz-leaf-spec = tie.close (tie.spec leaf-of-requires leaf-answer-requires returns)

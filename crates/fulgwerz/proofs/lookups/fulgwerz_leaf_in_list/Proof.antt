@@ -1,7 +1,7 @@
 -- `lookups::fulgwerz_leaf_in_list` meets its contract: a walk of its MIR, by hand, since the borrow checker covers
 -- no function over a slice of structs. What the function has at entry, it holds throughout: it passes copies, and
 -- the tokens come back from the lookup.
-use mathlib.Core.Path.{refl}
+use mathlib.Core.Path.{refl, ap}
 use mathlib.Core.List.{List, [], _∷_}
 use Prim.Native.Nat.{ℕ}
 use lib.ListN.{length}
@@ -15,7 +15,7 @@ use prog.Routine.{Routine}
 use prog.Wp.{Heap, Calls, Loops, WpFn, Tables}
 use ghost.Atoms.{Atoms}
 use contract.Lifetimes.{Lfts, Shares}
-use contract.Monad.{Fun}
+use contract.Monad.{Fun, fact-mono}
 use contract.Running.{givenOf, tables, tablesOf}
 use types.Kit.{Given, ‵, raw, _⊛_, ⋆, _$_, _∵_, !, qed, by, move, use1}
 use types.Kit.{split, join, fjoin, suffices, frame, done}
@@ -44,10 +44,10 @@ use Rattle.definitions.specs.declared.Header.{Header}
 use Rattle.definitions.specs.declared.Node.{Node}
 use Rattle.definitions.specs.Lookup.{leafLookup}
 use Rattle.trees.specs.declared.Lookup.{Lookup}
-use Rattle.trees.specs.Answers.{lookupOf}
+use Rattle.trees.specs.Answers.{lookupOf, lookupSaid}
+use Rattle.trees.specs.laws.Said.{lookup-said, lookup-told}
 use Rattle.fulgwerz.specs.declared.LeafAnswer.{LeafAnswer}
-use Rattle.fulgwerz.specs.Made.{leafMade}
-use Rattle.fulgwerz.specs.laws.Made.{leaf-made}
+use Rattle.fulgwerz.specs.Answers.{leafAnswer}
 use Rattle.definitions.proofs.Header as Hd
 use Rattle.definitions.proofs.Header.Laws as Hd′
 use Rattle.definitions.proofs.Node as Nd
@@ -172,13 +172,13 @@ module _ {M : Type 1} (𝓤 : URA M) (H : Heap 𝓤) (A : Atoms 𝓤) (W : Given
     abbrev found : Lookup
     found = lookupOf (leafLookup header (now classes) (now nodes) root (now context))
 
-    exits : (v : Val) → Is La.the-row (leafMade found) (v ∷ []) → ent 𝓤 Held (Post v)
+    exits : (v : Val) → Is La.the-row (leafAnswer (lookupSaid found)) (v ∷ []) → ent 𝓤 Held (Post v)
     exits v is =
         qed W (raw Alive ∷ ‵ Owned ∷ []) ∵
-        suffices ! _ (ends-at 𝓤 H A f.ended stayed c W bound v (leafMade found)
+        suffices ! _ (ends-at 𝓤 H A f.ended stayed c W bound v (leafAnswer (lookupSaid found))
         (tt, (tt, (tt, (tt, (tt, tt))))) (tt, (tt, (tt, (tt, (tt, tt)))))) $
-        says ! (leaf-made _) $ frame ! $ frame ! $
-        owned ! La.the-row (Is La.the-row) answer-makes (leafMade found) _ is $ done !
+        says ! (ap leafAnswer (lookup-said _ refl)) $ frame ! $ frame ! $
+        owned ! La.the-row (Is La.the-row) answer-makes (leafAnswer (lookupSaid found)) _ is $ done !
 
     -- what the parameters own can be had twice
     copied : ent 𝓤 Held (⋆ 𝓤 H A (raw Alive ∷ ‵ Owned ∷ ‵ Owned ∷ []))
@@ -221,14 +221,14 @@ module _ {M : Type 1} (𝓤 : URA M) (H : Heap 𝓤) (A : Atoms 𝓤) (W : Given
       lookup-call : Call #leaf-of vs Lk.the-row found
       lookup-call =
           gives 𝓤 H A W C fm Held leaf-of.ended (leaf-of.clauses 𝓤 H A mem run) κs qs tt x at tt
-          #leaf-of (known .lookup-known) (id⊢ 𝓤 (emp 𝓤)) _ (λ r e. id⊢ 𝓤 _)
+          #leaf-of (known .lookup-known) (id⊢ 𝓤 (emp 𝓤)) _ (λ r e. fact-mono 𝓤 _ _ (lookup-told _))
           (⋆ 𝓤 H A (‵ Owned ∷ []))
           (via 𝓤 _ copied (qed W (raw Alive ∷ ‵ Owned ∷ ‵ Owned ∷ []) ∵ join ! $ frame ! $ done !))
           (qed W (raw Alive ∷ ‵ Owned ∷ []) ∵ frame ! $ done !)
 
       -- the struct is made of the lookup's answer alone
       answer-call : (l : Lookup) (v : Val) → Is Lk.the-row l (v ∷ [])
-          → Call #leaf-answer (v ∷ []) La.the-row (leafMade l)
+          → Call #leaf-answer (v ∷ []) La.the-row (leafAnswer (lookupSaid l))
       answer-call l v is =
           gives 𝓤 H A W C fm Held leaf-answer.ended (leaf-answer.clauses 𝓤 H A mem run) tt tt tt (l, tt)
           (v ∷ [], tt) tt #leaf-answer (known .answer-known) (id⊢ 𝓤 (emp 𝓤)) _ (λ r e. id⊢ 𝓤 _) Held
@@ -254,9 +254,9 @@ module _ {M : Type 1} (𝓤 : URA M) (H : Heap 𝓤) (A : Atoms 𝓤) (W : Given
           (and-then ! (reads ! 11 refl) (and-then ! (reads ! 9 refl) (and-then ! (reads ! 7 refl)
           (and-then ! (reads ! 5 refl) (and-then ! (reads ! 3 refl) (no-more !)))))) (λ v₆ is₆.
           land ! (from ! (stop !)) (init ! 1 refl (lookup-typed found v₆ is₆ .0)) $
-          calls-held ! fm La.the-row (leafMade found) (v₆ ∷ []) (answer-call found v₆ is₆)
+          calls-held ! fm La.the-row (leafAnswer (lookupSaid found)) (v₆ ∷ []) (answer-call found v₆ is₆)
           (and-then ! (reads ! 1 refl) (no-more !)) (λ v₀ is₀.
-          land ! (from ! (stop !)) (init ! 13 refl (answer-typed (leafMade found) v₀ is₀ .0)) $
+          land ! (from ! (stop !)) (init ! 13 refl (answer-typed (leafAnswer (lookupSaid found)) v₀ is₀ .0)) $
           returns ! (look ! 13 refl) $ forget ! 1 refl $ forget ! 3 refl $ forget ! 5 refl $ forget ! 7 refl $
           forget ! 9 refl $ forget ! 11 refl $ forget ! 13 refl $
           move ! (13 ∷ 14 ∷ []) $ free1 ! $ move ! (11 ∷ 12 ∷ []) $ free1 ! $ move ! (9 ∷ 10 ∷ []) $ free1 ! $

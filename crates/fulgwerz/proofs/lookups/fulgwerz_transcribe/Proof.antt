@@ -2,8 +2,7 @@
 -- what it leaves in the buffers.
 use mathlib.Core.Path.{ap, _∙_}
 use borrow.Author.Needs.{needs}
-use Rattle.fulgwerz.specs.Made.{modelsMade}
-use Rattle.fulgwerz.specs.laws.Made.{models-made}
+use Rattle.fulgwerz.specs.Answers.{countAnswer}
 use Rattle.fulgwerz.proofs.lookups.fulgwerz_transcribe.Statement.{statement}
 use Rattle.fulgwerz.proofs.lookups.fulgwerz_transcribe.Tie as tie
 
@@ -19,7 +18,7 @@ same-length c = search needs
 returns : tie.Need-returns
 returns c =
     let called = c .before .before .before in (
-      c .models-answer .ensures ∙ ap modelsMade (called .transcribe .ensures .0) ∙ models-made _,
+      c .models-answer .ensures ∙ ap countAnswer (called .transcribe .ensures .0),
       called .transcribe .ensures .1,
     )
 

@@ -2,8 +2,7 @@
 -- what it leaves in the buffers.
 use mathlib.Core.Path.{ap, _∙_}
 use borrow.Author.Needs.{needs}
-use Rattle.fulgwerz.specs.Made.{networkMade}
-use Rattle.fulgwerz.specs.laws.Made.{network-made}
+use Rattle.fulgwerz.specs.Answers.{networkAnswer}
 use Rattle.fulgwerz.proofs.networks.fulgwerz_read_network.Statement.{statement}
 use Rattle.fulgwerz.proofs.networks.fulgwerz_read_network.Tie as tie
 
@@ -19,7 +18,7 @@ same-length c = search needs
 returns : tie.Need-returns
 returns c =
     let called = c .before .before .before in (
-      c .network-answer .ensures ∙ ap networkMade (called .read .ensures .0) ∙ network-made _,
+      c .network-answer .ensures ∙ ap networkAnswer (called .read .ensures .0),
       called .read .ensures .1,
     )
 

@@ -2,8 +2,7 @@
 -- what it leaves in the buffers.
 use mathlib.Core.Path.{ap, _∙_}
 use borrow.Author.Needs.{needs}
-use Rattle.fulgwerz.specs.Made.{bytesMade}
-use Rattle.fulgwerz.specs.laws.Made.{bytes-made}
+use Rattle.fulgwerz.specs.Answers.{countAnswer}
 use Rattle.fulgwerz.proofs.networks.fulgwerz_write.Statement.{statement}
 use Rattle.fulgwerz.proofs.networks.fulgwerz_write.Tie as tie
 
@@ -19,7 +18,7 @@ same-length c = search needs
 returns : tie.Need-returns
 returns c =
     let called = c .before .before .before in (
-      c .bytes-answer .ensures ∙ ap bytesMade (called .write .ensures .0) ∙ bytes-made _,
+      c .bytes-answer .ensures ∙ ap countAnswer (called .write .ensures .0),
       called .write .ensures .1,
     )
 

@@ -2,8 +2,7 @@
 -- what it leaves in the buffers.
 use mathlib.Core.Path.{ap, _∙_}
 use borrow.Author.Needs.{needs}
-use Rattle.fulgwerz.specs.Made.{readMade}
-use Rattle.fulgwerz.specs.laws.Made.{read-made}
+use Rattle.fulgwerz.specs.Answers.{readAnswer}
 use Rattle.fulgwerz.proofs.reading.fulgwerz_read.Statement.{statement}
 use Rattle.fulgwerz.proofs.reading.fulgwerz_read.Tie as tie
 
@@ -25,7 +24,7 @@ same-length-3 c = search needs
 returns : tie.Need-returns
 returns c =
     let called = c .before .before .before .before .before .before .before in (
-      c .read-answer .ensures ∙ ap readMade (called .read .ensures .0) ∙ read-made _,
+      c .read-answer .ensures ∙ ap readAnswer (called .read .ensures .0),
       called .read .ensures .1,
     )
 

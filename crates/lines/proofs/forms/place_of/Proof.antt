@@ -4,8 +4,8 @@ use Prim.Native.Nat.{_-_, _≤_}
 use native.Mathlib.Omega.{arith}
 use borrow.Author.Needs.{needs}
 use Rattle.definitions.specs.Lines.{formOf}
-use Rattle.lines.specs.laws.Tables.{formsBetween, letter-found, letter-passed, letter-nowhere}
-use Rattle.lines.specs.Places.{formCount}
+use Rattle.lines.specs.Places.{formsBetween, formCount}
+use Rattle.lines.specs.laws.Tables.{letter-found, letter-passed, letter-nowhere}
 use Rattle.lines.proofs.forms.place_of.Statement.{statement}
 use Rattle.lines.proofs.forms.place_of.Tie as tie
 

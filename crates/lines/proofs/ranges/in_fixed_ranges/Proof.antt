@@ -4,7 +4,7 @@ use mathlib.Core.Path.{ap, sym, _∙_}
 use Prim.Native.Nat.{_-_}
 use native.Mathlib.Omega.{arith}
 use borrow.Author.Needs.{needs}
-use Rattle.definitions.specs.laws.Tests.{held, failed}
+use Rattle.definitions.specs.laws.lists.Tests.{held, failed}
 use Rattle.lines.specs.Places.{formAt}
 use Rattle.lines.specs.laws.Ranges.{Judging, judging-start, range-passed, range-left, ranges-end}
 use Rattle.lines.specs.laws.Ranges.{row-unknown, row-short, row-full}

@@ -4,7 +4,7 @@ use Prim.Native.Nat.{_-_}
 use lib.ListN.{length}
 use borrow.Author.Needs.{needs}
 use Rattle.definitions.specs.Matrices.{meet}
-use Rattle.definitions.specs.laws.Matrices.{meet-column}
+use Rattle.definitions.specs.laws.matrices.Matrices.{meet-column}
 use Rattle.lines.specs.laws.Filling.{filled-start}
 use Rattle.matrix.specs.laws.Columns.{meet-sized}
 use Rattle.matrix.specs.laws.Words.{Columns, columns-more, columns-end}

@@ -18,8 +18,8 @@ abbrev μ-loop : tie.MeasureT-loop
 loop-holds : tie.Need-loop-holds Inv-loop μ-loop
 loop-holds c = written-start _ _ _
 
-word-at-requires : tie.Need-word-at-requires Inv-loop μ-loop
-word-at-requires c κs = search needs
+numbered-word-requires : tie.Need-numbered-word-requires Inv-loop μ-loop
+numbered-word-requires c κs = search needs
 
 add-words : tie.Need-add-words Inv-loop μ-loop
 add-words c = search needs
@@ -42,7 +42,7 @@ loop-again c =
     let start = turn .before .before .before in
     let sized : length (start .args .m .columns) ≡ 7 = search needs in
     written-more (turn .before .loop .inv) (search needs) (omega (arith, sized, turn .loop-test .taken))
-    (c .word-at .ensures)
+    (c .numbered-word .ensures)
 
 same-length : tie.Need-same-length Inv-loop μ-loop
 same-length c = search needs
@@ -59,7 +59,7 @@ put-whole-spec =
     Inv-loop
     μ-loop
     loop-holds
-    word-at-requires
+    numbered-word-requires
     add-words
     mul-words
     slice-write-words

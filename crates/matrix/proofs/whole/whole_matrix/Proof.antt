@@ -1,13 +1,13 @@
 -- `whole::whole_matrix` meets its contract. The loop's invariant: the columns before `c` are read.
-use Prim.Native.Nat.{ℕ, _-_}
 use mathlib.Core.Path.{sym, _∙_}
-use lib.ListN.{drop}
 use mathlib.Core.List.{List}
+use Prim.Native.Nat.{ℕ, _-_}
+use lib.ListN.{drop}
 use lib.Seq.{getD-drop}
 use borrow.Author.Needs.{needs}
 use Rattle.lines.specs.laws.Filling.{filled-start}
-use Rattle.matrix.specs.laws.Words.{Columns, columns-more, columns-end, firstSeven}
-use Rattle.matrix.specs.laws.Words.{seven-length, seven-at}
+use Rattle.matrix.specs.laws.Words.{Columns, columns-more, columns-end, seven-length, seven-at}
+use Rattle.matrix.specs.Words.{firstSeven}
 use Rattle.matrix.proofs.whole.whole_matrix.Statement.{statement}
 use Rattle.matrix.proofs.whole.whole_matrix.Tie as tie
 

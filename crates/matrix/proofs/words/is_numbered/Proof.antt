@@ -6,7 +6,8 @@ use native.Mathlib.Omega.{arith}
 use lib.ListN.{length, take, length-take}
 use lib.Seq.{getD-take}
 use borrow.Author.Needs.{needs}
-use Rattle.definitions.specs.laws.Same.{Alike, same-lengths, alike-start, alike-more, alike-stop, alike-end}
+use Rattle.definitions.specs.laws.lists.Same.{Alike, same-lengths, alike-start, alike-more, alike-stop}
+use Rattle.definitions.specs.laws.lists.Same.{alike-end}
 use Rattle.matrix.proofs.words.is_numbered.Statement.{statement}
 use Rattle.matrix.proofs.words.is_numbered.Tie as tie
 
@@ -42,8 +43,8 @@ mul-if2 c = search needs
 shared-slice-read-if2 : tie.Need-shared-slice-read-if2 Inv-loop μ-loop
 shared-slice-read-if2 c = search needs
 
-word-at-requires : tie.Need-word-at-requires Inv-loop μ-loop
-word-at-requires c κs =
+numbered-word-requires : tie.Need-numbered-word-requires Inv-loop μ-loop
+numbered-word-requires c κs =
     let turn = c .before .before in
     let few = turn .before .if1 .left in
     search needs
@@ -55,7 +56,7 @@ returns-2 c =
     let inside = turn .loop-test .taken in
     let same-word = getD-take (length (a .words .now)) (a .number ∷ a .m .columns) _ 0 inside in
     alike-stop (turn .before .loop .inv) inside
-    (λ e. c .if2 .taken (e ∙ same-word ∙ sym (c .before .word-at .ensures)))
+    (λ e. c .if2 .taken (e ∙ same-word ∙ sym (c .before .numbered-word .ensures)))
 
 add-i : tie.Need-add-i Inv-loop μ-loop
 add-i c = search needs
@@ -69,7 +70,7 @@ loop-again c =
     let a = turn .before .before .before .before .args in
     let inside = turn .loop-test .taken in
     let same-word = getD-take (length (a .words .now)) (a .number ∷ a .m .columns) _ 0 inside in
-    alike-more (turn .before .loop .inv) inside (c .if2 .left ∙ c .before .word-at .ensures ∙ sym same-word)
+    alike-more (turn .before .loop .inv) inside (c .if2 .left ∙ c .before .numbered-word .ensures ∙ sym same-word)
 
 returns-3 : tie.Need-returns-3 Inv-loop μ-loop
 returns-3 c = alike-end (c .before .loop .inv) (search needs)
@@ -84,7 +85,7 @@ is-numbered-spec =
     loop-holds
     mul-if2
     shared-slice-read-if2
-    word-at-requires
+    numbered-word-requires
     returns-2
     add-i
     loop-less

@@ -8,8 +8,9 @@ use lib.ListN.{drop, length-drop}
 use lib.Seq.{getD-drop}
 use borrow.Author.Needs.{needs}
 use Rattle.lines.specs.laws.Filling.{filled-start}
-use Rattle.matrix.specs.laws.Words.{Columns, columns-more, columns-end, filled-rest, firstSeven}
-use Rattle.matrix.specs.laws.Words.{seven-length, seven-at, seven-rest}
+use Rattle.matrix.specs.laws.Words.{Columns, columns-more, columns-end, filled-rest, seven-length}
+use Rattle.matrix.specs.laws.Words.{seven-at, seven-rest}
+use Rattle.matrix.specs.Words.{firstSeven}
 use Rattle.matrix.proofs.words.matrix_part.Statement.{statement}
 use Rattle.matrix.proofs.words.matrix_part.Tie as tie
 

@@ -36,8 +36,8 @@ returns-2 c =
     let sized : length (entry head .args .m .columns) ≡ 7 = search needs in
     written-full (head .loop .inv) (omega (arith, sized, c .if2 .taken)) (omega arith)
 
-word-at-requires : tie.Need-word-at-requires Inv-loop μ-loop
-word-at-requires c κs = search needs
+numbered-word-requires : tie.Need-numbered-word-requires Inv-loop μ-loop
+numbered-word-requires c κs = search needs
 
 add-words : tie.Need-add-words Inv-loop μ-loop
 add-words c = search needs
@@ -60,7 +60,7 @@ loop-again c =
     let a = entry (turn .before) .args in
     let sized : length (a .m .columns) ≡ 7 = search needs in
     written-more (turn .before .loop .inv) (turn .loop-test .taken) (omega (arith, sized, c .before .if2 .left))
-    (c .word-at .ensures)
+    (c .numbered-word .ensures)
 
 same-length-2 : tie.Need-same-length-2 Inv-loop μ-loop
 same-length-2 c = search needs
@@ -79,7 +79,7 @@ put-part-spec =
     loop-holds
     same-length
     returns-2
-    word-at-requires
+    numbered-word-requires
     add-words
     mul-words
     slice-write-words

@@ -1,7 +1,7 @@
 -- `judging::within_counts` meets its contract, letter by letter.
 use borrow.Author.Needs.{needs}
 use Rattle.definitions.specs.NetworkText.{withinCounts}
-use Rattle.definitions.specs.laws.Tests.{held, failed}
+use Rattle.definitions.specs.laws.lists.Tests.{held, failed}
 use Rattle.nettext.specs.Entries.{entryLine}
 use Rattle.nettext.proofs.judging.within_counts.Statement.{statement}
 use Rattle.nettext.proofs.judging.within_counts.Tie as tie

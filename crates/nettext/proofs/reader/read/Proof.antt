@@ -1,6 +1,6 @@
 -- `reader::read` meets its contract: the arcs are cleared before reading, and again where it refuses.
 use borrow.Author.Needs.{needs}
-use Rattle.definitions.specs.laws.Lists.{clear-itself}
+use Rattle.definitions.specs.laws.lists.Lists.{clear-itself}
 use Rattle.nettext.specs.laws.Answering.{accepted-returns, refused-returns}
 use Rattle.nettext.proofs.reader.read.Statement.{statement}
 use Rattle.nettext.proofs.reader.read.Tie as tie

@@ -3,7 +3,7 @@ use Prim.Native.Nat.{_-_, _/_}
 use native.Mathlib.Omega.{arith}
 use lib.ListN.{length}
 use borrow.Author.Needs.{needs}
-use Rattle.definitions.specs.laws.Tests.{held, failed}
+use Rattle.definitions.specs.laws.lists.Tests.{held, failed}
 use Rattle.lines.specs.laws.Judging.{next-bytes}
 use Rattle.nettext.specs.laws.Reading.{Turn, first-turn, turn-ready, turn-endable, turn-next}
 use Rattle.nettext.specs.laws.Reading.{torn-returns, stop-returns, end-returns}

@@ -1,6 +1,7 @@
 -- `storing::store` meets its contract, letter by letter.
 use mathlib.Core.Path.{refl}
 use borrow.Author.Needs.{needs}
+use Rattle.definitions.specs.Arcs.{arcWords}
 use Rattle.nettext.specs.Entries.{entryLine}
 use Rattle.nettext.specs.Storing.{arcsAfter}
 use Rattle.nettext.proofs.storing.store.Statement.{statement}
@@ -26,7 +27,7 @@ same-length : tie.Need-same-length
 same-length c = search needs
 
 returns-2 : tie.Need-returns-2
-unfolding entryLine arcsAfter
+unfolding entryLine arcsAfter arcWords
 returns-2 c =
     let put = c .before .before in
     rw (put .before .before .before .entry .given .1) (put .put-arc .ensures)

@@ -1,6 +1,6 @@
 -- `taking::finish` meets its contract, by whether lines are missing.
 use borrow.Author.Needs.{needs}
-use Rattle.definitions.specs.laws.Tests.{held, failed}
+use Rattle.definitions.specs.laws.lists.Tests.{held, failed}
 use Rattle.nettext.specs.laws.Taking.{finish-early, finish-fine}
 use Rattle.nettext.proofs.taking.finish.Statement.{statement}
 use Rattle.nettext.proofs.taking.finish.Tie as tie

@@ -6,10 +6,9 @@ use native.Mathlib.Omega.{arith}
 use lib.ListN.{length}
 use borrow.Author.Needs.{needs}
 use Rattle.definitions.specs.NetworkText.{networkKnown}
-use Rattle.definitions.specs.laws.Tests.{held, failed}
-use Rattle.network.specs.laws.KnownArcs.{known-taken}
-use Rattle.nettext.specs.laws.Writing.{lent-ready, counts-written}
-use Rattle.nettext.specs.laws.Writing.{write-foreign, write-short, write-done}
+use Rattle.definitions.specs.laws.lists.Tests.{held, failed}
+use Rattle.arcs.specs.laws.KnownArcs.{known-taken}
+use Rattle.nettext.specs.laws.Writing.{lent-ready, counts-written, write-foreign, write-short, write-done}
 use Rattle.nettext.proofs.writer.write.Statement.{statement}
 use Rattle.nettext.proofs.writer.write.Tie as tie
 
@@ -31,8 +30,8 @@ clear-bytes-requires c κs = search needs
 network-known-requires : tie.Need-network-known-requires
 network-known-requires c κs = search needs
 
-refuse-requires : tie.Need-refuse-requires
-refuse-requires c κs = search needs
+not-written-requires : tie.Need-not-written-requires
+not-written-requires c κs = search needs
 
 same-length : tie.Need-same-length
 same-length c = search needs
@@ -42,7 +41,7 @@ returns c =
     let tested = c .before .before in
     let a = entry tested .args in
     write-foreign (a .counts) (a .arcs .now) (length (a .text .now))
-    (failed (tested .network-known .ensures) (c .before .if1 .taken)) (c .refuse .ensures)
+    (failed (tested .network-known .ensures) (c .before .if1 .taken)) (c .not-written .ensures)
     (clearing tested .clear-bytes .ensures)
 
 wide-requires : tie.Need-wide-requires
@@ -57,8 +56,8 @@ mul-end c = search needs
 add-end : tie.Need-add-end
 add-end c = search needs
 
-refuse-requires-2 : tie.Need-refuse-requires-2
-refuse-requires-2 c κs = search needs
+not-written-requires-2 : tie.Need-not-written-requires-2
+not-written-requires-2 c κs = search needs
 
 same-length-2 : tie.Need-same-length-2
 same-length-2 c = search needs
@@ -69,7 +68,7 @@ returns-2 c =
     let passed = counted .before in
     let a = entry (passed .before) .args in
     write-short (a .counts) (a .arcs .now) (length (a .text .now)) (known passed) (counted .wide .ensures)
-    (omega arith) (c .refuse2 .ensures) (clearing (passed .before) .clear-bytes .ensures)
+    (omega arith) (c .not-written2 .ensures) (clearing (passed .before) .clear-bytes .ensures)
 
 counts-row-requires : tie.Need-counts-row-requires
 counts-row-requires c κs = search needs
@@ -131,14 +130,14 @@ write-spec =
     (tie.spec
     clear-bytes-requires
     network-known-requires
-    refuse-requires
+    not-written-requires
     same-length
     returns
     wide-requires
     mul-used
     mul-end
     add-end
-    refuse-requires-2
+    not-written-requires-2
     same-length-2
     returns-2
     counts-row-requires

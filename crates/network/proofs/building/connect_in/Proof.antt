@@ -7,7 +7,8 @@ use borrow.Author.Needs.{needs}
 use Rattle.definitions.specs.Combinations.{combinationSize}
 use Rattle.definitions.specs.Connecting.{Built}
 use Rattle.definitions.specs.Faults.{Outcome}
-use Rattle.network.specs.Outcomes.{connectedIn}
+use Rattle.index.specs.laws.CutRecords.{cut-used}
+use Rattle.metastates.specs.Outcomes.{connectedIn}
 use Rattle.network.specs.Workspace.{Ready}
 use Rattle.network.specs.laws.Building.{connected-as, finished-returns, stopped-returns, refused-returns}
 use Rattle.network.proofs.building.connect_in.Statement.{statement}
@@ -22,9 +23,7 @@ module _ (c : tie.After-combination-size) where
   sized = c .combination-size .ensures
 
   used-few : c .combination-size .result * start .args .count ≤ length (start .args .combinations .now)
-  used-few =
-      subst (λ (n : ℕ). n * start .args .count ≤ length (start .args .combinations .now)) (sym sized)
-      (start .pre .0)
+  used-few = cut-used sized (start .args .count) (start .pre .0)
 
   abbrev outcome : (size : ℕ) → Outcome Built
   outcome size =

@@ -1,6 +1,6 @@
 -- `connecting::connect_with` meets its contract.
 use borrow.Author.Needs.{needs}
-use Rattle.network.specs.Underway.{Startable}
+use Rattle.network.specs.Workspace.{Startable}
 use Rattle.network.specs.laws.Connecting.{fillable, startable, start-between, connected, start-refused}
 use Rattle.network.proofs.connecting.connect_with.Statement.{statement}
 use Rattle.network.proofs.connecting.connect_with.Tie as tie

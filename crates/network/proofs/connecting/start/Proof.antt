@@ -21,7 +21,7 @@ follow-requires c κs =
     record {
       searchable = s .searchable;
       underway = holds-none (s .empty);
-      shaped = before-wide usable (made .before .all-phones .ensures) (made .around .ensures);
+      shaped = before-wide usable (made .before .all-phones .result) (made .around .ensures);
     }
 
 same-length : tie.Need-same-length
@@ -38,8 +38,8 @@ returns c =
     let followed = c .before .before .before .before .before .before in
     let made = followed .before .before .before .before in
     let start = entry made in
-    started (start .pre .searchable .connectable .usable) (made .before .all-phones .ensures)
-    (made .around .ensures) (start .args .nodes .now) (followed .follow .ensures)
+    started (start .pre .searchable .connectable .usable) (made .before .all-phones .result) (made .around .ensures)
+    (made .before .all-phones .ensures) (start .args .nodes .now) (followed .follow .ensures)
 
 pub start-spec : {M : Type 1} → statement M
 start-spec =

@@ -1,7 +1,7 @@
 -- `running::print_all` meets its contract, by the length of the input.
 use mathlib.Core.Path.{sym}
 use borrow.Author.Needs.{needs}
-use Rattle.definitions.specs.laws.Program.{program-long, program-short}
+use Rattle.definitions.specs.laws.networks.Program.{program-long, program-short}
 use Rattle.program.specs.laws.Printing.{prints-same}
 use Rattle.program.proofs.running.print_all.Statement.{statement}
 use Rattle.program.proofs.running.print_all.Tie as tie

@@ -1,15 +1,15 @@
 -- `running::print_built` meets its contract: each answer of the build can be printed, and is what its book
 -- prints.
-use mathlib.Core.Path.{_≡_, sym, _∙_}
+use mathlib.Core.Path.{_≡_, refl, sym, ap, _∙_}
 use mathlib.Core.List.{List}
 use Prim.Native.Nat.{ℕ}
 use borrow.Author.Needs.{needs}
 use Rattle.definitions.specs.Matrices.{matrixSize}
-use Rattle.definitions.specs.Program.{programLent, programSpace, programTurns}
 use Rattle.network.specs.declared.Build.{Build}
+use Rattle.network.specs.Answers.{buildSaid}
 use Rattle.program.specs.Printing.{Prints, bookText}
 use Rattle.program.specs.laws.Printing.{prints-same}
-use Rattle.program.specs.laws.Books.{Printable, textTold, answer-printable, answer-told}
+use Rattle.program.specs.laws.Books.{Printable, textTold, answer-printable, answer-text}
 use Rattle.program.proofs.running.print_built.Statement.{statement}
 use Rattle.program.proofs.running.print_built.Tie as tie
 
@@ -25,8 +25,8 @@ printable : (c : tie.After-build-book) (answer : Build) → c .build-book .resul
     → Printable answer (words c)
 unfolding matrixSize
 printable c answer f =
-    answer-printable programLent programSpace programTurns (start c .args .text .now) answer _
-    (sym f ∙ c .build-book .ensures .0) (c .build-book .ensures .1 .1 .0) (start c .pre .0)
+    answer-printable _ _ _ (start c .args .text .now) answer _
+    (ap buildSaid (sym f) ∙ c .build-book .ensures .0) (c .build-book .ensures .1 .1 .0) (start c .pre .0)
 
 -- and what is printed of it is what is printed of the book
 prints : (c : tie.After-build-book) (answer : Build) (output : List ℕ) (count : ℕ)
@@ -35,8 +35,8 @@ prints : (c : tie.After-build-book) (answer : Build) (output : List ℕ) (count 
 unfolding matrixSize
 prints c answer output count f =
     prints-same (textTold answer (words c)) (bookText (start c .args .text .now)) output count
-    (answer-told programLent programSpace programTurns (start c .args .text .now) answer _
-    (sym f ∙ c .build-book .ensures .0) (c .build-book .ensures .1 .1 .0))
+    (answer-text _ _ _ (start c .args .text .now) answer _
+    (ap buildSaid (sym f) ∙ c .build-book .ensures .0) (c .build-book .ensures .1 .1 .0) refl refl refl)
 
 -- the build has ended
 abbrev ended : tie.After-arcs2 → tie.After-build-book

@@ -2,7 +2,8 @@
 use Prim.Native.Nat.{_-_}
 use lib.ListN.{length}
 use borrow.Author.Needs.{needs}
-use Rattle.definitions.specs.laws.Same.{Alike, same-lengths, alike-start, alike-more, alike-stop, alike-end}
+use Rattle.definitions.specs.laws.lists.Same.{Alike, same-lengths, alike-start, alike-more, alike-stop}
+use Rattle.definitions.specs.laws.lists.Same.{alike-end}
 use Rattle.showing.proofs.comparing.same_words.Statement.{statement}
 use Rattle.showing.proofs.comparing.same_words.Tie as tie
 

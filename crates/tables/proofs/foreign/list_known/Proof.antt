@@ -1,11 +1,11 @@
 -- `foreign::list_known` meets its contract: each answer by the first test that fails.
 use mathlib.Core.Path.{_≡_, sym, _∙_}
 use mathlib.Core.Bool.{true}
+use lib.Dec.{eqb}
 use borrow.Author.Needs.{needs}
 use borrow.Author.Tests.{eq-eqb, ne-eqb}
-use lib.Dec.{eqb}
 use Rattle.definitions.specs.ForeignTables.{headerKnown, classTableKnown}
-use Rattle.definitions.specs.laws.Tests.{held, failed}
+use Rattle.definitions.specs.laws.lists.Tests.{held, failed}
 use Rattle.tables.proofs.foreign.list_known.Statement.{statement}
 use Rattle.tables.proofs.foreign.list_known.Tie as tie
 

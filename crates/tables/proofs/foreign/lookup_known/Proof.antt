@@ -1,6 +1,6 @@
 -- `foreign::lookup_known` meets its contract: each answer by the first test that fails.
 use borrow.Author.Needs.{needs}
-use Rattle.definitions.specs.laws.Tests.{held, failed}
+use Rattle.definitions.specs.laws.lists.Tests.{held, failed}
 use Rattle.tables.specs.laws.LookupOrder.{lookup-order}
 use Rattle.tables.proofs.foreign.lookup_known.Statement.{statement}
 use Rattle.tables.proofs.foreign.lookup_known.Tie as tie

@@ -3,8 +3,8 @@ use mathlib.Core.Path.{sym}
 use native.Mathlib.Omega.{arith}
 use lib.Seq.{length-take-le}
 use borrow.Author.Needs.{needs}
-use Rattle.definitions.specs.laws.Books.{roots-few}
-use Rattle.definitions.specs.laws.Known.{header-ranges}
+use Rattle.definitions.specs.laws.books.Books.{roots-few}
+use Rattle.definitions.specs.laws.books.AcceptedKnown.{header-ranges}
 use Rattle.tables.specs.laws.TableTests.{root-count, roots-taken}
 use Rattle.tables.specs.laws.NamingTables.{once-counted}
 use Rattle.tables.proofs.foreign.named_once.Statement.{statement}

@@ -3,7 +3,7 @@ use mathlib.Core.Path.{_≡_}
 use mathlib.Core.Bool.{true}
 use borrow.Author.Needs.{needs}
 use Rattle.definitions.specs.ForeignTables.{headerKnown, nodeTableKnown}
-use Rattle.definitions.specs.laws.Tests.{held, failed}
+use Rattle.definitions.specs.laws.lists.Tests.{held, failed}
 use Rattle.tables.proofs.foreign.records_known.Statement.{statement}
 use Rattle.tables.proofs.foreign.records_known.Tie as tie
 

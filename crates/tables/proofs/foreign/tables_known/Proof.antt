@@ -1,12 +1,12 @@
 -- `foreign::tables_known` meets its contract: each answer by the first test that fails.
 use mathlib.Core.Path.{_≡_}
 use mathlib.Core.Bool.{true, _&&_}
-use borrow.Author.Needs.{needs}
 use lib.Dec.{T}
+use borrow.Author.Needs.{needs}
 use Rattle.definitions.specs.Tables.{tablesContents}
 use Rattle.definitions.specs.ForeignTables.{headerKnown, nodeTableKnown, classTableKnown, rootTableKnown}
 use Rattle.definitions.specs.ForeignTables.{namedOnce, tablesKnown}
-use Rattle.definitions.specs.laws.Tests.{T-three, held, failed}
+use Rattle.definitions.specs.laws.lists.Tests.{T-three, held, failed}
 use Rattle.tables.proofs.foreign.tables_known.Statement.{statement}
 use Rattle.tables.proofs.foreign.tables_known.Tie as tie
 

@@ -1,8 +1,8 @@
 -- `known::class_table_known` meets its contract.
 use borrow.Author.Needs.{needs}
 use Rattle.definitions.specs.ForeignTables.{classTableKnown}
-use Rattle.definitions.specs.laws.Tests.{held, failed}
-use Rattle.definitions.specs.laws.Known.{header-ranges}
+use Rattle.definitions.specs.laws.lists.Tests.{held, failed}
+use Rattle.definitions.specs.laws.books.AcceptedKnown.{header-ranges}
 use Rattle.tables.specs.laws.TableTests.{holds-taken}
 use Rattle.tables.proofs.known.class_table_known.Statement.{statement}
 use Rattle.tables.proofs.known.class_table_known.Tie as tie

@@ -2,7 +2,7 @@
 use Prim.Native.Nat.{_-_}
 use borrow.Author.Needs.{needs}
 use Rattle.definitions.specs.ForeignTables.{nodeTableKnown}
-use Rattle.definitions.specs.laws.Tests.{held, failed}
+use Rattle.definitions.specs.laws.lists.Tests.{held, failed}
 use Rattle.tables.specs.laws.TableTests.{Judged, nodes-held, nodes-more, nodes-stop, nodes-end}
 use Rattle.tables.proofs.known.node_table_known.Statement.{statement}
 use Rattle.tables.proofs.known.node_table_known.Tie as tie

@@ -3,9 +3,9 @@ use native.Mathlib.Omega.{arith}
 use borrow.Author.Needs.{needs}
 use Rattle.definitions.specs.BookLines.{rootCount}
 use Rattle.definitions.specs.ForeignTables.{rootTableKnown}
-use Rattle.definitions.specs.laws.Tests.{held, failed}
-use Rattle.definitions.specs.laws.Books.{roots-few}
-use Rattle.definitions.specs.laws.Known.{header-ranges}
+use Rattle.definitions.specs.laws.lists.Tests.{held, failed}
+use Rattle.definitions.specs.laws.books.Books.{roots-few}
+use Rattle.definitions.specs.laws.books.AcceptedKnown.{header-ranges}
 use Rattle.tables.specs.laws.TableTests.{holds-taken, root-count}
 use Rattle.tables.proofs.known.root_table_known.Statement.{statement}
 use Rattle.tables.proofs.known.root_table_known.Tie as tie

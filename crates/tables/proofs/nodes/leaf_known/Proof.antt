@@ -2,8 +2,8 @@
 use native.Mathlib.Omega.{arith}
 use lib.Dec.{eqb→eq}
 use borrow.Author.Needs.{needs}
-use Rattle.definitions.specs.laws.Tests.{same-tests, eq→eqb}
-use Rattle.definitions.specs.laws.KnownRecords.{leaf-exactly}
+use Rattle.definitions.specs.laws.lists.Tests.{same-tests, eq→eqb}
+use Rattle.definitions.specs.laws.books.KnownRecords.{leaf-exactly}
 use Rattle.tables.specs.laws.RecordTests.{refused}
 use Rattle.tables.proofs.nodes.leaf_known.Statement.{statement}
 use Rattle.tables.proofs.nodes.leaf_known.Tie as tie

@@ -1,7 +1,7 @@
 -- `nodes::question_known` meets its contract: each answer by the first part of the test that fails.
 use native.Mathlib.Omega.{arith}
 use borrow.Author.Needs.{needs}
-use Rattle.definitions.specs.laws.KnownRecords.{question-exactly}
+use Rattle.definitions.specs.laws.books.KnownRecords.{question-exactly}
 use Rattle.tables.specs.laws.RecordTests.{refused, last-below}
 use Rattle.tables.proofs.nodes.question_known.Statement.{statement}
 use Rattle.tables.proofs.nodes.question_known.Tie as tie

@@ -2,7 +2,7 @@
 use mathlib.Core.Path.{_∙_}
 use Prim.Native.Nat.{_<_}
 use borrow.Author.Needs.{needs}
-use Rattle.definitions.specs.laws.Products.{product-fits, sum-fits}
+use Rattle.definitions.specs.laws.lists.Products.{product-fits, sum-fits}
 use Rattle.tables.proofs.roots.root_of.Statement.{statement}
 use Rattle.tables.proofs.roots.root_of.Tie as tie
 

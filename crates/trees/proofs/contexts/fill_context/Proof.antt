@@ -4,7 +4,7 @@ use mathlib.Core.Path.{_≡_, _∙_}
 use Prim.Native.Nat.{_-_}
 use lib.ListN.{length}
 use borrow.Author.Needs.{needs}
-use Rattle.definitions.specs.laws.Contexts.{contextAt, silent-context-length}
+use Rattle.definitions.specs.laws.trees.Contexts.{contextAt, silent-context-length}
 use Rattle.lines.specs.laws.Filling.{Filled, filled-start, filled-more, filled-end}
 use Rattle.trees.proofs.contexts.fill_context.Statement.{statement}
 use Rattle.trees.proofs.contexts.fill_context.Tie as tie

@@ -17,13 +17,13 @@ add-if1 c = search needs
 returns : tie.Need-returns
 returns c = sym (other-width (c .before .before .before .args .header) _ (λ e. c .if1 .taken (search needs)))
 
-all-phones-requires : tie.Need-all-phones-requires
-all-phones-requires c κs = search needs
+are-phones-requires : tie.Need-are-phones-requires
+are-phones-requires c κs = search needs
 
 returns-2 : tie.Need-returns-2
 returns-2 c =
-    c .all-phones .ensures ∙ sym (by-phones (c .before .before .before .before .args .header) _ (search needs))
+    c .are-phones .ensures ∙ sym (by-phones (c .before .before .before .before .args .header) _ (search needs))
 
 pub is-context-spec : {M : Type 1} → statement M
 is-context-spec =
-    tie.close (tie.spec wide-requires mul-if1 add-if1 returns all-phones-requires returns-2)
+    tie.close (tie.spec wide-requires mul-if1 add-if1 returns are-phones-requires returns-2)

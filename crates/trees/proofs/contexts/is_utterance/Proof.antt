@@ -3,7 +3,7 @@ use mathlib.Core.Path.{sym}
 use Prim.Native.Nat.{_<_}
 use lib.ListN.{length}
 use borrow.Author.Needs.{needs}
-use Rattle.definitions.specs.laws.Tests.{held, failed}
+use Rattle.definitions.specs.laws.lists.Tests.{held, failed}
 use Rattle.trees.specs.laws.Phones.{no-phone, other-phones, other-start, by-end}
 use Rattle.trees.proofs.contexts.is_utterance.Statement.{statement}
 use Rattle.trees.proofs.contexts.is_utterance.Tie as tie
@@ -11,12 +11,12 @@ use Rattle.trees.proofs.contexts.is_utterance.Tie as tie
 returns : tie.Need-returns
 returns c = sym (no-phone _ _ (c .if1 .taken))
 
-all-phones-requires : tie.Need-all-phones-requires
-all-phones-requires c κs = search needs
+are-phones-requires : tie.Need-are-phones-requires
+are-phones-requires c κs = search needs
 
 returns-2 : tie.Need-returns-2
 returns-2 c =
-    let q = c .before .all-phones in
+    let q = c .before .are-phones in
     sym (other-phones _ _ (search needs) (failed (q .ensures) (c .if2 .taken)))
 
 shared-slice-read-first : tie.Need-shared-slice-read-first
@@ -24,7 +24,7 @@ shared-slice-read-first c = search needs
 
 returns-3 : tie.Need-returns-3
 returns-3 c =
-    let q = c .before .before .before .all-phones in
+    let q = c .before .before .before .are-phones in
     let all = held (q .ensures) (c .before .before .if2 .left) in
     let some : 0 < length (c .before .before .before .before .before .before .args .sequence .now) =
     search needs in
@@ -41,7 +41,7 @@ shared-slice-read-last c = search needs
 
 returns-4 : tie.Need-returns-4
 returns-4 c =
-    let q = c .before .before .before .before .all-phones in
+    let q = c .before .before .before .before .are-phones in
     let all = held (q .ensures) (c .before .before .before .if2 .left) in
     let some : 0 < length (c .before .before .before .before .before .before .before .args .sequence .now) =
     search needs in
@@ -52,7 +52,7 @@ is-utterance-spec =
     tie.close
     (tie.spec
     returns
-    all-phones-requires
+    are-phones-requires
     returns-2
     shared-slice-read-first
     returns-3

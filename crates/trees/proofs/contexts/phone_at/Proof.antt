@@ -1,7 +1,7 @@
 -- `contexts::phone_at` meets its contract: before the sequence, within it, after it.
 use mathlib.Core.Path.{sym}
 use borrow.Author.Needs.{needs}
-use Rattle.definitions.specs.laws.Contexts.{context-before, context-within, context-after}
+use Rattle.definitions.specs.laws.trees.Contexts.{context-before, context-within, context-after}
 use Rattle.trees.proofs.contexts.phone_at.Statement.{statement}
 use Rattle.trees.proofs.contexts.phone_at.Tie as tie
 

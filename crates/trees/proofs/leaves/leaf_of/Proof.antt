@@ -7,7 +7,7 @@ use Rattle.definitions.specs.BookReading.{nodeSize}
 use Rattle.definitions.specs.Tables.{nodeRecords}
 use Rattle.definitions.specs.ForeignTables.{holdsOnly}
 use Rattle.definitions.specs.Lookup.{lookupKnown}
-use Rattle.definitions.specs.laws.Tests.{held, failed}
+use Rattle.definitions.specs.laws.lists.Tests.{held, failed}
 use Rattle.trees.specs.laws.Answering.{lookup-foreign, lookup-range, lookup-leaf, lookup-fits}
 use Rattle.trees.proofs.leaves.leaf_of.Statement.{statement}
 use Rattle.trees.proofs.leaves.leaf_of.Tie as tie

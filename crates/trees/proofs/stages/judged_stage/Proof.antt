@@ -6,7 +6,7 @@ use native.Mathlib.Omega.{arith}
 use borrow.Author.Needs.{needs}
 use borrow.Author.Tests.{lt-ltb, le-ltb}
 use Rattle.definitions.specs.ForeignTables.{questionKnown, leafKnown}
-use Rattle.definitions.specs.laws.Tests.{held, failed}
+use Rattle.definitions.specs.laws.lists.Tests.{held, failed}
 use Rattle.trees.specs.Stages.{judgedStage}
 use Rattle.trees.proofs.stages.judged_stage.Statement.{statement}
 use Rattle.trees.proofs.stages.judged_stage.Tie as tie
@@ -32,12 +32,12 @@ last c = omega (arith, c .if2 .left, c .before .wide2 .ensures, c .before .befor
 record-known-requires : tie.Need-record-known-requires
 record-known-requires c κs = search needs
 
-refuse-requires : tie.Need-refuse-requires
-refuse-requires c κs = search needs
+refused-stage-requires : tie.Need-refused-stage-requires
+refused-stage-requires c κs = search needs
 
 returns : tie.Need-returns
 unfolding judgedStage
-returns c = rw (failed (c .before .before .record-known .ensures) (c .before .if1 .taken)) (c .refuse .ensures)
+returns c = rw (failed (c .before .before .record-known .ensures) (c .before .if1 .taken)) (c .refused-stage .ensures)
 
 wide-requires : tie.Need-wide-requires
 wide-requires c κs = search needs
@@ -58,8 +58,8 @@ returns-2 c = rw (known (judged (c .before)), lt-ltb _ _ (more c))
 is-context-requires : tie.Need-is-context-requires
 is-context-requires c κs = search needs
 
-refuse-requires-2 : tie.Need-refuse-requires-2
-refuse-requires-2 c κs = search needs
+refused-stage-requires-2 : tie.Need-refused-stage-requires-2
+refused-stage-requires-2 c κs = search needs
 
 returns-3 : tie.Need-returns-3
 unfolding judgedStage
@@ -69,7 +69,7 @@ returns-3 c =
       known (judged (tested .before .before)),
       le-ltb _ _ (last (tested .before)),
       failed (tested .is-context .ensures) (c .before .if3 .taken),
-    ) (c .refuse2 .ensures)
+    ) (c .refused-stage2 .ensures)
 
 returns-4 : tie.Need-returns-4
 unfolding judgedStage
@@ -86,7 +86,7 @@ judged-stage-spec =
     tie.close
     (tie.spec
     record-known-requires
-    refuse-requires
+    refused-stage-requires
     returns
     wide-requires
     add-if2
@@ -94,6 +94,6 @@ judged-stage-spec =
     add-t12
     returns-2
     is-context-requires
-    refuse-requires-2
+    refused-stage-requires-2
     returns-3
     returns-4)

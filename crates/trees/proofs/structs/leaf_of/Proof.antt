@@ -55,6 +55,7 @@ use Rattle.trees.specs.declared.Lookup.{Lookup}
 use Rattle.trees.specs.declared.Stage.{Stage}
 use Rattle.trees.specs.Answers.{lookupOf}
 use Rattle.trees.specs.Stages.{recordAt, firstStage, goesOn, placeOf, nextStage, answerOf}
+use Rattle.trees.specs.laws.Said.{lookup-said}
 use Rattle.trees.specs.laws.Stages.{Stands, left, first-stands, place-within, next-stands, stands-answer}
 use Rattle.definitions.proofs.Header as Hd
 use Rattle.definitions.proofs.Header.Laws as Hd′
@@ -236,7 +237,8 @@ module _ {M : Type 1} (𝓤 : URA M) (H : Heap 𝓤) (A : Atoms 𝓤) (W : Given
     exits answer v e is =
         qed W (raw (alive 𝓤 H A f.signature κs qs) ∷ ‵ Owned ∷ []) ∵
         suffices ! _ (ends-at 𝓤 H A f.ended stayed c W bound v answer
-        (tt, (tt, (tt, (tt, (tt, tt))))) (tt, (tt, (tt, (tt, (tt, tt)))))) $ says ! e $ frame ! $ frame ! $
+        (tt, (tt, (tt, (tt, (tt, tt))))) (tt, (tt, (tt, (tt, (tt, tt)))))) $
+        says ! (lookup-said _ e) $ frame ! $ frame ! $
         owned ! Lk.the-row (Is Lk.the-row) answer-makes answer _ is $ done !
 
     -- ---- the turns of the loop: the stage that one begins with stands, and its machine value lies in a local

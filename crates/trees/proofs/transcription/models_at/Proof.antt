@@ -8,9 +8,9 @@ use lib.Seq.{length-take-le}
 use lib.ListN.{length, take}
 use borrow.Author.Needs.{needs}
 use Rattle.definitions.specs.Lookup.{isContext}
-use Rattle.definitions.specs.laws.Contexts.{contextAt}
-use Rattle.trees.specs.Answers.{stateModels}
+use Rattle.definitions.specs.laws.trees.Contexts.{contextAt}
 use Rattle.tables.specs.Usable.{bookWith, Fit}
+use Rattle.trees.specs.Answers.{stateModels}
 use Rattle.trees.specs.laws.Models.{context-fits, window-inside, window-taken}
 use Rattle.trees.proofs.transcription.models_at.Statement.{statement}
 use Rattle.trees.proofs.transcription.models_at.Tie as tie

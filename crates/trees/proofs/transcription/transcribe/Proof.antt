@@ -9,7 +9,7 @@ use borrow.Author.Needs.{needs}
 use Rattle.definitions.specs.Tables.{Tables}
 use Rattle.definitions.specs.ForeignTables.{tablesKnown}
 use Rattle.definitions.specs.Transcription.{isUtterance}
-use Rattle.definitions.specs.laws.Tests.{held, failed}
+use Rattle.definitions.specs.laws.lists.Tests.{held, failed}
 use Rattle.tables.specs.Lending.{lentTables}
 use Rattle.tables.specs.laws.KnownTables.{tables-fit, own-book}
 use Rattle.trees.specs.laws.Answering.{ends-foreign, ends-utterance, ends-short, ends-given, some-state}
@@ -53,8 +53,8 @@ clear-words-requires c κs = search needs
 tables-known-requires : tie.Need-tables-known-requires
 tables-known-requires c κs = search needs
 
-refuse-requires : tie.Need-refuse-requires
-refuse-requires c κs = search needs
+no-models-requires : tie.Need-no-models-requires
+no-models-requires c κs = search needs
 
 same-length : tie.Need-same-length
 same-length c = search needs
@@ -64,15 +64,15 @@ returns c =
     let q = c .before .before in
     let a = entry q .args in
     ends-foreign (a .header) (tables (entry q)) (a .sequence .now) (length (a .models .now))
-    (c .refuse .result) (buffer q)
+    (c .no-models .result) (buffer q)
     (failed (q .tables-known .ensures) (c .before .if1 .taken))
-    (c .refuse .ensures) (q .before .before .before .clear-words .ensures)
+    (c .no-models .ensures) (q .before .before .before .clear-words .ensures)
 
 is-utterance-requires : tie.Need-is-utterance-requires
 is-utterance-requires c κs = search needs
 
-refuse-requires-2 : tie.Need-refuse-requires-2
-refuse-requires-2 c κs = search needs
+no-models-requires-2 : tie.Need-no-models-requires-2
+no-models-requires-2 c κs = search needs
 
 same-length-2 : tie.Need-same-length-2
 same-length-2 c = search needs
@@ -83,9 +83,9 @@ returns-2 c =
     let q = c .before .before .before .before in
     let a = entry q .args in
     ends-utterance (a .header) (tables (entry q)) (a .sequence .now) (length (a .models .now))
-    (c .refuse2 .result) (buffer q) (known (c .before .before .before))
+    (c .no-models2 .result) (buffer q) (known (c .before .before .before))
     (failed (u .ensures) (c .before .if2 .taken))
-    (c .refuse2 .ensures) (q .before .before .before .clear-words .ensures)
+    (c .no-models2 .ensures) (q .before .before .before .clear-words .ensures)
 
 wide-requires : tie.Need-wide-requires
 wide-requires c κs = search needs
@@ -93,8 +93,8 @@ wide-requires c κs = search needs
 div-room : tie.Need-div-room
 div-room c = some c
 
-refuse-requires-3 : tie.Need-refuse-requires-3
-refuse-requires-3 c κs = search needs
+no-models-requires-3 : tie.Need-no-models-requires-3
+no-models-requires-3 c κs = search needs
 
 same-length-3 : tie.Need-same-length-3
 same-length-3 c = search needs
@@ -106,10 +106,10 @@ returns-3 c =
     let words = judged u .before .before .before .clear-words in
     let n : ℕ = length (words .last .0) in
     ends-short (a .header) (tables (entry (judged u))) (a .sequence .now) (length (a .models .now))
-    (c .refuse3 .result) (words .last .0) (known (u .before .before)) (spoken u) _ n
+    (c .no-models3 .result) (words .last .0) (known (u .before .before)) (spoken u) _ n
     (c .before .before .wide .ensures) (words .kept .0) _ (own-book _ _)
     (no-room (length (a .sequence .now)) n _ (some (c .before .before)) (c .before .if3 .taken))
-    (c .refuse3 .ensures) (words .ensures)
+    (c .no-models3 .ensures) (words .ensures)
 
 all-models-requires : tie.Need-all-models-requires
 all-models-requires c κs =
@@ -145,16 +145,16 @@ transcribe-spec =
     (tie.spec
     clear-words-requires
     tables-known-requires
-    refuse-requires
+    no-models-requires
     same-length
     returns
     is-utterance-requires
-    refuse-requires-2
+    no-models-requires-2
     same-length-2
     returns-2
     wide-requires
     div-room
-    refuse-requires-3
+    no-models-requires-3
     same-length-3
     returns-3
     all-models-requires

@@ -5,7 +5,7 @@ use Prim.Native.Nat.{_-_}
 use native.Mathlib.Omega.{arith}
 use borrow.Author.Needs.{needs}
 use Rattle.definitions.specs.Tables.{nodeRecords}
-use Rattle.definitions.specs.laws.Tables.{node-records-length}
+use Rattle.definitions.specs.laws.books.Tables.{node-records-length}
 use Rattle.tables.specs.laws.KnownTables.{record-listed}
 use Rattle.trees.specs.Stages.{recordAt}
 use Rattle.trees.specs.laws.Walking.{Walking, start-walking, goes-on, stops}

@@ -1,0 +1,3 @@
+-- Where the arcs that leave a state stand, and the laws about lent arcs.
+pub mod Standing
+pub mod laws

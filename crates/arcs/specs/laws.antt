@@ -1,0 +1,4 @@
+-- The laws of this crate: lent arcs that are known, and the arcs that leave a state, said and handed out.
+pub mod KnownArcs
+pub mod Said
+pub mod Leaving

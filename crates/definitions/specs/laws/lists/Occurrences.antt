@@ -1,0 +1,54 @@
+-- Laws about how often a number stands in a list: where each counts at most once, no element stands twice.
+-- laws/books/NamedOnce reads "named exactly once" by them.
+use mathlib.Core.Path.{_≡_, refl}
+use mathlib.Core.Logic.{inl, inr}
+use mathlib.Core.List.{List, [], _∷_, _++_}
+use mathlib.Core.Bool.{Bool, true, false}
+use Prim.Native.Nat.{ℕ, suc, _+_, _≤_}
+use native.Mathlib.Omega.{arith}
+use lib.Dec.{eqb}
+use lib.ListN.{length}
+use Rattle.definitions.specs.Lists.{if_then_else_, occurrences, isIn, distinct}
+use Rattle.definitions.specs.laws.lists.Tests.{by-test, if-true, eq→eqb}
+
+-- the first element counts one more than in the rest
+occurrences-first : (x y : ℕ) (l : List ℕ) → x ≡ y → occurrences x (y ∷ l) ≡ suc (occurrences x l)
+unfolding occurrences
+occurrences-first x y l e = if-true (eqb x y) _ _ (eq→eqb x y e)
+
+occurrences-rest : (x y : ℕ) (l : List ℕ) → occurrences x l ≤ occurrences x (y ∷ l)
+unfolding occurrences
+occurrences-rest x y l = go (eqb x y)
+  where
+    go : (b : Bool) → occurrences x l ≤ (if b then suc (occurrences x l) else occurrences x l)
+    go true = omega arith
+    go false = omega arith
+
+pub occurrences-append : (x : ℕ) (k l : List ℕ) → occurrences x (k ++ l) ≡ occurrences x k + occurrences x l
+unfolding occurrences
+occurrences-append x [] l = omega arith
+occurrences-append x (y ∷ k) l =
+    let rest = occurrences-append x k l in
+    by-test (eqb x y) (λ e. rw e (omega arith)) (λ e. rw e rest)
+
+pub occurrences-left : (x : ℕ) (k l : List ℕ) → occurrences x k ≤ occurrences x (k ++ l)
+occurrences-left x k l = omega (arith, occurrences-append x k l)
+
+pub occurrences-least : (x : ℕ) (l : List ℕ) → occurrences x l ≤ length l
+unfolding occurrences
+occurrences-least x [] = omega arith
+occurrences-least x (y ∷ l) =
+    let rest = occurrences-least x l in
+    by-test (eqb x y) (λ e. rw e (omega arith)) (λ e. rw e (omega arith))
+
+occurs : (x : ℕ) (l : List ℕ) → isIn x l → 1 ≤ occurrences x l
+occurs x [] h = absurd h
+occurs x (y ∷ l) (inl e) = omega (arith, occurrences-first x y l e)
+occurs x (y ∷ l) (inr h) = omega (arith, occurs x l h, occurrences-rest x y l)
+
+pub distinct-once : (l : List ℕ) → ((x : ℕ) → isIn x l → occurrences x l ≤ 1) → distinct l
+distinct-once [] once = tt
+distinct-once (y ∷ l) once = (
+  λ h. omega (arith, once y (inl refl), occurrences-first y y l refl, occurs y l h),
+  distinct-once l (λ x h. omega (arith, once x (inr h), occurrences-rest x y l)),
+)

@@ -1,0 +1,8 @@
+-- The laws of this crate: parts of lent words, the words of records, followers, the index filled, and its rows.
+pub mod Putting
+pub mod RecordWords
+pub mod CutRecords
+pub mod Followers
+pub mod NextMember
+pub mod Filling
+pub mod Rows
