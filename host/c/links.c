@@ -275,6 +275,15 @@ static const char *with_line(size_t number, const char *line) {
     return book;
 }
 
+/* Five different numbers, so that none can stand in another's place. */
+static void check_read_header(void) {
+    static const fulgwerz_header different = {.half = 0, .states = 1, .phones = 2, .classes = 3, .nodes = 4};
+    fulgwerz_read_answer read =
+        read_book(with_line(1, "H     0     1     2     3     4\n"), BOOK_BYTES, COUNT(nodes));
+    CHECK(read.fault == 0 && read.line == 0);
+    CHECK(same_header(read.header, different));
+}
+
 static void check_read_refused(const char *book, size_t length, uint32_t fault, size_t line) {
     fulgwerz_read_answer read = read_book(book, length, COUNT(nodes));
     CHECK(read.fault == fault);
@@ -518,6 +527,7 @@ int main(void) {
     check_small_layouts();
     check_answer_layouts();
     check_read();
+    check_read_header();
     check_read_refusals();
     check_leaf();
     check_leaf_in_list();
