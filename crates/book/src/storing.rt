@@ -1,60 +1,19 @@
 // A line's words put into the lent tables, and its names counted.
 use booklines::Entry;
 use booklines::State;
-use definitions::NODE_SIZE;
-use definitions::Node;
 use definitions::wide;
 use tables::naming::name_node;
+use tables::records::leaf_node;
+use tables::records::put_node;
+use tables::records::question_node;
 ghost use mathlib.Core.Path.{_≡_};
-ghost use Prim.Native.Nat.{_+_, _-_, _*_, _≤_};
+ghost use Prim.Native.Nat.{_-_, _≤_};
 ghost use lib.Bits.{bitOr};
 ghost use lib.ListN.{length, set};
 ghost use Rattle.definitions.specs.Lists.{_!_};
-ghost use Rattle.definitions.specs.BookLines.{question, leaf, asks};
 ghost use Rattle.definitions.specs.PhoneSets.{alone};
-ghost use Rattle.definitions.specs.Tables.{nodeWords, recordWords};
-ghost use Rattle.lines.specs.Putting.{putAt};
 ghost use Rattle.booklines.specs.Entries.{entryLine};
 ghost use Rattle.book.specs.Storing.{HasRoom, nodesAfter, classesAfter, rootsAfter, countsAfter};
-
-// The record of a question.
-fn question_node(class: u32, position: u32, yes: u32, no: u32) -> Node
-    ensures { λ r. ⌜ recordWords r ≡ nodeWords (question (asks class position) yes no) ⌝ }
-{
-    Node {
-        kind: 1,
-        value: class,
-        position,
-        yes,
-        no,
-    }
-}
-
-// The record of a leaf.
-fn leaf_node(model: u32) -> Node
-    ensures { λ r. ⌜ recordWords r ≡ nodeWords (leaf model) ⌝ }
-{
-    Node {
-        kind: 2,
-        value: model,
-        position: 0,
-        yes: 0,
-        no: 0,
-    }
-}
-
-// The five words of a node, at its place.
-fn put_node(words: &mut [u32], number: u32, node: Node)
-    requires { ⌜ 5 * number + 5 ≤ length (now words) ⌝ }
-    ensures { λ r. ⌜ now (words .exit) ≡ putAt (5 * number) (recordWords node) (now (words .entry)) ⌝ }
-{
-    let at = NODE_SIZE * wide(number);
-    words[at] = node.kind;
-    words[at + 1] = node.value;
-    words[at + 2] = node.position;
-    words[at + 3] = node.yes;
-    words[at + 4] = node.no;
-}
 
 // A phone put into the set of a class.
 fn put_member(sets: &mut [u64], class: u32, phone: u32)

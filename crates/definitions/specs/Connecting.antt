@@ -5,9 +5,9 @@ use mathlib.Core.List.{List, [], _∷_, _++_, map}
 use mathlib.Core.Bool.{Bool}
 use Prim.Native.Nat.{ℕ, suc}
 use lib.ListN.{drop}
-use Rattle.definitions.specs.Growing.{placeOf, Grown, Event, plain, enter, Machine, Room, Done, grow}
+use Rattle.definitions.specs.Growing.{Grown, Event, plain, enter, Machine, Room, Done, grow}
 use Rattle.definitions.specs.Faults.{Outcome, Test}
-use Rattle.definitions.specs.Lists.{if_then_else_, _!_}
+use Rattle.definitions.specs.Lists.{if_then_else_, _!_, placeOf}
 use Rattle.definitions.specs.Tables.{Book}
 use Rattle.definitions.specs.Combinations.{Combination}
 use Rattle.definitions.specs.Arcs.{Arc, arc, INITIAL, FINAL, firstState, lastState}

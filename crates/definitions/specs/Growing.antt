@@ -50,11 +50,6 @@ unfoldable pub placeFrom : {X : Type 0} → (X → X → Bool) → (at : ℕ) �
 placeFrom same at x [] = none
 placeFrom same at x (y ∷ table) = if same x y then some at else placeFrom same (suc at) x table
 
--- the place of an element in a table, beyond its end where it is not in it
-unfoldable pub placeOf : {X : Type 0} → (X → X → Bool) → List X → X → ℕ
-placeOf same [] x = 0
-placeOf same (y ∷ table) x = if same x y then 0 else suc (placeOf same table x)
-
 -- ---- limits
 
 -- how many elements and arcs there is room for

@@ -1,4 +1,4 @@
--- The definitions of document 01, the laws about them, and the theorems.
+-- The definitions of documents 01 and 02, the laws about them, and the theorems.
 pub mod Lists
 pub mod Searching
 pub mod Faults
@@ -28,8 +28,11 @@ pub mod Transcription
 pub mod BookBuilding
 pub mod Said
 pub mod Program
+pub mod BookText
+pub mod PlainForm
 pub mod laws
 pub mod examples
 pub mod construction
 pub mod graph
 pub mod demand
+pub mod spelling

@@ -63,6 +63,11 @@ unfoldable pub occurrences : ℕ → List ℕ → ℕ
 occurrences x [] = 0
 occurrences x (y ∷ l) = if eqb x y then suc (occurrences x l) else occurrences x l
 
+-- the place of an element in a list, beyond its end where it is not in it
+unfoldable pub placeOf : {X : Type 0} → (X → X → Bool) → List X → X → ℕ
+placeOf same [] x = 0
+placeOf same (y ∷ l) x = if same x y then 0 else suc (placeOf same l x)
+
 -- whether two lists of numbers are the same
 unfoldable pub same : List ℕ → List ℕ → Bool
 same [] [] = true

@@ -1,4 +1,4 @@
--- Examples and the starred cases of document 01.
+-- Examples and the starred cases of document 01, and examples of document 02.
 pub mod Everything
 pub mod Example
 pub mod Starred
@@ -6,3 +6,4 @@ pub mod Refusals
 pub mod LentTables
 pub mod Meaning
 pub mod Applied
+pub mod Spellings

@@ -1,5 +1,4 @@
--- The laws of this crate: parts of lent words, the words of records, followers, the index filled, and its rows.
-pub mod Putting
+-- The laws of this crate: the words of records, followers, the index filled, and its rows.
 pub mod RecordWords
 pub mod CutRecords
 pub mod Followers

@@ -3,11 +3,11 @@ use arcs::known::network_known;
 use definitions::ARC_SIZE;
 use definitions::Counts;
 use definitions::Fault;
-use definitions::Refusal;
 use definitions::wide;
 use lines::Row;
 use lines::clearing::clear_bytes;
 use writing::Written;
+use writing::not_written;
 use writing::writing::write as write_line;
 ghost use mathlib.Core.Path.{_≡_};
 ghost use Prim.Native.Nat.{_+_, _*_, _/_, _≤_};
@@ -65,13 +65,6 @@ fn write_arcs(arcs: &[u32], text: &mut [u8])
         write_line(arc_row(arcs, i), &mut text[from..end]);
         i += 1;
     }
-}
-
-// The refusal of a fault.
-fn not_written(fault: Fault) -> Written
-    ensures { λ r. ⌜ r ≡ Written.Refused (record { fault = fault; line = 0 }) ⌝ }
-{
-    Written::Refused(Refusal { fault, line: 0 })
 }
 
 // Writes the text of a network, and 0 in the rest of the buffer.

@@ -3,16 +3,21 @@
 -- in force, one for each phone and state: it is not asked that they were read from R lines, nor how often they
 -- name a node. Known tables with their own roots are such (`tables-fit`, `own-book` in laws/KnownTables.antt).
 use mathlib.Core.List.{List, map}
-use Prim.Native.Nat.{ℕ, _≤_}
+use Prim.Native.Nat.{ℕ, _-_, _*_, _≤_}
 use lib.Dec.{T, ltb}
-use lib.ListN.{length, take}
+use lib.ListN.{length, take, drop}
 use Rattle.definitions.specs.BookLines.{TreeNode, rootCount}
-use Rattle.definitions.specs.Tables.{treeNode, Book, nodeRecords}
+use Rattle.definitions.specs.Tables.{nodeOf, treeNode, Book, nodeRecords}
 use Rattle.definitions.specs.declared.Header.{Header}
-use Rattle.definitions.specs.Lists.{every}
+use Rattle.definitions.specs.declared.Node.{Node}
+use Rattle.definitions.specs.Lists.{every, records}
 use Rattle.definitions.specs.ForeignTables.{headerKnown, nodesKnown}
 use Rattle.definitions.specs.Ranges.{InRange}
-use Rattle.definitions.specs.BookReading.{ChildOnce}
+use Rattle.definitions.specs.BookReading.{nodeSize, ChildOnce}
+
+-- the records from a node on, in a table of so many nodes
+abbrev pub recordsFrom : (nodes at : ℕ) → (words : List ℕ) → List Node
+recordsFrom nodes at words = map nodeOf (records nodeSize (nodes - at) (drop (nodeSize * at) words))
 
 -- the nodes that the records are
 abbrev pub treeNodes : Header → (words : List ℕ) → List TreeNode

@@ -3,30 +3,19 @@ use definitions::Header;
 use definitions::Node;
 use definitions::wide;
 use matrix::sets::has_phone;
+use tables::classes::set_of;
 use tables::records::node_at;
 use tables::records::word_at;
-use tables::roots::from_zero;
 ghost use mathlib.Core.List.{map};
 ghost use mathlib.Core.Path.{_≡_};
-ghost use Prim.Native.Nat.{_-_, _*_, _<_};
+ghost use Prim.Native.Nat.{_*_, _<_};
 ghost use lib.Dec.{T};
 ghost use lib.ListN.{drop};
 ghost use Rattle.definitions.specs.BookReading.{nodeSize};
 ghost use Rattle.definitions.specs.ForeignTables.{nodesKnown};
-ghost use Rattle.definitions.specs.Lists.{if_then_else_, _!_};
+ghost use Rattle.definitions.specs.Lists.{if_then_else_};
 ghost use Rattle.definitions.specs.Lookup.{answers, leafReached};
 ghost use Rattle.definitions.specs.Tables.{nodeOf, nodeRecords, treeNode, askedOf};
-
-// The set of a class, empty beyond the table; class 0 counts as 1.
-fn set_of(classes: &[u64], class: u32) -> u64
-    ensures { λ r. ⌜ r ≡ now (classes .entry) ! (class - 1) ⌝ }
-{
-    let at = from_zero(class);
-    if at < classes.len() {
-        return classes[at];
-    }
-    0
-}
 
 // The child of a question that a context goes to.
 pub fn child_of(node: Node, classes: &[u64], context: &[u32]) -> u32

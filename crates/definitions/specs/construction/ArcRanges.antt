@@ -11,7 +11,7 @@ use lib.Dec.{T}
 use lib.ListN.{length, drop, length-drop}
 use borrow.Author.Tests.{lt-ltb}
 use Rattle.definitions.specs.declared.Counts.{Counts}
-use Rattle.definitions.specs.Lists.{concatMap, isIn}
+use Rattle.definitions.specs.Lists.{concatMap, isIn, placeOf}
 use Rattle.definitions.specs.Forms.{_‥_}
 use Rattle.definitions.specs.Lines.{inRanges}
 use Rattle.definitions.specs.Arcs.{Arc, INITIAL, firstState, lastState}
@@ -22,8 +22,7 @@ use Rattle.definitions.specs.laws.lists.Members.{in-left, of-append, in-
 use Rattle.definitions.specs.laws.lists.Members.{in-at}
 use Rattle.definitions.specs.laws.books.AcceptedKnown.{within-passes}
 use Rattle.definitions.specs.laws.networks.Metastates.{metastates-told}
-use Rattle.definitions.specs.Growing.{placeOf}
-use Rattle.definitions.specs.construction.Table.{placed}
+use Rattle.definitions.specs.laws.lists.Places.{placed}
 use Rattle.definitions.specs.construction.Finished.{turnArcs, Expansion}
 
 -- ---- in range

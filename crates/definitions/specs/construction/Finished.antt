@@ -7,17 +7,17 @@ use mathlib.Core.List.{List, [], _∷_, _++_, map, append-nil, map-append, map-m
 use Prim.Native.Nat.{ℕ, suc, _+_, _<_}
 use native.Mathlib.Omega.{arith}
 use lib.ListN.{length, take, drop, getD, length-append, List·getD-append, take-append-drop}
-use Rattle.definitions.specs.Connecting.{arcTo, Rules, ownArcs, finalArcs, startEvents, turnEvents}
-use Rattle.definitions.specs.Connecting.{Network, Built, noMetastate, connecting, connect}
-use Rattle.definitions.specs.Lists.{concatMap, isIn, distinct}
+use Rattle.definitions.specs.Connecting.{arcTo, Rules, ownArcs, finalArcs, startEvents, turnEvents, Network}
+use Rattle.definitions.specs.Connecting.{Built, noMetastate, connecting, connect}
+use Rattle.definitions.specs.Lists.{concatMap, isIn, distinct, placeOf}
 use Rattle.definitions.specs.Faults.{answered}
 use Rattle.definitions.specs.Arcs.{Arc, INITIAL, firstState, lastState}
 use Rattle.definitions.specs.Metastates.{Metastate, sameMetastate}
-use Rattle.definitions.specs.Growing.{plain, enter, Room, finished, grownIn, placeOf}
+use Rattle.definitions.specs.Growing.{plain, enter, Room, finished, grownIn}
 use Rattle.definitions.specs.laws.lists.Lists.{concatMap-append}
 use Rattle.definitions.specs.laws.lists.Members.{in-left, in-right, in-map, of-map, in-concatMap}
 use Rattle.definitions.specs.laws.networks.Metastates.{metastates-told}
-use Rattle.definitions.specs.construction.Table.{place-at}
+use Rattle.definitions.specs.laws.lists.Places.{place-at}
 use Rattle.definitions.specs.construction.Performing.{enteredBy, enteredIn, eventArc}
 use Rattle.definitions.specs.construction.Turning.{entered-enter, entered-plain, passed-on}
 use Rattle.definitions.specs.construction.Expanding.{eventsFrom, Expanded, grown-expanded, grown-finished}

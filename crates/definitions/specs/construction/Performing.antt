@@ -8,17 +8,18 @@ use mathlib.Core.Option.{Option, none, some}
 use Prim.Native.Nat.{ℕ}
 use native.Mathlib.Omega.{arith}
 use lib.ListN.{length}
-use Rattle.definitions.specs.Lists.{concatMap, isIn, distinct}
+use Rattle.definitions.specs.Lists.{concatMap, isIn, distinct, placeOf}
 use Rattle.definitions.specs.Faults.{answered}
 use Rattle.definitions.specs.Arcs.{Arc}
-use Rattle.definitions.specs.Growing.{Grown, Event, plain, enter, Machine, placeFrom, Room, addArc}
-use Rattle.definitions.specs.Growing.{addBoth, perform, performAll, placeOf}
+use Rattle.definitions.specs.Growing.{Grown, Event, plain, enter, Machine, placeFrom, Room, addArc, addBoth}
+use Rattle.definitions.specs.Growing.{perform, performAll}
 use Rattle.definitions.specs.laws.lists.Tests.{Tells}
 use Rattle.definitions.specs.laws.lists.Lists.{concatMap-append}
 use Rattle.definitions.specs.laws.lists.Members.{in-left, in-right, of-append, distinct-more}
 use Rattle.definitions.specs.laws.text.Judging.{judge-answered, andThen-answered}
 use Rattle.definitions.specs.laws.networks.Limits.{arc-added, both-added}
-use Rattle.definitions.specs.construction.Table.{place-stays, place-found, place-new}
+use Rattle.definitions.specs.laws.lists.Places.{place-stays}
+use Rattle.definitions.specs.construction.Table.{place-found, place-new}
 
 module _ {X E : Type 0} (m : Machine X E) where
   -- the elements that an event enters, and that events enter

@@ -9,13 +9,12 @@ use native.Mathlib.Nat.{suc-mul}
 use native.Mathlib.Omega.{arith}
 use lib.Dec.{T, leb, le→leb}
 use lib.ListN.{length, drop, getD, length-drop}
-use Rattle.definitions.specs.Lists.{concatMap, isIn}
+use Rattle.definitions.specs.Lists.{concatMap, isIn, placeOf}
 use Rattle.definitions.specs.Arcs.{Arc, INITIAL, firstState, lastState}
 use Rattle.definitions.specs.Metastates.{Metastate, sameMetastate}
 use Rattle.definitions.specs.Connecting.{Rules, ownArcs, finalArcs, arcInto, Network, noMetastate, arcTo}
 use Rattle.definitions.specs.NetworkText.{neverDescending}
 use Rattle.definitions.specs.laws.lists.Tests.{T-and, by-test}
-use Rattle.definitions.specs.Growing.{placeOf}
 use Rattle.definitions.specs.construction.Finished.{turnArcs, Expansion}
 
 -- ---- rising

@@ -8,20 +8,20 @@ use Prim.Native.Nat.{ℕ, _≤_}
 use native.Mathlib.Omega.{arith}
 use lib.Dec.{T, eqb, eqb→eq, not-T}
 use lib.ListN.{getD, length-map}
-use Rattle.definitions.specs.Lists.{every, isIn}
+use Rattle.definitions.specs.Lists.{every, isIn, placeOf}
 use Rattle.definitions.specs.Tables.{Book}
 use Rattle.definitions.specs.Lookup.{modelAt}
 use Rattle.definitions.specs.Combinations.{combinations}
 use Rattle.definitions.specs.Metastates.{Metastate, sameMetastate, combinationOf, phoneOf, modelsOf}
 use Rattle.definitions.specs.Metastates.{followers}
-use Rattle.definitions.specs.Growing.{finished, grownIn, placeOf}
+use Rattle.definitions.specs.Growing.{finished, grownIn}
 use Rattle.definitions.specs.Connecting.{finalArcs, arcInto, Network, noMetastate}
 use Rattle.definitions.specs.laws.lists.Members.{of-map, every-in}
 use Rattle.definitions.specs.laws.text.Ranges.{phone-range}
 use Rattle.definitions.specs.laws.books.Sound.{Sound}
 use Rattle.definitions.specs.laws.trees.ModelsAlong.{leafModels}
 use Rattle.definitions.specs.laws.networks.Metastates.{metastates-told, starts-once, followers-once}
-use Rattle.definitions.specs.construction.Table.{placed}
+use Rattle.definitions.specs.laws.lists.Places.{placed}
 use Rattle.definitions.specs.construction.Finished.{turnArcs, Finished, build-finished, table-holds}
 use Rattle.definitions.specs.graph.Graph.{Graph, Proper, arcsOf, Reachable, Alive}
 use Rattle.definitions.specs.demand.Chosen.{LeafOf, Chosen, combinationAt, chosen-at}

@@ -1,6 +1,6 @@
 -- Opens every definition, so that closed examples compute: `unfolding everything` opens what its line names.
 use Rattle.definitions.specs.Lists.{every, atLeastOne, select, lastPasses, concatMap, upFrom}
-use Rattle.definitions.specs.Lists.{firstWhere, mapOption, occurrences, same, records, padded}
+use Rattle.definitions.specs.Lists.{firstWhere, mapOption, occurrences, placeOf, same, records, padded}
 use Rattle.definitions.specs.Faults.{judge, andThen, answerLeft}
 use Rattle.definitions.specs.Numerals.{isDigit, isNumeral, valueOf, numeralWithin, numeral}
 use Rattle.definitions.specs.Lines.{skipSpaces, digitsField, fieldOf, fieldText, formOf, isBlank}
@@ -54,6 +54,11 @@ use Rattle.definitions.specs.BookBuilding.{buildRead, buildBook, tablesA
 use Rattle.definitions.specs.Said.{saidOf, progressOf}
 use Rattle.definitions.specs.Program.{textOfBuilt, networkOf, refusalText, printed}
 use Rattle.definitions.specs.Program.{program}
+use Rattle.definitions.specs.BookText.{membersFrom, linesOfNodes, linesOfRoots, linesOfBook, bookLineFor}
+use Rattle.definitions.specs.BookText.{textOfBook}
+use Rattle.definitions.specs.PlainForm.{treeBelow, treesOf, setsIn, firstUses, setsOf, sizeOf}
+use Rattle.definitions.specs.PlainForm.{nodesFrom, allNodes, rootsFrom, numbered, plainContents, headerFor}
+use Rattle.definitions.specs.PlainForm.{plainLines, plainText, writePlain}
 
 unfoldable pub everything : Unit {0}
 unfolding every atLeastOne firstWhere mapOption select lastPasses concatMap upFrom occurrences same records
@@ -79,4 +84,7 @@ unfolding every atLeastOne firstWhere mapOption select lastPasses concatMap upFr
     walkByLines reachedByLines modelGiven together modelsAlong treesGive silentEnds modelOf transcription
     isUtterance transcribe buildRead buildBook tablesAfter buffersAfter textOfBuilt networkOf refusalText
     printed program addElement grow grownIn finalLast matrixSize matrixRecord saidOf progressOf
+    membersFrom linesOfNodes linesOfRoots linesOfBook bookLineFor textOfBook treeBelow treesOf setsIn firstUses
+    setsOf placeOf sizeOf nodesFrom allNodes rootsFrom numbered plainContents headerFor plainLines plainText
+    writePlain
 everything = tt

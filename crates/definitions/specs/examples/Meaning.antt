@@ -17,11 +17,11 @@ use Rattle.definitions.specs.examples.Example.{input, output, lent, Resu
 use Rattle.definitions.specs.examples.Example.{Holds, example}
 
 -- what the trees give, by the lines
-linesOr : Outcome (List BookLine) → List BookLine
+unfoldable pub linesOr : Outcome (List BookLine) → List BookLine
 linesOr (answered lines) = lines
 linesOr (refused r) = []
 
-models : Option (List ℕ) → Result
+unfoldable pub models : Option (List ℕ) → Result
 models none = nothing
 models (some M) = gives M
 

@@ -4,8 +4,11 @@ pub mod Lists
 pub mod Same
 pub mod Searching
 pub mod Members
+pub mod Places
 pub mod Selected
 pub mod Occurrences
+pub mod Sums
+pub mod Fewer
 pub mod Products
 pub mod Rising
 pub mod Records

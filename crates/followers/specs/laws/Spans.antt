@@ -13,17 +13,18 @@ use lib.Seq.{take-append-le, drop-append-le, drop-append-seam, getD-set-same, ge
 use lib.Dec.{ltb, eqb}
 use borrow.Author.Tests.{eqb-true, eqb-false}
 use Rattle.definitions.specs.Faults.{Outcome, answered, andThen, judge}
-use Rattle.definitions.specs.Lists.{_!_, cleared, isIn}
+use Rattle.definitions.specs.Lists.{_!_, cleared, isIn, placeOf}
 use Rattle.definitions.specs.Tables.{Book}
 use Rattle.definitions.specs.Combinations.{Combination}
 use Rattle.definitions.specs.Arcs.{Arc, lastState}
 use Rattle.definitions.specs.Metastates.{Metastate, followers, sameMetastate}
-use Rattle.definitions.specs.Growing.{plain, enter, Room, addArc, addBoth, perform, performAll, placeOf}
+use Rattle.definitions.specs.Growing.{plain, enter, Room, addArc, addBoth, perform, performAll}
 use Rattle.definitions.specs.Connecting.{rulesOf, arcInto, Network, noMetastate, machineOf}
 use Rattle.definitions.specs.laws.lists.Tests.{by-test}
 use Rattle.definitions.specs.laws.networks.Limits.{withArc}
 use Rattle.definitions.specs.laws.lists.Members.{in-left}
-use Rattle.definitions.specs.construction.Table.{place-stays, place-known}
+use Rattle.definitions.specs.laws.lists.Places.{place-stays}
+use Rattle.definitions.specs.construction.Table.{place-known}
 use Rattle.definitions.specs.construction.Performing.{Performed, all-performed}
 use Rattle.definitions.specs.construction.Turning.{entered-enter}
 use Rattle.definitions.specs.construction.Finished.{enter-arcs}

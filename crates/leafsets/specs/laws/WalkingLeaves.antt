@@ -8,12 +8,11 @@ use native.Mathlib.Omega.{arith}
 use lib.Dec.{T}
 use lib.ListN.{length, take, drop}
 use lib.Seq.{getD-take}
-use borrow.Author.Tests.{eq-eqb, ne-eqb}
 use Rattle.definitions.specs.declared.Header.{Header}
 use Rattle.definitions.specs.declared.Node.{Node}
 use Rattle.definitions.specs.Lists.{_!_}
 use Rattle.definitions.specs.BookReading.{nodeSize}
-use Rattle.definitions.specs.Tables.{Book, nodeOf, treeNode, nodeRecords, askedOf}
+use Rattle.definitions.specs.Tables.{Book, nodeOf, nodeRecords, askedOf}
 use Rattle.definitions.specs.ForeignTables.{headerKnown, nodesKnown}
 use Rattle.definitions.specs.Matrices.{Matrix, matrixWords, yesSide, noSide}
 use Rattle.definitions.specs.Combinations.{Leaf, leavesBelow, onYes, onNo}
@@ -24,7 +23,7 @@ use Rattle.definitions.specs.laws.matrices.SevenWords.{words-yes, words-no}
 use Rattle.definitions.specs.laws.books.Tables.{tree-nodes-length}
 use Rattle.definitions.specs.laws.books.AcceptedKnown.{header-ranges}
 use Rattle.tables.specs.Usable.{bookWith}
-use Rattle.tables.specs.laws.KnownTables.{node-is, question-fits, known-forward}
+use Rattle.tables.specs.laws.KnownTables.{question-is, leaf-is, question-fits, known-forward}
 use Rattle.matrix.specs.Shapes.{widthOf, matrixIn, HasWidth}
 use Rattle.matrix.specs.laws.Widths.{matrix-back, has-width, width-taken}
 use Rattle.leafsets.specs.Leaves.{leafSize, putLeaf, putLeaves, lastNode}
@@ -95,16 +94,16 @@ module _ (header : Header) (nodes classes : List ℕ) where
       some-level = omega arith
 
       leaf-below : (m : Matrix) → (x .kind ≡ 1 → ⊥) → leaves m node ≡ record { node = node; carried = m } ∷ []
-      unfolding treeNode bookWith
+      unfolding bookWith
       leaf-below m other =
           ap (λ (n : ℕ). leavesBelow n book m node) some-level
           ∙ below-leaf book (header .nodes - 1) m node (x .value)
-          (node-is header nodes node listed ∙ ap treeNode (sym own) ∙ rw (ne-eqb (x .kind) 1 other))
+          (leaf-is header nodes node listed x own other)
 
       sides-below : (m : Matrix) → x .kind ≡ 1 → leaves m node
           ≡ leaves (yesSide (x .position) (classes ! (x .value - 1)) m) (x .yes)
           ++ leaves (noSide (x .position) (classes ! (x .value - 1)) m) (x .no)
-      unfolding treeNode bookWith
+      unfolding bookWith
       sides-below m kind =
           let fits = question-fits header nodes known node listed x own kind in
           let less : ℕ = header .nodes - 1 in
@@ -116,7 +115,7 @@ module _ (header : Header) (nodes classes : List ℕ) where
           (omega (arith, fits .in-range .class-low, fits .in-range .class-high)) in
           ap (λ (n : ℕ). leavesBelow n book m node) some-level
           ∙ below-question book less m node (askedOf x) (x .yes) (x .no)
-          (node-is header nodes node listed ∙ ap treeNode (sym own) ∙ rw (eq-eqb (x .kind) 1 kind))
+          (question-is header nodes node listed x own kind)
           ∙ ap (λ (z : ℕ). leavesBelow less book (yesSide (x .position) z m) (x .yes)
           ++ leavesBelow less book (noSide (x .position) z m) (x .no)) set-is
           ∙ ap₂ _++_

@@ -1,22 +1,23 @@
--- Laws about words put into a lent table: one by one they are the words put at once; right after the used ones
--- they are used too.
+-- Laws about words put into a lent table: one by one, or next to others, they are the words put at once; right after
+-- the used ones they are used too; and in place of a part that was lent.
 use mathlib.Core.Path.{_≡_, refl, sym, ap, _∙_}
 use mathlib.Core.List.{List, [], _∷_, _++_, append-assoc, append-nil}
 use Prim.Native.Nat.{ℕ, suc, _+_, _-_, _≤_, _<_}
 use native.Mathlib.Nat.{add-zero}
 use native.Mathlib.Numerals.{add-one}
 use native.Mathlib.Omega.{arith}
-use lib.ListN.{length, take, drop, set, length-append, length-set, length-replicate, take-append-drop}
-use lib.ListN.{replicate-append-replicate}
+use lib.ListN.{length, take, drop, set, length-append, length-set, length-replicate, length-drop}
+use lib.ListN.{take-append-drop, replicate-append-replicate}
 use lib.Seq.{take-suc-set, drop-set-lt, take-append-seam, drop-append-add, append-snoc, set-split}
-use lib.Seq.{set-append-left}
+use lib.Seq.{set-append-left, take-at, drop-at, drop-drop, length-take-le, take-append-le, take-take}
+use borrow.Rule.Slice.PartMut.{putMid}
 use Rattle.definitions.specs.Lists.{cleared, padded}
 use Rattle.definitions.specs.laws.lists.Lists.{drop-cleared, padded-length}
 use Rattle.lines.specs.Putting.{putAt}
 
 -- ---- words put one by one
 
-put-none : (at : ℕ) (table : List ℕ) → putAt at [] table ≡ table
+pub put-none : (at : ℕ) (table : List ℕ) → putAt at [] table ≡ table
 unfolding putAt
 put-none at table = rw (append-nil, add-zero) (take-append-drop at table)
 
@@ -51,6 +52,44 @@ put-each at word words table h =
     put-from at 1 words (set table at word) (simp length-set (omega arith))
     ∙ put-more at (at + 1) word words table refl (omega arith)
 
+-- ---- words put next to others
+
+module _ (at : ℕ) (k l table : List ℕ) (next : ℕ) (e : next ≡ at + length k)
+    (room : next + length l ≤ length table) where
+  -- what stands after both
+  both-then : (take at table ++ k) ++ (l ++ drop (next + length l) table) ≡ putAt at (k ++ l) table
+  unfolding putAt
+  both-then =
+      let past : next + length l ≡ at + length (k ++ l) = rw (length-append k l) (omega arith) in
+      rw past (simp append-assoc)
+
+  -- words put after others that were put
+  pub put-both : putAt next l (putAt at k table) ≡ putAt at (k ++ l) table
+  unfolding putAt
+  put-both =
+      let front : List ℕ = take at table ++ k in
+      let size : length front ≡ next =
+      length-append (take at table) k ∙ omega (arith, length-take-le at table (omega arith)) in
+      let after : drop (next + length l) (front ++ drop (at + length k) table) ≡ drop (next + length l) table =
+      rw (← size, drop-append-add front _ (length l), drop-drop (length l) (at + length k) table)
+      (ap (λ (n : ℕ). drop n table) {x = at + length k + length l} {y = length front + length l} (omega arith)) in
+      rw (take-at front (drop (at + length k) table) next size, after)
+      (append-assoc front l (drop (next + length l) table) ∙ both-then)
+
+  -- and before them
+  pub put-before : putAt at k (putAt next l table) ≡ putAt at (k ++ l) table
+  unfolding putAt
+  put-before =
+      let front : List ℕ = take next table in
+      let size : length front ≡ next = length-take-le next table (omega arith) in
+      let back : List ℕ = drop (next + length l) table in
+      let first : take at ((front ++ l) ++ back) ≡ take at table =
+      rw (append-assoc front l back, take-append-le at front (l ++ back) (omega arith))
+      (take-take at next table (omega arith)) in
+      let last : drop (at + length k) ((front ++ l) ++ back) ≡ l ++ back =
+      rw (append-assoc front l back) (drop-at front (l ++ back) (at + length k) (omega arith)) in
+      rw (first, last) both-then
+
 -- ---- a lent table: its used words, then zeros
 
 -- words that stand right after the used ones are used too
@@ -83,3 +122,17 @@ unfolding padded
 padded-zeros size count h =
     rw (length-replicate, replicate-append-replicate)
     (ap (λ (k : ℕ). cleared k) {x = count + (size - count)} {y = size} (omega arith))
+
+-- ---- a part that is lent, `size` words from a place on
+
+pub part-length : (words : List ℕ) (from size : ℕ) {end : ℕ} → end ≡ from + size → end ≤ length words
+    → length (take (end - from) (drop from words)) ≡ size
+part-length words from size {end} e h =
+    length-take-le (end - from) (drop from words) (rw length-drop (omega arith)) ∙ omega arith
+
+-- the words with the part as it came back
+pub part-put : (words part new : List ℕ) (from size : ℕ) {end : ℕ} → end ≡ from + size → part ≡ new
+    → putMid from (end - from) words part ≡ take from words ++ new ++ drop (from + size) words
+part-put words part new from size {end} e f =
+    let same : end - from ≡ size = omega arith in
+    rw (same, f, drop-drop size from words, append-assoc)

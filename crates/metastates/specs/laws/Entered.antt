@@ -8,12 +8,12 @@ use lib.ListN.{length}
 use borrow.Author.Tests.{lt-ltb}
 use Rattle.definitions.specs.declared.Fault.the-variants.{Crowd}
 use Rattle.definitions.specs.Faults.{refuse, andThen}
-use Rattle.definitions.specs.Growing.{Grown, Machine, enter, placeFrom, Room, addArc, addElement, addBoth}
-use Rattle.definitions.specs.Growing.{perform, placeOf}
-use Rattle.definitions.specs.construction.Table.{place-at, place-known, place-none}
+use Rattle.definitions.specs.Growing.{Grown, Machine, enter, placeFrom, Room, addArc, addElement, addBoth, perform}
+use Rattle.definitions.specs.laws.lists.Places.{place-at}
+use Rattle.definitions.specs.construction.Table.{place-known, place-none}
 use Rattle.definitions.specs.laws.lists.Tests.{Tells}
 use Rattle.definitions.specs.laws.text.Judging.{allPass, judge-passing}
-use Rattle.definitions.specs.Lists.{isIn, distinct}
+use Rattle.definitions.specs.Lists.{isIn, distinct, placeOf}
 use Rattle.definitions.specs.laws.lists.Members.{in-at}
 use Rattle.definitions.specs.laws.networks.Limits.{withElement, element-first}
 use Rattle.metastates.specs.Chains.{Code, Found}

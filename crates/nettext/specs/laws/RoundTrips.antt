@@ -1,12 +1,11 @@
 -- Demand 2 of the two entries: what `write` wrote, `read` reads as the same network; what `read` accepted,
 -- `write` writes as the same text. The premises are what the contracts of the two entries ensure of their
 -- answers and buffers.
-use mathlib.Core.Path.{_≡_, refl, sym, ap, _∙_}
+use mathlib.Core.Path.{_≡_, refl, sym, _∙_}
 use mathlib.Core.List.{List}
 use Prim.Native.Nat.{ℕ, _≤_}
 use native.Mathlib.Omega.{arith}
 use lib.ListN.{length, take}
-use lib.Seq.{take-append-seam}
 use Rattle.definitions.specs.declared.Counts.{Counts}
 use Rattle.definitions.specs.Faults.{Outcome, answered, refused, answerLeft}
 use Rattle.definitions.specs.Lists.{padded}
@@ -15,23 +14,15 @@ use Rattle.definitions.specs.Said.{saidOf}
 use Rattle.definitions.specs.laws.networks.RoundTrips.{written-read-same, read-written}
 use Rattle.writing.specs.Answers.{writtenOf, writtenSaid}
 use Rattle.writing.specs.laws.Said.{written-told}
+use Rattle.writing.specs.laws.Answering.{bytes-written}
 use Rattle.writing.specs.declared.Written.{Written}
-use Rattle.writing.specs.declared.Written.the-variants as written
 use Rattle.nettext.specs.Answers.{readingOf, readingSaid}
 use Rattle.nettext.specs.laws.Said.{reading-told}
 use Rattle.nettext.specs.declared.Reading.{Reading}
+use Rattle.writing.specs.declared.Written.the-variants as written
 use Rattle.nettext.specs.declared.Reading.the-variants as reading
 
 -- ---- what the answers say
-
--- where bytes are answered, a text was written, and they are it
-bytes-written : (o : Outcome (List ℕ)) (size count : ℕ) → writtenOf o ≡ written.Bytes count
-    → (text : List ℕ) × (o ≡ answered text) × (take count (answerLeft size o) ≡ text) × (count ≡ length text)
-unfolding writtenOf answerLeft padded
-bytes-written (answered text) size count e =
-    let same : length text ≡ count = cc in
-    (text, refl, rw (← same) (take-append-seam text _), sym same)
-bytes-written (refused r) size count e = let z : _≡_ {A = ℕ} 0 1 = cc in absurd (omega arith)
 
 -- where counts are answered, lines were read, and the counts are theirs
 counts-read : (o : Outcome (List NetworkLine)) (counts : Counts) → readingOf o ≡ reading.Accepted counts
@@ -56,13 +47,11 @@ module _ (counts : Counts) (words text text′ : List ℕ) (wrote : Written) (co
     pub write-then-read : (read ≡ reading.Accepted counts) × (arcs′ ≡ words)
     unfolding readingOf
     write-then-read =
-        let (own, made, taken, _) =
-        bytes-written (writeNetwork counts words (length text)) (length text) count
-        (sym (written-told _ write-says) ∙ bytes) in
-        let (lines, accepted, stated, left) = written-read-same counts words (length text) own made in
-        let bytes-read : take count text′ ≡ own = ap (take count) write-leaves ∙ taken in (
-          reading-told _ read-says ∙ rw (same-length, bytes-read, accepted, readingOf, stated),
-          read-leaves ∙ rw (same-length, bytes-read) left,
+        let own = bytes-written _ (length text) wrote count text′ (write-says, write-leaves) bytes in
+        let (lines, accepted, stated, left) =
+        written-read-same counts words (length text) (own .text) (own .answers) in (
+          reading-told _ read-says ∙ rw (same-length, own .bytes, accepted, readingOf, stated),
+          read-leaves ∙ rw (same-length, own .bytes) left,
         )
 
 -- ---- a text read and written again

@@ -1,28 +1,26 @@
 -- Laws about writing network text: each line of known counts and arcs fits its 32 bytes, the A lines stand one
 -- after the other, and the whole is the W line, the A lines and zeros. The proofs of the functions that write
 -- network text use them.
-use mathlib.Core.Path.{_≡_, refl, sym, ap, _∙_}
+use mathlib.Core.Path.{_≡_, sym, ap, _∙_}
 use mathlib.Core.List.{List, [], _∷_, _++_, map, append-assoc, append-nil}
-use mathlib.Core.Bool.{Bool, true, false, _&&_}
+use mathlib.Core.Bool.{Bool, true, false}
 use Prim.Native.Nat.{ℕ, _+_, _-_, _*_, _/_, _≤_, _<_}
 use Prim.Native.Char.{code}
 use native.Mathlib.Omega.{arith}
-use lib.Dec.{T, leb, ltb, ltb→lt, lit<, lit≤}
+use lib.Dec.{T, leb, lit<, lit≤}
 use lib.ListN.{length, take, drop, getD, length-drop, length-replicate, drop-of-length-le}
 use lib.Seq.{take-at, drop-at, take-all, length-take-le}
-use borrow.Author.Tests.{le-leb, lt-leb, leb-true, leb-false}
+use borrow.Author.Tests.{lt-leb, leb-true, leb-false}
 use borrow.Rule.Slice.PartMut.{putMid}
 use Rattle.definitions.specs.declared.Counts.{Counts}
-use Rattle.definitions.specs.declared.Fault.{Fault}
 use Rattle.definitions.specs.declared.Fault.the-variants.{Foreign, Short}
-use Rattle.definitions.specs.Lists.{if_then_else_, _!_, every, concatMap, records, cleared, padded, isIn}
-use Rattle.definitions.specs.Faults.{refuse, judge, answerLeft}
-use Rattle.definitions.specs.Said.{saidOf}
+use Rattle.definitions.specs.Lists.{_!_, every, concatMap, records, cleared, padded, isIn}
+use Rattle.definitions.specs.Faults.{judge}
 use Rattle.definitions.specs.Lines.{Line, lineText}
 use Rattle.definitions.specs.Arcs.{Arc, arcSize, arcWords, arcOf, arcsIn}
 use Rattle.definitions.specs.NetworkText.{arcKnown, networkKnown, lineOfCounts, lineOfArc, networkText}
 use Rattle.definitions.specs.NetworkText.{writeNetwork}
-use Rattle.definitions.specs.laws.lists.Tests.{T-and, by-test, every-at}
+use Rattle.definitions.specs.laws.lists.Tests.{by-test, if-true, every-at}
 use Rattle.definitions.specs.laws.lists.Lists.{map-at, part-at, drop-cleared}
 use Rattle.definitions.specs.laws.lists.Members.{in-every, every-weaker}
 use Rattle.definitions.specs.laws.lists.Records.{record-at, written-length, written-records}
@@ -33,13 +31,13 @@ use Rattle.definitions.specs.laws.networks.NetworkTexts.{arcText}
 use Rattle.definitions.specs.laws.networks.KnownNetworks.{arcs-length, known-parts}
 use Rattle.definitions.specs.laws.networks.RoundTrips.{text-length, known-written}
 use Rattle.lines.specs.Rows.{lineIn}
-use Rattle.writing.specs.laws.Rows.{isSmall}
 use Rattle.lines.specs.declared.Row.{Row}
-use Rattle.writing.specs.Writing.{writable, written}
-use Rattle.writing.specs.Answers.{writtenOf, writtenSaid}
-use Rattle.writing.specs.laws.Said.{written-said}
+use Rattle.writing.specs.Writing.{written}
+use Rattle.writing.specs.Answers.{TextLeft}
+use Rattle.writing.specs.laws.Rows.{LineLeft, line-left}
+use Rattle.writing.specs.laws.Answering.{refusal, refused-left, answered-left}
 use Rattle.writing.specs.declared.Written.{Written}
-use Rattle.writing.specs.declared.Written.the-variants.{Bytes, Refused}
+use Rattle.writing.specs.declared.Written.the-variants.{Bytes}
 use Rattle.arcs.specs.laws.KnownArcs.{allArcs, arcAt, arc-at, source-at, known-arcs, known-taken}
 use Rattle.nettext.specs.Writing.{arcInRange}
 
@@ -63,13 +61,6 @@ fits-length {line} f = line-length line (omega (arith, f .few)) (f .room)
 
 -- ---- one line written
 
-fit-small : (numbers : List ℕ) → T (allFit numbers) → every isSmall numbers ≡ true
-unfolding every
-fit-small [] h = refl
-fit-small (n ∷ numbers) h =
-    let (first, others) = T-and (ltb n 1000000) (allFit numbers) .0 h in
-    rw (le-leb n 999999 (omega (arith, ltb→lt n 1000000 first))) (fit-small numbers others)
-
 -- a row that holds at most four numbers uses none but its own
 row-used : (row : Row) → length (row .numbers) ≡ 5 → length (lineIn row .numbers) ≤ 4 → row .used ≤ 5
 unfolding lineIn
@@ -78,25 +69,14 @@ row-used row five few =
     (λ e. let more : 5 < row .used = leb-false (row .used) 5 e in
     let all = take-all (row .used) (row .numbers) (omega arith) in absurd (omega (arith, ap length all)))
 
-row-writable : (row : Row) (line : Line) → length (row .numbers) ≡ 5 → lineIn row ≡ line → Fits line
-    → writable row ≡ true
-unfolding writable
-row-writable row line five e f =
-    let used : row .used ≤ 5 = row-used row five (rw e (f .few)) in
-    rw (le-leb (row .used) 5 used, e) (fit-small (line .numbers) (f .room))
-
--- what writing a row into bytes answers and leaves
-abbrev LineLeft : Row → (bytes : List ℕ) → (done : Bool) → (after : List ℕ) → Type 0
-LineLeft row bytes done after =
-    (done ≡ (leb 32 (length bytes) && writable row)) × (after ≡ (if done then written row bytes else bytes))
-
 -- a row that holds a line that fits is written
 line-written : (row : Row) (line : Line) (bytes after : List ℕ) {done : Bool}
     → length (row .numbers) ≡ 5 → lineIn row ≡ line → Fits line → 32 ≤ length bytes
     → LineLeft row bytes done after → after ≡ lineText line ++ drop 32 bytes
 unfolding written
-line-written row line bytes after five e f room (answer, leaves) =
-    leaves ∙ rw (answer, le-leb 32 (length bytes) room, row-writable row line five e f, e)
+line-written row line bytes after five e f room left =
+    line-left row bytes (row-used row five (rw e (f .few))) room left
+    ∙ rw e (if-true (allFit (line .numbers)) _ _ (f .room))
 
 -- ---- the A line of an arc
 
@@ -212,44 +192,29 @@ module _ (counts : Counts) (words : List ℕ) (known : networkKnown counts words
 
 -- ---- what writing answers and leaves
 
-abbrev TextLeft : Counts → (words : List ℕ) → (size : ℕ) → Written → (after : List ℕ) → Type 0
-TextLeft counts words size answer after =
-    (writtenSaid answer ≡ saidOf length 0 (writeNetwork counts words size))
-    × (after ≡ answerLeft size (writeNetwork counts words size))
-
-abbrev refusal : Fault → Written
-refusal fault = Refused (record { fault = fault; line = 0 })
-
 module _ (counts : Counts) (words : List ℕ) (size : ℕ) where
-  module _ {answer : Written} {after : List ℕ} where
-    refused-by : (fault : Fault) → writeNetwork counts words size ≡ refuse fault 0
-        → answer ≡ refusal fault → after ≡ cleared size → TextLeft counts words size answer after
-    unfolding writtenOf answerLeft
-    refused-by fault e a z = (written-said _ (a ∙ rw (e, writtenOf)), z ∙ rw (e, answerLeft))
+  abbrev Left : Written → (after : List ℕ) → Type 0
+  Left answer after = TextLeft (writeNetwork counts words size) size answer after
 
+  module _ {answer : Written} {after : List ℕ} where
     pub write-foreign : networkKnown counts words ≡ false
-        → answer ≡ refusal Foreign → after ≡ cleared size → TextLeft counts words size answer after
+        → answer ≡ refusal Foreign → after ≡ cleared size → Left answer after
     unfolding writeNetwork judge
-    write-foreign k = refused-by Foreign (rw k)
+    write-foreign k = refused-left size Foreign (rw k)
 
     pub write-short : networkKnown counts words ≡ true
         → {count : ℕ} → count ≡ counts .arcs → size < 32 + 32 * count
-        → answer ≡ refusal Short → after ≡ cleared size → TextLeft counts words size answer after
+        → answer ≡ refusal Short → after ≡ cleared size → Left answer after
     unfolding writeNetwork judge
     write-short k e l =
         let long : size < 32 + 32 * counts .arcs = omega arith in
-        refused-by Short (rw (k, text-length counts words (rw k tt), lt-leb (32 + 32 * counts .arcs) size long))
+        refused-left size Short (rw (k, text-length counts words (rw k tt), lt-leb (32 + 32 * counts .arcs) size long))
 
   pub write-done : networkKnown counts words ≡ true
       → {count : ℕ} → count ≡ counts .arcs → 32 + 32 * count ≤ size
       → (first part : List ℕ) → first ≡ lineText (lineOfCounts counts) ++ cleared (size - 32)
       → part ≡ arcsText (allArcs (take (arcSize * count) words))
-      → TextLeft counts words size (Bytes (32 + 32 * count)) (putMid 32 (32 + 32 * count - 32) first part)
-  unfolding writtenOf answerLeft
+      → Left (Bytes (32 + 32 * count)) (putMid 32 (32 + 32 * count - 32) first part)
   write-done k {count} e l first part f p =
-      let said = known-written counts words size (rw k tt) (omega arith) in
-      let long : 32 + 32 * count ≡ length (networkText counts (arcsIn (counts .arcs) words)) =
-      rw e (sym (text-length counts words (rw k tt))) in (
-        written-said _ (ap Bytes long ∙ rw (said, writtenOf)),
-        arcs-put counts words k e first part l f p ∙ rw (said, answerLeft),
-      )
+      answered-left size (known-written counts words size (rw k tt) (omega arith))
+      (rw e (sym (text-length counts words (rw k tt)))) (arcs-put counts words k e first part l f p)

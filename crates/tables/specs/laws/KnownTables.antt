@@ -8,11 +8,11 @@ use mathlib.Core.List.{List, [], map}
 use Prim.Native.Nat.{ℕ, _*_, _≤_, _<_}
 use lib.Dec.{T}
 use lib.ListN.{length, drop, getD, List·getD-map}
-use borrow.Author.Tests.{eq-eqb}
+use borrow.Author.Tests.{eq-eqb, ne-eqb}
 use Rattle.definitions.specs.declared.Header.{Header}
 use Rattle.definitions.specs.declared.Node.{Node}
 use Rattle.definitions.specs.Lists.{records}
-use Rattle.definitions.specs.BookLines.{rootCount}
+use Rattle.definitions.specs.BookLines.{question, leaf, rootCount}
 use Rattle.definitions.specs.BookReading.{nodeSize, ChildOnce}
 use Rattle.definitions.specs.Tables.{Tables, nodeOf, treeNode, nodeRecords, tablesBook, askedOf, Contents}
 use Rattle.definitions.specs.Tables.{tablesContents, bookIn}
@@ -49,6 +49,16 @@ module _ (header : Header) (words : List ℕ) (node : ℕ) (listed : node < head
 
   pub node-is : nodeAt (treeNodes header words) node ≡ treeNode (nodeOf (drop (nodeSize * node) words))
   node-is = node-listed (nodeRecords header words) node ∙ ap treeNode record-listed
+
+  -- a record of kind 1 is a question, any other a leaf
+  module _ (x : Node) (own : x ≡ nodeOf (drop (nodeSize * node) words)) where
+    pub question-is : x .kind ≡ 1 → nodeAt (treeNodes header words) node ≡ question (askedOf x) (x .yes) (x .no)
+    unfolding treeNode
+    question-is kind = node-is ∙ ap treeNode (sym own) ∙ rw (eq-eqb (x .kind) 1 kind)
+
+    pub leaf-is : (x .kind ≡ 1 → ⊥) → nodeAt (treeNodes header words) node ≡ leaf (x .value)
+    unfolding treeNode
+    leaf-is other = node-is ∙ ap treeNode (sym own) ∙ rw (ne-eqb (x .kind) 1 other)
 
 -- ---- it fits the header
 

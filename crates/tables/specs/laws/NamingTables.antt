@@ -21,8 +21,8 @@ use Rattle.definitions.specs.laws.books.Books.{roots-few}
 use Rattle.definitions.specs.laws.books.AcceptedKnown.{header-ranges}
 use Rattle.tables.specs.Lending.{lentTables}
 use Rattle.tables.specs.Naming.{allNames, countsOf, namedAgain, namedAll, firstMisnamed}
-use Rattle.tables.specs.Usable.{treeNodes}
-use Rattle.tables.specs.laws.Records.{recordsFrom, records-start, records-next, records-end}
+use Rattle.tables.specs.Usable.{recordsFrom, treeNodes}
+use Rattle.tables.specs.laws.Records.{records-start, records-next, records-end}
 use Rattle.tables.specs.laws.Naming.{counts-none, counts-named, named-append, named-length, again-length}
 use Rattle.tables.specs.laws.Naming.{firstOrphan, orphans-test, children-length}
 

@@ -1,17 +1,17 @@
 -- Laws about the records of nodes: the words of each in the table of nodes, and the records from a node on.
 use mathlib.Core.Path.{_≡_}
-use mathlib.Core.List.{List, [], _∷_, map}
+use mathlib.Core.List.{List, [], _∷_}
 use Prim.Native.Nat.{ℕ, suc, _+_, _-_, _*_, _≤_, _<_}
 use native.Mathlib.Nat.{add-zero, sub-zero}
 use native.Mathlib.Omega.{arith}
 use lib.ListN.{drop}
 use lib.Seq.{getD-drop, drop-drop}
 use Rattle.definitions.specs.declared.Header.{Header}
-use Rattle.definitions.specs.declared.Node.{Node}
 use Rattle.definitions.specs.Lists.{_!_, records}
 use Rattle.definitions.specs.BookReading.{nodeSize}
 use Rattle.definitions.specs.Tables.{nodeOf, nodeRecords}
 use Rattle.definitions.specs.laws.books.Tables.{node-of-first}
+use Rattle.tables.specs.Usable.{recordsFrom}
 
 -- five words from a place on are a record
 pub node-from-words : (words : List ℕ) (at : ℕ) {kind value position yesNode noNode : ℕ}
@@ -22,10 +22,7 @@ pub node-from-words : (words : List ℕ) (at : ℕ) {kind value position yesNode
 unfolding nodeOf
 node-from-words words at a b c d e = rw (a, b, c, d, e) (simp (getD-drop, add-zero))
 
--- the records from a node on
-abbrev pub recordsFrom : (nodes at : ℕ) → (words : List ℕ) → List Node
-recordsFrom nodes at words = map nodeOf (records nodeSize (nodes - at) (drop (nodeSize * at) words))
-
+-- the records from a node on: from the first, from the next, and beyond the last
 pub records-start : (header : Header) (words : List ℕ)
     → nodeRecords header words ≡ recordsFrom (header .nodes) 0 words
 unfolding nodeRecords

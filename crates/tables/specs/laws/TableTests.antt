@@ -20,7 +20,8 @@ use Rattle.definitions.specs.ForeignTables.{rootTableKnown}
 use Rattle.definitions.specs.laws.books.AcceptedKnown.{holds-padded}
 use Rattle.definitions.specs.laws.books.KnownBooks.{root-table-parts}
 use Rattle.lines.specs.laws.Passing.{Passed}
-use Rattle.tables.specs.laws.Records.{recordsFrom, records-start, records-next, records-end}
+use Rattle.tables.specs.Usable.{recordsFrom}
+use Rattle.tables.specs.laws.Records.{records-start, records-next, records-end}
 
 -- ---- a table's length, and nothing beyond
 

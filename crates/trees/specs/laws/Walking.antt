@@ -11,14 +11,14 @@ use borrow.Author.Tests.{eq-eqb, ne-eqb}
 use Rattle.definitions.specs.declared.Header.{Header}
 use Rattle.definitions.specs.declared.Node.{Node}
 use Rattle.definitions.specs.Lists.{if_then_else_}
-use Rattle.definitions.specs.BookLines.{leaf, Reached}
+use Rattle.definitions.specs.BookLines.{Reached}
 use Rattle.definitions.specs.BookReading.{nodeSize}
 use Rattle.definitions.specs.Tables.{nodeOf, treeNode, askedOf}
 use Rattle.definitions.specs.ForeignTables.{nodesKnown}
 use Rattle.definitions.specs.Lookup.{nodeAt, answers, walk, reached, leafReached, modelAt}
 use Rattle.definitions.specs.laws.trees.Walks.{walk-leaf, walk-question, either-node, model-at}
 use Rattle.tables.specs.Usable.{treeNodes}
-use Rattle.tables.specs.laws.KnownTables.{node-listed, node-is, record-fits}
+use Rattle.tables.specs.laws.KnownTables.{node-listed, leaf-is, record-fits}
 use Rattle.trees.specs.Stages.{recordAt}
 
 module _ (header : Header) (nodes : List Node) (classes context : List ℕ) where
@@ -91,9 +91,6 @@ module _ (header : Header) (nodes : List Node) (classes context : List ℕ) wher
 pub model-is : (header : Header) (words : List ℕ) (node : ℕ) → node < header .nodes
     → (nodeOf (drop (nodeSize * node) words) .kind ≡ 1 → ⊥)
     → modelAt (treeNodes header words) node ≡ nodeOf (drop (nodeSize * node) words) .value
-unfolding treeNode
 model-is header words node listed other =
     let x : Node = nodeOf (drop (nodeSize * node) words) in
-    let found : nodeAt (treeNodes header words) node ≡ leaf (x .value) =
-    node-is header words node listed ∙ rw (ne-eqb (x .kind) 1 other) in
-    model-at (treeNodes header words) node (x .value) found
+    model-at (treeNodes header words) node (x .value) (leaf-is header words node listed x refl other)

@@ -33,7 +33,7 @@ abbrev pub allFrom : {A : Type 0} → (ℕ → A → Type 0) → ℕ → List A 
 allFrom P at [] = Unit {0}
 allFrom P at (x ∷ l) = P at x × allFrom P (suc at) l
 
-all-append : {A : Type 0} (P : ℕ → A → Type 0) (at next : ℕ) (k l : List A) → next ≡ at + length k
+pub all-append : {A : Type 0} (P : ℕ → A → Type 0) (at next : ℕ) (k l : List A) → next ≡ at + length k
     → allFrom P at k → allFrom P next l → allFrom P at (k ++ l)
 all-append P at next [] l e h i = subst (λ n. allFrom P n l) {x = next} {y = at} (omega arith) i
 all-append P at next (x ∷ k) l e h i = (h .0, all-append P (suc at) next k l (omega arith) (h .1) i)

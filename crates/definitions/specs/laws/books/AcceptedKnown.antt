@@ -94,7 +94,7 @@ tables-parts header tables =
 
 -- ---- what holds of each element of a list with its number
 
-all-in : {A : Type 0} (P : ℕ → A → Type 0) (at : ℕ) (l : List A) → allFrom P at l → (x : A) → isIn x l
+pub all-in : {A : Type 0} (P : ℕ → A → Type 0) (at : ℕ) (l : List A) → allFrom P at l → (x : A) → isIn x l
     → (n : ℕ) × P n x
 all-in P at [] h x i = absurd i
 all-in P at (y ∷ l) h x (inl e) = (at, subst (P at) (sym e) (h .0))
@@ -196,7 +196,7 @@ module _ (header : Header) (members : List Member) (fit : allFrom (MemberFits he
 
 -- ---- the tables of an accepted book
 
-accepted-wide : (lent : Lent) (text : List ℕ) (lines : List BookLine) → readBook lent text ≡ answered lines
+pub accepted-wide : (lent : Lent) (text : List ℕ) (lines : List BookLine) → readBook lent text ≡ answered lines
     → T (wideEnough lent (headerOf lines))
 unfolding headerOf
 accepted-wide lent text lines e =

@@ -14,18 +14,20 @@ use lib.ListN.{length}
 use lib.Seq.{append-snoc}
 use borrow.Author.Tests.{lt-ltb, le-leb, eq-eqb, ne-eqb}
 use Rattle.definitions.specs.declared.Header.{Header}
-use Rattle.definitions.specs.Lists.{lastPasses, isIn}
+use Rattle.definitions.specs.Lists.{every, lastPasses, isIn}
 use Rattle.definitions.specs.Faults.{answered}
 use Rattle.definitions.specs.Forms.{bookForms}
 use Rattle.definitions.specs.Lines.{inFixedRanges}
 use Rattle.definitions.specs.Reading.{lineTests}
-use Rattle.definitions.specs.BookLines.{BookLine, N, L, R, noHeader, headerIn, headerOf, rootCount}
-use Rattle.definitions.specs.BookLines.{Member, memberIn, membersOf, TreeNode, question, leaf, nodeLineIn}
-use Rattle.definitions.specs.BookLines.{rootIn, rootsOf}
-use Rattle.definitions.specs.BookReading.{Lent, bookKind, bookFollows, withinHeader, comesBefore}
-use Rattle.definitions.specs.BookReading.{bookInOrder, childrenGreater, wideEnough, bookTests}
-use Rattle.definitions.specs.BookReading.{bookComplete, judgeNames, readBook}
+use Rattle.definitions.specs.BookLines.{BookLine, N, L, R, noHeader, headerIn, headerOf, rootCount, Member}
+use Rattle.definitions.specs.BookLines.{memberIn, membersOf, TreeNode, question, leaf, nodeLineIn, rootIn}
+use Rattle.definitions.specs.BookLines.{rootsOf}
+use Rattle.definitions.specs.BookReading.{Lent, bookKind, bookFollows, withinHeader, comesBefore, bookInOrder}
+use Rattle.definitions.specs.BookReading.{childrenGreater, wideEnough, bookTests, bookComplete, judgeNames}
+use Rattle.definitions.specs.BookReading.{readBook}
 use Rattle.definitions.specs.Tables.{classSets, Contents, contentsOf}
+use Rattle.definitions.specs.BookText.{membersFrom, lineOfNode, linesOfNodes, linesOfRoots, lineOfHeader}
+use Rattle.definitions.specs.BookText.{lineOfMember, linesOfBook, bookLineFor, textOfBook}
 use Rattle.definitions.specs.laws.lists.Tests.{eq→eqb}
 use Rattle.definitions.specs.laws.text.Judging.{pass-none, pass-more}
 use Rattle.definitions.specs.laws.text.Ranges.{range-none, range-more}
@@ -34,16 +36,13 @@ use Rattle.definitions.specs.Ranges.{InRange}
 use Rattle.definitions.specs.laws.books.Books.{some-root}
 use Rattle.definitions.specs.laws.books.AcceptedKnown.{header-known}
 use Rattle.definitions.specs.laws.books.Accepted.{allFrom, NodeFits, RootFits}
-use Rattle.definitions.specs.laws.text.WrittenTexts.{Writer, ranged, Next, allNext, next-parts}
+use Rattle.definitions.specs.laws.text.WrittenTexts.{Writer, ranged, Next, allNext, next-parts, all-ranged}
 use Rattle.definitions.specs.laws.text.WrittenTexts.{text-taken}
 use Rattle.definitions.specs.laws.books.KnownBooks.{Stated}
 use Rattle.definitions.specs.laws.books.SaidLines.{Says, says-parts, line-says, root-words-count}
 use Rattle.definitions.specs.laws.books.LinesSay.{members-say, nodes-say, roots-say, lines-say, Before}
 use Rattle.definitions.specs.laws.books.LinesSay.{before-others, before-more}
-use Rattle.definitions.specs.laws.books.WrittenBooks.{lineOfNode, linesOfNodes, linesOfRoots}
-use Rattle.definitions.specs.laws.books.WrittenBooks.{lineOfHeader, lineOfMember, linesOfBook}
-use Rattle.definitions.specs.laws.books.WrittenBooks.{bookLineFor, book-writes, bookWriter, textOfBook}
-use Rattle.definitions.specs.laws.books.WrittenBooks.{membersFrom}
+use Rattle.definitions.specs.laws.books.WrittenBooks.{book-writes, bookWriter}
 use Rattle.definitions.specs.laws.books.WrittenClasses.{sets-again, members-within, members-ascend}
 
 -- a member of a class that the header counts, and of a phone
@@ -331,6 +330,10 @@ module _ (lent : Lent) (header : Header) (contents : Contents) (s : Stated heade
     header-next lent header (s .in-range) wide,
     next-parts w first (qs ++ ns) rs (next-parts w first qs ns next-members next-nodes) next-roots,
   )
+
+  -- so their numbers lie in their ranges
+  pub book-ranged : T (every (ranged w) (linesOfBook header contents))
+  book-ranged = all-ranged w [] (linesOfBook header contents) lines-next
 
   -- what was written is read
   pub book-read : readBook lent (textOfBook header contents) ≡ answered (linesOfBook header contents)

@@ -7,7 +7,7 @@ use Prim.Native.Nat.{ℕ, suc, _+_, _*_, _≤_, _<_}
 use native.Mathlib.Nat.{mul-pos, mul-le-mul}
 use native.Mathlib.Omega.{arith}
 use lib.Dec.{T, leb, ltb, eqb, leb→le, ltb→lt, eqb→eq, lit<}
-use lib.ListN.{length}
+use lib.ListN.{length, length-append}
 use Rattle.definitions.specs.Ranges.{InRange}
 use Rattle.definitions.specs.declared.Fault.the-variants.{Orphan}
 use Rattle.definitions.specs.declared.Header.{Header}
@@ -15,7 +15,8 @@ use Rattle.definitions.specs.Faults.{Outcome, answered}
 use Rattle.definitions.specs.Lines.{Line}
 use Rattle.definitions.specs.Reading.{lineTests}
 use Rattle.definitions.specs.BookLines.{BookLine, H, Q, N, L, R, bookLine, headerIn, headerOf, rootCount}
-use Rattle.definitions.specs.BookLines.{nodesOf, nodeIn, nodeLineIn, rootsOf, rootIn, rootNames}
+use Rattle.definitions.specs.BookLines.{memberIn, membersOf, nodesOf, nodeIn, nodeLineIn, rootsOf, rootIn}
+use Rattle.definitions.specs.BookLines.{rootNames}
 use Rattle.definitions.specs.BookReading.{Lent, nodeSize, bookKind, bookFollows, withinHeader}
 use Rattle.definitions.specs.BookReading.{bookInOrder, childrenGreater, wideEnough, bookTests}
 use Rattle.definitions.specs.BookReading.{bookComplete, orphans, judgeNames, readBook}
@@ -24,11 +25,11 @@ use Rattle.definitions.specs.Tables.{tablesContents}
 use Rattle.definitions.specs.laws.lists.Tests.{T-and, T-three}
 use Rattle.definitions.specs.laws.lists.Lists.{map-upFrom-length}
 use Rattle.definitions.specs.laws.text.Judging.{testAt, passes-at, refused-not-answered}
-use Rattle.definitions.specs.laws.text.Reading.{Passed, text-holds}
+use Rattle.definitions.specs.laws.text.Reading.{Passed, text-holds, text-many}
 use Rattle.definitions.specs.laws.text.Ranges.{Ranged, line-ranged}
 use Rattle.definitions.specs.laws.books.Tables.{Heads, tables-contents}
-use Rattle.definitions.specs.laws.books.SaidLines.{nodes-count, roots-count, line-of-root}
-use Rattle.definitions.specs.laws.books.SaidLines.{root-words-count}
+use Rattle.definitions.specs.laws.books.SaidLines.{line-says, line-of-root, members-more, nodes-count}
+use Rattle.definitions.specs.laws.books.SaidLines.{roots-count, root-words-count}
 
 -- what a line that passed its tests says
 pub record Fits (lent : Lent) (before : List BookLine) (line : BookLine) : Type 0 where
@@ -215,6 +216,59 @@ accepted-orderly lent text lines e =
       roots = full;
       named-once = a .named-once;
     }
+
+-- ---- its lines
+
+-- a line other than H says one thing
+says-one : (before : List BookLine) (line : BookLine) → 0 < length before → T (bookFollows before line)
+    → length (memberIn line) + length (nodeIn line) + length (rootIn line) ≡ 1
+unfolding bookFollows memberIn nodeLineIn rootIn
+says-one before (H half states phones classes nodes) some f = absurd (omega (arith, eqb→eq (length before) 0 f))
+says-one before (Q class phone) some f = refl
+says-one before (N node class position yesNode noNode) some f = refl
+says-one before (L node model) some f = refl
+says-one before (R phone state root) some f = refl
+
+-- so there is one for the header, and one for each member, node and root
+abbrev LinesMany : List BookLine → Type 0
+LinesMany lines = length lines ≡ 1 + length (membersOf lines) + length (nodesOf lines) + length (rootsOf lines)
+
+pub accepted-lines : (lent : Lent) (text : List ℕ) (lines : List BookLine) → readBook lent text ≡ answered lines
+    → LinesMany lines
+unfolding memberIn nodeLineIn rootIn
+accepted-lines lent text lines e = accepted-holds lent LinesMany alone more text lines e .holds
+  where
+    alone : (half states phones classes nodes : ℕ) → Fits lent [] (H half states phones classes nodes)
+        → LinesMany (H half states phones classes nodes ∷ [])
+    alone half states phones classes nodes f =
+        let line : BookLine = H half states phones classes nodes in
+        let says = line-says line in
+        rw (says .members-said, says .nodes-said, line-of-root line) refl
+
+    more : (before : List BookLine) (line : BookLine) → headerOf (before ++ (line ∷ [])) ≡ headerOf before
+        → LinesMany before → Fits lent before line → LinesMany (before ++ (line ∷ []))
+    more before line e many f =
+        let one = says-one before line (omega (arith, many)) (f .follows) in
+        let members = ap length (members-more before line) ∙ length-append (membersOf before) (memberIn line) in
+        omega (
+          arith,
+          many,
+          one,
+          members,
+          nodes-count before line,
+          roots-count before line,
+          length-append before (line ∷ []),
+        )
+
+-- of 32 bytes each
+pub accepted-length : (lent : Lent) (text : List ℕ) (lines : List BookLine) → readBook lent text ≡ answered lines
+    → length text ≡ 32 * length lines
+unfolding readBook bookKind
+accepted-length lent text lines e =
+    let (read, many, judged) = text-many (bookKind lent) text lines e in
+    many ∙ ap (λ (l : List BookLine). 32 * length l) (names-judged read lines judged .0)
+
+-- ---- its contents
 
 -- its header states the counts of its contents, so the tables hold those, and so its book
 pub orderly-heads : (lines : List BookLine) → Orderly lines → Heads (headerOf lines) (contentsOf lines)

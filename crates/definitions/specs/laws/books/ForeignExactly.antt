@@ -15,13 +15,14 @@ use Rattle.definitions.specs.BookReading.{Lent, readBook}
 use Rattle.definitions.specs.Tables.{Tables, lentOf, tablesOf, tablesLeft, Contents, tablesContents}
 use Rattle.definitions.specs.ForeignTables.{tablesKnown}
 use Rattle.definitions.specs.NetworkText.{networkKnown, Leaves}
+use Rattle.definitions.specs.BookText.{linesOfBook, textOfBook}
 use Rattle.definitions.specs.laws.text.WrittenTexts.{text-bytes}
 use Rattle.definitions.specs.laws.networks.NetworkTexts.{network-bytes}
 use Rattle.definitions.specs.laws.networks.KnownNetworks.{arcsHeld}
 use Rattle.definitions.specs.laws.networks.RoundTrips.{textHeld, known-leaves-same, leaves-known}
 use Rattle.definitions.specs.laws.books.AcceptedKnown.{accepted-known}
 use Rattle.definitions.specs.laws.books.KnownBooks.{Stated, known-stated, known-wide, tables-again}
-use Rattle.definitions.specs.laws.books.WrittenBooks.{linesOfBook, bookWriter, textOfBook}
+use Rattle.definitions.specs.laws.books.WrittenBooks.{bookWriter}
 use Rattle.definitions.specs.laws.books.BookTexts.{header-again, book-read, contents-again}
 
 -- ---- arcs

@@ -6,13 +6,12 @@ use Prim.Native.Nat.{ℕ, suc, _+_, _/_, _%_, _<_}
 use native.Mathlib.Omega.{arith}
 use lib.ListN.{length, length-append}
 use Rattle.definitions.specs.declared.Header.{Header}
-use Rattle.definitions.specs.BookLines.{BookLine, N, L, R, headerIn, headerOf, Member, memberIn}
-use Rattle.definitions.specs.BookLines.{membersOf, TreeNode, question, leaf, nodeLineIn, nodesOf, rootIn}
-use Rattle.definitions.specs.BookLines.{rootsOf, rootWords}
+use Rattle.definitions.specs.BookLines.{BookLine, N, L, R, headerIn, headerOf, Member, memberIn, membersOf}
+use Rattle.definitions.specs.BookLines.{TreeNode, question, leaf, nodeLineIn, nodesOf, rootIn, rootsOf}
+use Rattle.definitions.specs.BookLines.{rootWords}
+use Rattle.definitions.specs.BookText.{linesOfNodes, linesOfRoots, lineOfHeader, lineOfMember, linesStating}
 use Rattle.definitions.specs.laws.books.SaidLines.{Says, none-says, line-says, says-parts, header-parts}
 use Rattle.definitions.specs.laws.books.SaidLines.{line-of-root, root-words-count}
-use Rattle.definitions.specs.laws.books.WrittenBooks.{linesOfNodes, linesOfRoots, lineOfHeader}
-use Rattle.definitions.specs.laws.books.WrittenBooks.{lineOfMember, linesStating}
 
 -- ---- what lines say
 

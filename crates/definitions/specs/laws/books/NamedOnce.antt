@@ -38,7 +38,7 @@ child-later nodes forward u d h = at (nodeAt nodes u) refl h
     at (question asked yesNode noNode) e (inr (inr i)) = absurd i
 
 -- a node of the list that is no orphan is named once
-named-once : (nodes : List TreeNode) (roots : List ℕ) → orphans nodes roots ≡ []
+pub named-once : (nodes : List TreeNode) (roots : List ℕ) → orphans nodes roots ≡ []
     → (node : ℕ) → node < length nodes → occurrences node (concatMap childrenOf nodes ++ roots) ≡ 1
 unfolding orphans
 named-once nodes roots none node h = eqb→eq times 1 (one (eqb times 1) missing)
@@ -56,18 +56,23 @@ named-once nodes roots none node h = eqb→eq times 1 (one (eqb times 1) missing
     one true k = tt
     one false k = k tt
 
+-- each child is a node of the list
+pub child-listed : (nodes : List TreeNode) → Forward nodes → (x : ℕ) → isIn x (concatMap childrenOf nodes)
+    → x < length nodes
+child-listed nodes forward x h =
+    let (n, i, c) = of-concatMap childrenOf x nodes h in
+    let (u, k, e) = place-of n nodes (leaf 0) i in
+    child-later nodes forward u x (rw e c) .listed
+
 pub child-once : (nodes : List TreeNode) (roots : List ℕ) → Forward nodes → orphans nodes roots ≡ []
     → ChildOnce nodes
 child-once nodes roots forward none = distinct-once (concatMap childrenOf nodes) once
   where
     once : (x : ℕ) → isIn x (concatMap childrenOf nodes) → occurrences x (concatMap childrenOf nodes) ≤ 1
     once x h =
-        let (n, i, c) = of-concatMap childrenOf x nodes h in
-        let (u, k, e) = place-of n nodes (leaf 0) i in
-        let later : Later nodes u x = child-later nodes forward u x (rw e c) in
         omega (
           arith,
-          named-once nodes roots none x (later .listed),
+          named-once nodes roots none x (child-listed nodes forward x h),
           occurrences-left x (concatMap childrenOf nodes) roots,
         )
 

@@ -1,77 +1,15 @@
--- A writer of tree books, to show that 18 refuses nothing else than what reading never leaves: the lines that
--- state a header with the nodes, sets and roots of a book, and their text. The laws about what reading makes of
--- it stand in WrittenClasses and BookTexts.
+-- The lines that a writer of tree books makes are lines of their kind: each is taken for the line that it was made
+-- of, and has the table of its letter. What reading makes of all of them stands in WrittenClasses and BookTexts.
 use mathlib.Core.Path.{refl}
-use mathlib.Core.List.{List, [], _∷_, _++_, map}
-use Prim.Native.Nat.{ℕ, suc, _+_, _/_, _%_}
-use Prim.Native.Char.{code}
-use Rattle.definitions.specs.declared.Header.{Header}
-use Rattle.definitions.specs.Lists.{every, select, concatMap, upFrom}
+use Rattle.definitions.specs.Lists.{every}
 use Rattle.definitions.specs.Forms.{Form, formH, formQ, formN, formL, formR}
-use Rattle.definitions.specs.Lines.{Line, formOf, lineText}
-use Rattle.definitions.specs.PhoneSets.{has}
-use Rattle.definitions.specs.BookLines.{BookLine, H, Q, N, L, R, bookLine, Member, TreeNode, question}
-use Rattle.definitions.specs.BookLines.{leaf}
+use Rattle.definitions.specs.Lines.{formOf}
+use Rattle.definitions.specs.BookLines.{BookLine, H, Q, N, L, R, bookLine}
 use Rattle.definitions.specs.BookReading.{Lent, bookKind}
-use Rattle.definitions.specs.Tables.{Contents}
+use Rattle.definitions.specs.BookText.{bookLineFor}
 use Rattle.definitions.specs.laws.text.WrittenTexts.{Writes, Writer}
 
-abbrev pub memberOf : (class phone : ℕ) → Member
-memberOf class phone = record { class = class; phone = phone }
-
--- the phones of a set, ascending
-abbrev pub phonesIn : (phones set : ℕ) → List ℕ
-phonesIn phones set = select (λ p. has p set) (upFrom 1 phones)
-
--- the members of the classes `class`, class+1, .. with these sets
-unfoldable pub membersFrom : (phones class : ℕ) → (sets : List ℕ) → List Member
-membersFrom phones class [] = []
-membersFrom phones class (set ∷ sets) =
-    map (memberOf class) (phonesIn phones set) ++ membersFrom phones (suc class) sets
-
--- the lines of nodes `at`, at+1, ..
-abbrev pub lineOfNode : (at : ℕ) → TreeNode → BookLine
-lineOfNode at (question asked yesNode noNode) = N at (asked .class) (asked .position) yesNode noNode
-lineOfNode at (leaf model) = L at model
-
-unfoldable pub linesOfNodes : (at : ℕ) → List TreeNode → List BookLine
-linesOfNodes at [] = []
-linesOfNodes at (node ∷ nodes) = lineOfNode at node ∷ linesOfNodes (suc at) nodes
-
--- the lines of the roots from place `at` on, in R order
-unfoldable pub linesOfRoots : (states at : ℕ) → (roots : List ℕ) → List BookLine
-linesOfRoots states at [] = []
-linesOfRoots states at (root ∷ roots) =
-    R (at / states + 1) (at % states + 1) root ∷ linesOfRoots states (suc at) roots
-
-abbrev pub lineOfHeader : Header → BookLine
-lineOfHeader header = H (header .half) (header .states) (header .phones) (header .classes) (header .nodes)
-
-abbrev pub lineOfMember : Member → BookLine
-lineOfMember m = Q (m .class) (m .phone)
-
--- the lines that state a header with members of classes, nodes and roots
-abbrev pub linesStating : Header → List Member → List TreeNode → (roots : List ℕ) → List BookLine
-linesStating header members nodes roots =
-    lineOfHeader header ∷ map lineOfMember members ++ linesOfNodes 0 nodes ++ linesOfRoots (header .states) 0 roots
-
--- all lines of a book with its header and contents
-unfoldable pub linesOfBook : Header → Contents → List BookLine
-linesOfBook header contents =
-    linesStating header (membersFrom (header .phones) 1 (contents .classes)) (contents .nodes)
-    (contents .roots)
-
--- the numbers of a line in its fields
-unfoldable pub bookLineFor : BookLine → Line
-bookLineFor (H half states phones classes nodes) =
-    record { letter = code "H"; numbers = half ∷ states ∷ phones ∷ classes ∷ nodes ∷ [] }
-bookLineFor (Q class phone) = record { letter = code "Q"; numbers = class ∷ phone ∷ [] }
-bookLineFor (N node class position yesNode noNode) =
-    record { letter = code "N"; numbers = node ∷ class ∷ position ∷ yesNode ∷ noNode ∷ [] }
-bookLineFor (L node model) = record { letter = code "L"; numbers = node ∷ model ∷ [] }
-bookLineFor (R phone state root) = record { letter = code "R"; numbers = phone ∷ state ∷ root ∷ [] }
-
--- and the table of its letter
+-- the table of a line's letter
 abbrev formFor : BookLine → Form
 formFor (H half states phones classes nodes) = formH
 formFor (Q class phone) = formQ
@@ -91,6 +29,3 @@ book-writes lent (R phone state root) = record { again = refl; known = refl; man
 
 abbrev pub bookWriter : (lent : Lent) → Writer (bookKind lent)
 bookWriter lent = record { lineFor = bookLineFor; form = formFor; writes = book-writes lent }
-
-unfoldable pub textOfBook : Header → Contents → List ℕ
-textOfBook header contents = concatMap (λ line. lineText (bookLineFor line)) (linesOfBook header contents)

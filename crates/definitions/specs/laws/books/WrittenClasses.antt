@@ -16,6 +16,7 @@ use Rattle.definitions.specs.PhoneSets.{has, setOf}
 use Rattle.definitions.specs.BookLines.{Member}
 use Rattle.definitions.specs.BookReading.{comesBefore}
 use Rattle.definitions.specs.Tables.{phonesOfClass, classSets}
+use Rattle.definitions.specs.BookText.{memberOf, phonesIn, membersFrom}
 use Rattle.definitions.specs.laws.lists.Tests.{T-and, T-or, same-tests}
 use Rattle.definitions.specs.laws.lists.Lists.{every-cons}
 use Rattle.definitions.specs.laws.lists.Members.{of-append, of-map, of-upFrom, in-upFrom, listed}
@@ -23,7 +24,6 @@ use Rattle.definitions.specs.laws.lists.Selected.{select-append, select-
 use Rattle.definitions.specs.laws.lists.Rising.{Rising, rising-append, rising-upFrom, rising-select}
 use Rattle.definitions.specs.laws.lists.Rising.{rising-map, rising-last}
 use Rattle.definitions.specs.laws.matrices.PhoneSets.{has-listed, has-below, same-members}
-use Rattle.definitions.specs.laws.books.WrittenBooks.{memberOf, phonesIn, membersFrom}
 
 -- ---- the phones of a set
 

@@ -78,6 +78,10 @@ unfolding concatMap
 concatMap-same f g [] h = refl
 concatMap-same f g (x ∷ l) h = ap₂ _++_ (h x (inl refl)) (concatMap-same f g l (λ y i. h y (inr i)))
 
+pub map-same : {A B : Type 0} (f g : A → B) (l : List A) → ((x : A) → isIn x l → f x ≡ g x) → map f l ≡ map g l
+map-same f g [] h = refl
+map-same f g (x ∷ l) h = ap₂ _∷_ (h x (inl refl)) (map-same f g l (λ y i. h y (inr i)))
+
 -- what gives each element back gives the list back
 pub map-back : {A B : Type 0} (f : A → B) (g : B → A) (l : List A) → ((x : A) → isIn x l → g (f x) ≡ x)
     → map g (map f l) ≡ l

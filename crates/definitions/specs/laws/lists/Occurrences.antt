@@ -1,14 +1,15 @@
 -- Laws about how often a number stands in a list: where each counts at most once, no element stands twice.
 -- laws/books/NamedOnce reads "named exactly once" by them.
-use mathlib.Core.Path.{_≡_, refl}
+use mathlib.Core.Path.{_≡_, refl, ap}
 use mathlib.Core.Logic.{inl, inr}
 use mathlib.Core.List.{List, [], _∷_, _++_}
 use mathlib.Core.Bool.{Bool, true, false}
-use Prim.Native.Nat.{ℕ, suc, _+_, _≤_}
+use Prim.Native.Nat.{ℕ, zero, suc, _+_, _≤_, _<_}
 use native.Mathlib.Omega.{arith}
 use lib.Dec.{eqb}
 use lib.ListN.{length}
-use Rattle.definitions.specs.Lists.{if_then_else_, occurrences, isIn, distinct}
+use borrow.Author.Tests.{eqb-true, eqb-false}
+use Rattle.definitions.specs.Lists.{if_then_else_, occurrences, upFrom, isIn, distinct}
 use Rattle.definitions.specs.laws.lists.Tests.{by-test, if-true, eq→eqb}
 
 -- the first element counts one more than in the rest
@@ -52,3 +53,19 @@ distinct-once (y ∷ l) once = (
   λ h. omega (arith, once y (inl refl), occurrences-first y y l refl, occurs y l h),
   distinct-once l (λ x h. omega (arith, once x (inr h), occurrences-rest x y l)),
 )
+
+-- counting up names each number once
+counted-beyond : (a count x : ℕ) → x < a → occurrences x (upFrom a count) ≡ 0
+unfolding upFrom occurrences
+counted-beyond a zero x h = refl
+counted-beyond a (suc count) x h =
+    by-test (eqb x a) (λ e. absurd (omega (arith, eqb-true x a e)))
+    (λ e. rw e (counted-beyond (suc a) count x (omega arith)))
+
+pub counted-once : (a count x : ℕ) → a ≤ x → x < a + count → occurrences x (upFrom a count) ≡ 1
+unfolding upFrom occurrences
+counted-once a zero x h k = absurd (omega arith)
+counted-once a (suc count) x h k =
+    by-test (eqb x a)
+    (λ e. rw e (ap suc (counted-beyond (suc a) count x (omega (arith, eqb-true x a e)))))
+    (λ e. rw e (counted-once (suc a) count x (omega (arith, eqb-false x a e)) (omega arith)))

@@ -9,7 +9,7 @@ use Prim.Native.Nat.{ℕ, zero, suc, _<_}
 use native.Mathlib.Omega.{arith}
 use lib.Dec.{T, ltb, eqb, lt→ltb, ltb→lt, eqb-refl}
 use lib.ListN.{length, getD}
-use Rattle.definitions.specs.Lists.{if_then_else_, select, lastPasses, concatMap, upFrom, isIn}
+use Rattle.definitions.specs.Lists.{if_then_else_, select, lastPasses, concatMap, upFrom, isIn, distinct}
 use Rattle.definitions.specs.laws.lists.Tests.{T-and, T-or}
 use Rattle.definitions.specs.laws.lists.Members.{of-append, of-map, of-concatMap, of-upFrom, in-at}
 use Rattle.definitions.specs.laws.lists.Selected.{of-select}
@@ -83,6 +83,11 @@ rising-concatMap {A} {B} before after f (x ∷ l) r each across =
   where
     later : (a b : B) → isIn a (f x) → isIn b (concatMap f l) → after a b
     later a b i j = let (y, k, m) = of-concatMap f b l j in across x y a b (r .0 y k) i m
+
+-- numbers that rise are each there once
+pub rising-distinct : (l : List ℕ) → Rising _<_ l → distinct l
+rising-distinct [] r = tt
+rising-distinct (x ∷ l) r = (λ i. omega (arith, r .0 x i), rising-distinct l (r .1))
 
 pub rising-upFrom : (a count : ℕ) → Rising _<_ (upFrom a count)
 unfolding upFrom

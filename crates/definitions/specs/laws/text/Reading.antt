@@ -5,15 +5,18 @@ use mathlib.Core.Path.{_≡_, refl, _∙_}
 use mathlib.Core.List.{List, [], _∷_, _++_}
 use mathlib.Core.Bool.{Bool, true, not}
 use mathlib.Core.Option.{Option, none, some}
-use Prim.Native.Nat.{ℕ, suc}
-use lib.Dec.{T, lit<}
+use Prim.Native.Nat.{ℕ, suc, _+_, _*_, _/_, _%_}
+use native.Mathlib.Omega.{arith}
+use lib.Dec.{T, ltb, eqb, eqb→eq, lit<}
+use lib.ListN.{length, length-append}
 use Rattle.definitions.specs.declared.Fault.the-variants.{Misprint, Count, Ragged}
 use Rattle.definitions.specs.Lists.{every}
 use Rattle.definitions.specs.Faults.{Outcome, answered, _unless_, andThen}
 use Rattle.definitions.specs.Forms.{Form}
-use Rattle.definitions.specs.Lines.{Line, lineOf, linesOf, wholeLines}
+use Rattle.definitions.specs.Lines.{Line, lineOf, linesOf, endsInLineFeed, wholeLines}
 use Rattle.definitions.specs.Reading.{Kind, lineTests, lineRead, withLine, readFrom, readText}
-use Rattle.definitions.specs.laws.lists.Tests.{T-and}
+use Rattle.definitions.specs.laws.lists.Tests.{T-and, T-three}
+use Rattle.definitions.specs.laws.lists.Records.{records-length}
 use Rattle.definitions.specs.laws.text.Judging.{allPass, passes-at, judge-passing, judge-answered}
 use Rattle.definitions.specs.laws.text.Judging.{andThen-answered, refused-not-answered}
 
@@ -92,6 +95,26 @@ module _ {L : Type 0} (kind : Kind L) where
   text-read text h =
       judge-passing 0 (Ragged unless wholeLines text ∷ []) (readFrom kind 1 [] (linesOf text))
       (T-and (wholeLines text) true .1 (h, tt))
+
+  -- an accepted text has as many lines as were read
+  lines-many : (at : ℕ) (before : List L) (rest : List (List ℕ)) (answer : List L)
+      → readFrom kind at before rest ≡ answered answer
+      → (lines : List L) × (length lines ≡ length before + length rest) × (kind .afterLast lines ≡ answered answer)
+  lines-many at before [] answer e = (before, omega arith, lines-end at before answer e .1)
+  lines-many at before (bytes ∷ rest) answer e =
+      let (line, _, next) = line-passed at before bytes rest answer e in
+      let (lines, many, judged) = lines-many (suc at) (withLine kind before line) rest answer next in
+      (lines, omega (arith, many, length-append before (kind .view line ∷ [])), judged)
+
+  pub text-many : (text : List ℕ) (answer : List L) → readText kind text ≡ answered answer
+      → (lines : List L) × (length text ≡ 32 * length lines) × (kind .afterLast lines ≡ answered answer)
+  unfolding wholeLines linesOf
+  text-many text answer e =
+      let (whole, read) = text-lines text answer e in
+      let (lines, many, judged) = lines-many 1 [] (linesOf text) answer read in
+      let even = eqb→eq (length text % 32) 0
+      (T-three (ltb 0 (length text)) (eqb (length text % 32) 0) (every endsInLineFeed (linesOf text)) .0 whole .1) in
+      (lines, omega (arith, many, even, records-length 32 (length text / 32) text), judged)
 
 -- all lines of an accepted text
 pub record Accepted {L : Type 0} (kind : Kind L) (P : List L → Type 0) (answer : List L) : Type 0 where

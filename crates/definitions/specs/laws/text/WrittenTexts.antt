@@ -89,10 +89,10 @@ module _ {L : Type 0} {kind : Kind L} (w : Writer kind) where
         T-three (ltb (form .letter) 256) (leb (length (form .fields)) 5) (every rangeFits (form .fields)) .0
         (w .writes line .fits)
 
-    few : length (w .lineFor line .numbers) ≤ 5
+    pub few : length (w .lineFor line .numbers) ≤ 5
     few = omega (arith, w .writes line .many, leb→le (length (w .form line .fields)) 5 (fitting .1))
 
-    fit : T (ranged line) → T (allFit (w .lineFor line .numbers))
+    pub fit : T (ranged line) → T (allFit (w .lineFor line .numbers))
     fit h = ranges-fit (w .form line .fields) (w .lineFor line .numbers) (w .writes line .many) (fitting .2) h
 
     -- what is written is read

@@ -47,7 +47,7 @@ concatMap-some f g l h = concatMap-same f (λ x. map some (g x)) l h ∙ sym (ma
 -- ---- contexts and states in range
 
 -- the contexts of a sequence within phones, as many on each side, are contexts of phones
-context-in-range : (phones half : ℕ) (left S right context : List ℕ)
+pub context-in-range : (phones half : ℕ) (left S right context : List ℕ)
     → length left ≡ half → length right ≡ half → T (every (isPhone phones) (around left S right))
     → isIn context (contextsWithin half left S right)
     → (length context ≡ half + half + 1) × T (every (isPhone phones) context)

@@ -4,7 +4,7 @@ use Prim.Native.Nat.{ℕ, _+_, _-_, _*_}
 use native.Mathlib.Omega.{arith}
 use lib.ListN.{take, drop}
 use borrow.Author.Needs.{needs}
-use Rattle.index.specs.laws.Putting.{part-length}
+use Rattle.lines.specs.laws.Putting.{part-length}
 use Rattle.index.proofs.records.record_at.Statement.{statement}
 use Rattle.index.proofs.records.record_at.Tie as tie
 

@@ -6,9 +6,9 @@ use native.Mathlib.Omega.{arith}
 use lib.ListN.{length, take, drop}
 use borrow.Author.Needs.{needs}
 use Rattle.definitions.specs.laws.matrices.Sizes.{words-few}
+use Rattle.lines.specs.laws.Putting.{part-length, part-put}
 use Rattle.matrix.specs.laws.Words.{overwritten-all}
 use Rattle.index.specs.laws.CutRecords.{cut-within}
-use Rattle.index.specs.laws.Putting.{part-length, part-put}
 use Rattle.metastates.proofs.adding.add_metastate.Statement.{statement}
 use Rattle.metastates.proofs.adding.add_metastate.Tie as tie
 

@@ -5,7 +5,7 @@ use native.Mathlib.Omega.{arith}
 use lib.ListN.{length, take}
 use borrow.Author.Tests.{le-leb, lt-leb}
 use borrow.Author.Needs.{needs}
-use Rattle.index.specs.laws.Putting.{part-length, part-put}
+use Rattle.lines.specs.laws.Putting.{part-length, part-put}
 use Rattle.turns.proofs.appending.add_arcs.Statement.{statement}
 use Rattle.turns.proofs.appending.add_arcs.Tie as tie
 

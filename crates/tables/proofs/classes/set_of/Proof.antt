@@ -1,11 +1,11 @@
--- `walking::set_of` meets its contract: beyond the table a set is empty.
+-- `classes::set_of` meets its contract: beyond the table a set is empty.
 use mathlib.Core.Path.{sym, ap, _∙_}
 use Prim.Native.Nat.{ℕ}
 use lib.ListN.{List·getD-eq-default}
 use borrow.Author.Needs.{needs}
 use Rattle.definitions.specs.Lists.{_!_}
-use Rattle.trees.proofs.walking.set_of.Statement.{statement}
-use Rattle.trees.proofs.walking.set_of.Tie as tie
+use Rattle.tables.proofs.classes.set_of.Statement.{statement}
+use Rattle.tables.proofs.classes.set_of.Tie as tie
 
 from-zero-requires : tie.Need-from-zero-requires
 from-zero-requires c κs = search needs

@@ -1,10 +1,10 @@
--- `storing::put_node` meets its contract: five words put one by one are the record put at once.
+-- `records::put_node` meets its contract: five words put one by one are the record put at once.
 use native.Mathlib.Omega.{arith}
 use lib.ListN.{length-set}
 use borrow.Author.Needs.{needs}
 use Rattle.lines.specs.laws.Putting.{put-each}
-use Rattle.book.proofs.storing.put_node.Statement.{statement}
-use Rattle.book.proofs.storing.put_node.Tie as tie
+use Rattle.tables.proofs.records.put_node.Statement.{statement}
+use Rattle.tables.proofs.records.put_node.Tie as tie
 
 wide-requires : tie.Need-wide-requires
 wide-requires c κs = search needs

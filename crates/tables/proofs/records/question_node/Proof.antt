@@ -1,8 +1,8 @@
--- `storing::question_node` meets its contract by computation.
+-- `records::question_node` meets its contract by computation.
 use mathlib.Core.Path.{refl}
 use Rattle.definitions.specs.Tables.{nodeWords}
-use Rattle.book.proofs.storing.question_node.Statement.{statement}
-use Rattle.book.proofs.storing.question_node.Tie as tie
+use Rattle.tables.proofs.records.question_node.Statement.{statement}
+use Rattle.tables.proofs.records.question_node.Tie as tie
 
 returns : tie.Need-returns
 unfolding nodeWords
