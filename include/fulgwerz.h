@@ -3,8 +3,8 @@
  *
  * These are the entries of libfulgwerz.a, which `rt staticlib fulgwerz` proves and writes. Each calls one proved
  * function and is proved to answer what that function answers. What a book, a network and their numbers mean is
- * said in docs/document-01.md. The archive is for Linux on x86-64; it needs memcpy and its like (memset, memmove,
- * memcmp), which every C library has, and nothing else.
+ * said in docs/document-01.md, what a book's plain form is in docs/document-02.md (P1). The archive is for Linux on
+ * x86-64; it needs memcpy and its like (memset, memmove, memcmp), which every C library has, and nothing else.
  *
  * Lent buffers
  *   Every buffer is a pointer and a length. The length counts elements of the pointer's type, never bytes and
@@ -34,8 +34,9 @@
  *   No entry keeps a pointer, allocates, prints or has a state of its own: any number of threads may call at once,
  *   as long as none fills a buffer that another uses.
  *   fulgwerz_combine, fulgwerz_build and fulgwerz_build_book keep their working space on the stack of the calling
- *   thread, about 3.6 million bytes at most; the others take less than 100,000. (Measured, not proved.) A main
- *   thread with the usual 8 MiB has enough; other threads may have less unless they are given more.
+ *   thread, about 3.6 million bytes at most; fulgwerz_write_book takes about 500,000 there, the others take less than
+ *   100,000. (Measured, not proved.) A main thread with the usual 8 MiB has enough; other threads may have less unless
+ *   they are given more.
  */
 #ifndef FULGWERZ_H
 #define FULGWERZ_H
@@ -160,6 +161,21 @@ fulgwerz_read_answer fulgwerz_read(
     uint32_t *nodes, size_t nodes_length,
     uint64_t *classes, size_t classes_length,
     uint32_t *roots, size_t roots_length);
+
+/*
+ * Writes the plain form of the book in the tables: its trees in the order of the roots, each numbered depth first, yes
+ * before no; classes with the same members made one, unused ones left out, numbered by first use in that order. Two
+ * books have the same bytes exactly when their half-width, states, phones and, tree by tree, shape, positions, members
+ * and models are the same. Fills text; count is how many bytes it has, 32 for each line. A buffer as long as the text
+ * that the tables were read from is long enough.
+ * Faults: 18, 33.
+ */
+fulgwerz_count_answer fulgwerz_write_book(
+    fulgwerz_header header,
+    const uint32_t *nodes, size_t nodes_length,
+    const uint64_t *classes, size_t classes_length,
+    const uint32_t *roots, size_t roots_length,
+    uint8_t *text, size_t text_length);
 
 /*
  * The leaf that a context reaches from a root. Any node may be the root; the context is 2n+1 phones.

@@ -1,6 +1,7 @@
 /*
- * Calls every entry of libfulgwerz.a through include/fulgwerz.h on document 01's example. What is expected was worked out
- * by hand from document 01: each answer, and each word of each buffer, which holds other words before every call.
+ * Calls every entry of libfulgwerz.a through include/fulgwerz.h, most of them on document 01's example. What is
+ * expected was worked out by hand from the documents: each answer, and each word of each buffer, which holds other
+ * words before every call.
  */
 #include "fulgwerz.h"
 
@@ -59,6 +60,35 @@ static const uint32_t NODES[] = {
 };
 static const uint64_t CLASSES[] = {1};  /* phone 1 is the bit worth 1 */
 static const uint32_t ROOTS[] = {0, 1};
+
+/*
+ * Another book and its plain form. Two of its four classes have the same members, the others are not asked about.
+ * Node 1 asks whether phone 2 stands to the left, node 2 whether it stands to the right. Its roots are the example's.
+ */
+static const fulgwerz_header SPELLED_HEADER = {1, 1, 2, 4, 6};
+static const uint32_t SPELLED_NODES[] = {
+    2, 10, 0, 0, 0,
+    1, 4, 0, 3, 2,
+    1, 2, 2, 5, 4,
+    2, 20, 0, 0, 0,
+    2, 21, 0, 0, 0,
+    2, 22, 0, 0, 0,
+};
+static const uint64_t SPELLED_CLASSES[] = {1, 2, 0, 2};
+
+static const char PLAIN[] =
+    "H     1     1     2     1     6\n"
+    "Q     1     2                  \n"
+    "L     0    10                  \n"
+    "N     1     1     0     2     3\n"
+    "L     2    20                  \n"
+    "N     3     1     2     4     5\n"
+    "L     4    22                  \n"
+    "L     5    21                  \n"
+    "R     1     1     0            \n"
+    "R     2     1     1            \n";
+
+enum { PLAIN_BYTES = 10 * FULGWERZ_LINE };
 
 /* Phone, three leaves, seven columns. Both phones are 3, phone 1 alone is 1, phone 2 alone is 2. */
 static const uint64_t COMBINATIONS[] = {
@@ -145,6 +175,13 @@ static fulgwerz_read_answer read_book(const char *book, size_t length, size_t no
     spoil();
     return fulgwerz_read(
         bytes(book), length, nodes, nodes_length, classes, COUNT(classes), roots, COUNT(roots));
+}
+
+static fulgwerz_count_answer write_book(fulgwerz_header header, size_t text_length) {
+    spoil();
+    return fulgwerz_write_book(
+        header, SPELLED_NODES, COUNT(SPELLED_NODES), SPELLED_CLASSES, COUNT(SPELLED_CLASSES), ROOTS, COUNT(ROOTS),
+        text, text_length);
 }
 
 static fulgwerz_leaf_answer find_leaf(uint32_t root, const uint32_t *context, size_t context_length) {
@@ -301,6 +338,29 @@ static void check_read_refusals(void) {
     check_read_refused(with_line(4, "N     1     1     0     1     3\n"), BOOK_BYTES, FULGWERZ_BACKWARD, 4);
     check_read_refused(with_line(4, "N     1     1     0     2     2\n"), BOOK_BYTES, FULGWERZ_ORPHAN, 5);
     check_read_refused(BOOK, 7 * FULGWERZ_LINE, FULGWERZ_COUNT, 8);
+}
+
+static void check_write_book(void) {
+    fulgwerz_count_answer written = write_book(SPELLED_HEADER, sizeof text);
+    CHECK(written.fault == 0 && written.line == 0 && written.count == PLAIN_BYTES);
+    CHECK(holds(text, sizeof text, PLAIN, PLAIN_BYTES));
+    written = write_book(SPELLED_HEADER, PLAIN_BYTES);
+    CHECK(written.fault == 0 && written.line == 0 && written.count == PLAIN_BYTES);
+    CHECK(memcmp(text, PLAIN, PLAIN_BYTES) == 0 && text[PLAIN_BYTES] == 0xa5);
+
+    written = write_book(SPELLED_HEADER, PLAIN_BYTES - 1);
+    CHECK(written.fault == FULGWERZ_SHORT && written.line == 0 && written.count == 0);
+    CHECK(holds(text, PLAIN_BYTES - 1, "", 0));
+    written = write_book(HEADER, PLAIN_BYTES - 1);
+    CHECK(written.fault == FULGWERZ_FOREIGN && written.line == 0 && written.count == 0);
+    CHECK(holds(text, PLAIN_BYTES - 1, "", 0));
+
+    /* The example is its own plain form. */
+    spoil();
+    written = fulgwerz_write_book(
+        HEADER, NODES, COUNT(NODES), CLASSES, COUNT(CLASSES), ROOTS, COUNT(ROOTS), text, sizeof text);
+    CHECK(written.fault == 0 && written.line == 0 && written.count == BOOK_BYTES);
+    CHECK(holds(text, sizeof text, BOOK, BOOK_BYTES));
 }
 
 static void check_leaf(void) {
@@ -524,11 +584,13 @@ static void check_read_network(void) {
 
 int main(void) {
     CHECK(sizeof BOOK == BOOK_BYTES + 1 && sizeof NETWORK == NETWORK_BYTES + 1);
+    CHECK(sizeof PLAIN == PLAIN_BYTES + 1);
     check_small_layouts();
     check_answer_layouts();
     check_read();
     check_read_header();
     check_read_refusals();
+    check_write_book();
     check_leaf();
     check_leaf_in_list();
     check_transcribe();

@@ -1,10 +1,10 @@
 // The entries as functions for C, with the structs that they answer. Each calls one function and answers what that
 // answers. A fault and its line are 0 where nothing is wrong; where something is, all else is 0.
 mod answers;
+mod books;
 mod building;
 mod lookups;
 mod networks;
-mod reading;
 
 use definitions::Counts;
 use definitions::Header;

@@ -123,6 +123,14 @@ mod raw {
             roots: *mut u32, roots_length: usize,
         ) -> ReadAnswer;
 
+        pub fn fulgwerz_write_book(
+            header: Header,
+            nodes: *const u32, nodes_length: usize,
+            classes: *const u64, classes_length: usize,
+            roots: *const u32, roots_length: usize,
+            text: *mut u8, text_length: usize,
+        ) -> CountAnswer;
+
         pub fn fulgwerz_leaf(
             header: Header,
             nodes: *const u32, nodes_length: usize,
@@ -202,6 +210,20 @@ pub fn read(text: &[u8], tables: TablesMut) -> ReadAnswer {
             nodes.as_mut_ptr(), nodes.len(),
             classes.as_mut_ptr(), classes.len(),
             roots.as_mut_ptr(), roots.len(),
+        )
+    }
+}
+
+/// Writes the plain form of the book in the tables.
+pub fn write_book(header: Header, tables: Tables, text: &mut [u8]) -> CountAnswer {
+    let Tables { nodes, classes, roots } = tables;
+    unsafe {
+        raw::fulgwerz_write_book(
+            header,
+            nodes.as_ptr(), nodes.len(),
+            classes.as_ptr(), classes.len(),
+            roots.as_ptr(), roots.len(),
+            text.as_mut_ptr(), text.len(),
         )
     }
 }

@@ -1,10 +1,10 @@
--- `reading::fulgwerz_read` meets its contract: what the function called answers, as a struct, and
+-- `books::fulgwerz_read` meets its contract: what the function called answers, as a struct, and
 -- what it leaves in the buffers.
 use mathlib.Core.Path.{ap, _∙_}
 use borrow.Author.Needs.{needs}
 use Rattle.fulgwerz.specs.Answers.{readAnswer}
-use Rattle.fulgwerz.proofs.reading.fulgwerz_read.Statement.{statement}
-use Rattle.fulgwerz.proofs.reading.fulgwerz_read.Tie as tie
+use Rattle.fulgwerz.proofs.books.fulgwerz_read.Statement.{statement}
+use Rattle.fulgwerz.proofs.books.fulgwerz_read.Tie as tie
 
 read-requires : tie.Need-read-requires
 read-requires c κs = search needs

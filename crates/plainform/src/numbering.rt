@@ -1,0 +1,88 @@
+// Trees numbered anew, depth first and yes before no: their node records and roots, put into tables.
+use crate::sets::class_among;
+use definitions::Header;
+use tables::records::leaf_node;
+use tables::records::node_at;
+use tables::records::put_node;
+use tables::records::question_node;
+ghost use mathlib.Core.Path.{_≡_};
+ghost use Prim.Native.Nat.{_≤_};
+ghost use lib.ListN.{length};
+ghost use Rattle.definitions.specs.PlainForm.{sizeOf, allNodes, rootsFrom};
+ghost use Rattle.lines.specs.Putting.{putAt};
+ghost use Rattle.plainform.specs.LentTrees.{treeIn, treesIn, KnownNode, KnownRoots};
+ghost use Rattle.plainform.specs.Numbering.{allWords, Numberable, Numbered};
+
+// Puts the records of the tree at a node into a table, its root as number `at`, where the classes have these sets.
+// Answers the number after the last. Children are greater than their node, so the node count minus the node falls
+// at each call.
+fn number(
+    header: Header,
+    nodes: &[u32],
+    classes: &[u64],
+    node: u32,
+    sets: &[u64],
+    table: &mut [u32],
+    at: u32,
+) -> u32
+    requires { ⌜
+        KnownNode header (now nodes) node
+        × Numberable (now sets) at (sizeOf (treeIn header (now nodes) (now classes) node)) (now table)
+        ⌝ }
+    ensures { λ r. ⌜
+        Numbered (now (sets .entry)) at (treeIn header (now (nodes .entry)) (now (classes .entry)) node)
+        (now (table .entry)) r (now (table .exit))
+        ⌝ }
+{
+    let record = node_at(nodes, node);
+    if record.kind != 1 {
+        put_node(table, at, leaf_node(record.value));
+        return at + 1;
+    }
+    let middle = number(header, nodes, classes, record.yes, sets, table, at + 1);
+    let class = class_among(classes, sets, record.value);
+    put_node(
+        table,
+        at,
+        question_node(class, record.position, at + 1, middle),
+    );
+    number(header, nodes, classes, record.no, sets, table, middle)
+}
+
+// Puts the records of the trees at these roots into a table, one tree after the other, and their new roots into
+// another.
+pub fn number_all(
+    header: Header,
+    nodes: &[u32],
+    classes: &[u64],
+    roots: &[u32],
+    sets: &[u64],
+    table: &mut [u32],
+    starts: &mut [u32],
+)
+    requires { ⌜
+        KnownRoots header (now nodes) (now roots)
+        × Numberable (now sets) 0
+        (length (allNodes (now sets) 0 (treesIn header (now nodes) (now classes) (now roots)))) (now table)
+        × (length (now roots) ≤ length (now starts))
+        ⌝ }
+    ensures table { λ r. ⌜
+        now (table .exit) ≡ putAt 0
+        (allWords (now (sets .entry)) 0
+        (treesIn header (now (nodes .entry)) (now (classes .entry)) (now (roots .entry))))
+        (now (table .entry))
+        ⌝ }
+    ensures starts { λ r. ⌜
+        now (starts .exit) ≡ putAt 0
+        (rootsFrom 0 (treesIn header (now (nodes .entry)) (now (classes .entry)) (now (roots .entry))))
+        (now (starts .entry))
+        ⌝ }
+{
+    let mut at = 0;
+    let mut i = 0;
+    while i < roots.len() {
+        starts[i] = at;
+        at = number(header, nodes, classes, roots[i], sets, table, at);
+        i += 1;
+    }
+}
