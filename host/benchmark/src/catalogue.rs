@@ -1,7 +1,10 @@
-//! The books that are measured. Each builds within 65535 metastates and 999999 arcs.
+//! The books that are measured. Those that are built stay within 65535 metastates and 999999 arcs.
 
+use plain::books::ceilings::{deepest_tree, deepest_tree_of_no, most_classes};
 use plain::books::recipes::{grown, question_free, resolving, Grown};
+use plain::books::respelling::respelled;
 use plain::books::Book;
+use plain::random::Random;
 
 pub struct Measured {
     pub name: String,
@@ -16,6 +19,21 @@ pub fn catalogue() -> Vec<Measured> {
     add_question_free(&mut books);
     add_products(&mut books);
     add_growing(&mut books);
+    books
+}
+
+/// The books that are written: a usual one, 4096 nodes with 255 classes of different members, and trees 2047 deep. Each
+/// is spelled at random, as it may come by mail.
+pub fn written() -> Vec<Measured> {
+    let usual = catalogue().swap_remove(0);
+    let mut books = vec![usual];
+    for (name, book) in
+        [("most-classes", most_classes()), ("deepest-yes", deepest_tree()), ("deepest-no", deepest_tree_of_no())]
+    {
+        add(&mut books, "books at the ceilings", name.into(), book);
+    }
+    let mut random = Random::new(1);
+    books.iter_mut().for_each(|measured| measured.book = respelled(&measured.book, &mut random));
     books
 }
 

@@ -1,6 +1,7 @@
-//! Compares the proved build with the plain one, on the same books in the same run.
+//! Compares the proved build with the plain one, on the same books in the same run, and the writing of books likewise.
 //!
-//!     benchmark [--largest] [NAME..]          all books, or those named
+//!     benchmark [--largest] [NAME..]          builds of all books and the writing of books, or builds of those named
+//!     benchmark --writing                     the writing of books alone
 //!     benchmark --list                        the names
 //!     benchmark --only proved|plain NAME N    one side builds one book N times, for a profiler
 
@@ -10,6 +11,7 @@ mod clock;
 mod measuring;
 mod memory;
 mod tables;
+mod writing;
 
 use builds::{build, Buffers, ReadBook, Room, Side};
 use catalogue::{catalogue, Measured};
@@ -24,6 +26,7 @@ fn main() {
     let words: Vec<&str> = arguments.iter().map(String::as_str).collect();
     match words[..] {
         ["--list"] => catalogue().iter().for_each(|measured| println!("{}", measured.name)),
+        ["--writing"] => compare_writing(),
         ["--only", side, name, times] => repeat(side, name, times),
         ["--largest", ref names @ ..] => compare(names, true),
         ref names => compare(names, false),
@@ -87,4 +90,20 @@ fn compare(names: &[&str], largest_room: bool) {
     });
     println!("\nWhere time and memory go:\n\n{}\n{}", tables::parts_head(), parts.join("\n"));
     println!("\nPeak memory of this process, with the buffers of both sides: {} kB", memory::peak() >> 10);
+    if names.is_empty() {
+        println!();
+        compare_writing();
+    }
+}
+
+fn compare_writing() {
+    println!("Both sides write the plain form of the same tables, in turn, each into the bytes that it needs.");
+    println!("Answers and texts are compared. The proved side takes no heap.\n");
+    println!("{}", tables::writing_head());
+    memory::on_large_stack(|| {
+        for Measured { name, book, .. } in catalogue::written() {
+            let book = ReadBook::new(&book);
+            println!("{}", tables::writing_row(&name, book.header, &writing::measure(&book)));
+        }
+    });
 }

@@ -58,8 +58,8 @@ fn need_of(book: &ReadBook) -> Room {
 
 /// Both sides in turn, so that a disturbance meets both: at least five times each, and on until this many milliseconds
 /// have passed or each ran two hundred times.
-fn best_of(
-    milliseconds: u64, book: &ReadBook, buffers: &mut [Buffers; 2], run: impl Fn(Side, &ReadBook, &mut Buffers),
+pub fn best_of<Lent>(
+    milliseconds: u64, book: &ReadBook, buffers: &mut [Lent; 2], run: impl Fn(Side, &ReadBook, &mut Lent),
 ) -> [Duration; 2] {
     let mut best = [Duration::MAX; 2];
     let begin = Instant::now();

@@ -1,6 +1,8 @@
 //! The tables that are printed: plain text, aligned, and Markdown as they stand.
 
 use crate::measuring::Measurement;
+use crate::writing::Written;
+use fulgwerz::Header;
 use std::time::Duration;
 
 /// A column's title and width.
@@ -36,12 +38,56 @@ const PARTS: [Column; 12] = [
     ("heap kB", 7),
 ];
 
+const WRITING: [Column; 15] = [
+    ("book", 13),
+    ("n", 1),
+    ("k", 1),
+    ("phones", 6),
+    ("classes", 7),
+    ("nodes", 5),
+    ("lines", 5),
+    ("proved ms", 9),
+    ("plain ms", 8),
+    ("proved ns/line", 14),
+    ("plain ns/line", 13),
+    ("proved/plain", 12),
+    ("proved: stack kB", 16),
+    ("plain: stack kB", 15),
+    ("heap kB", 7),
+];
+
 pub fn speed_head() -> String {
     head(&SPEED)
 }
 
 pub fn parts_head() -> String {
     head(&PARTS)
+}
+
+pub fn writing_head() -> String {
+    head(&WRITING)
+}
+
+pub fn writing_row(name: &str, header: Header, written: &Written) -> String {
+    let Written { lines, proved, plain } = *written;
+    let per_line = |time: Duration| format!("{:.1}", time.as_secs_f64() * 1e9 / lines as f64);
+    row(&WRITING, &[
+        name.into(),
+        header.half.to_string(),
+        header.states.to_string(),
+        header.phones.to_string(),
+        header.classes.to_string(),
+        header.nodes.to_string(),
+        lines.to_string(),
+        milliseconds(proved.time),
+        milliseconds(plain.time),
+        per_line(proved.time),
+        per_line(plain.time),
+        ratio(proved.time, plain.time),
+        kilobytes(proved.stack),
+        kilobytes(plain.stack),
+        kilobytes(plain.heap),
+    ])
 }
 
 pub fn speed_row(name: &str, half: u32, phones: u32, measured: &Measurement) -> String {
@@ -60,7 +106,7 @@ pub fn speed_row(name: &str, half: u32, phones: u32, measured: &Measurement) -> 
         milliseconds(plain),
         per_arc(proved),
         per_arc(plain),
-        format!("{:.2}", proved.as_secs_f64() / plain.as_secs_f64()),
+        ratio(proved, plain),
     ])
 }
 
@@ -82,6 +128,10 @@ pub fn parts_row(name: &str, measured: &Measurement) -> String {
         kilobytes(plain.stack),
         kilobytes(plain.heap),
     ])
+}
+
+fn ratio(proved: Duration, plain: Duration) -> String {
+    format!("{:.2}", proved.as_secs_f64() / plain.as_secs_f64())
 }
 
 fn milliseconds(time: Duration) -> String {

@@ -10,7 +10,7 @@ pub enum Side {
     Library,
     /// The plain implementation.
     Plain,
-    /// The plain build written for speed, which has only `build` and `combine`.
+    /// What is written for speed: `build`, `combine` and `write_book`.
     Fast,
 }
 

@@ -10,6 +10,8 @@ use std::ffi::{OsStr, OsString};
 pub enum Command {
     Build { book: OsString, network: OsString },
     Check { book: OsString },
+    Plain { book: OsString, plain: OsString },
+    Same { one: OsString, other: OsString },
     Transcribe { book: OsString, phones: Vec<u32> },
     Arcs { network: OsString, state: u32 },
     Help(Option<Verb>),
@@ -21,6 +23,8 @@ pub enum Command {
 pub enum Verb {
     Build,
     Check,
+    Plain,
+    Same,
     Transcribe,
     Arcs,
 }
@@ -30,6 +34,8 @@ impl Verb {
         match name.to_str()? {
             "build" => Some(Verb::Build),
             "check" => Some(Verb::Check),
+            "plain" => Some(Verb::Plain),
+            "same" => Some(Verb::Same),
             "transcribe" => Some(Verb::Transcribe),
             "arcs" => Some(Verb::Arcs),
             _ => None,
@@ -40,7 +46,7 @@ impl Verb {
 /// What follows a command, sorted.
 #[derive(Default)]
 struct Given {
-    plain: Vec<OsString>,
+    words: Vec<OsString>,
     output: Option<OsString>,
     help: bool,
 }
@@ -75,15 +81,19 @@ fn unknown_command(name: &OsStr) -> Failure {
 }
 
 fn command(verb: Verb, rest: &[OsString]) -> Result<Command, Failure> {
-    let Given { plain, output, help } = sort(verb, rest)?;
+    let Given { words, output, help } = sort(verb, rest)?;
     if help {
         return Ok(Command::Help(Some(verb)));
     }
-    match (verb, plain.as_slice()) {
-        (Verb::Build, [book]) => {
-            Ok(Command::Build { book: book.clone(), network: output.unwrap_or_else(|| "-".into()) })
-        }
+    let output = output.unwrap_or_else(|| "-".into());
+    match (verb, words.as_slice()) {
+        (Verb::Build, [book]) => Ok(Command::Build { book: book.clone(), network: output }),
         (Verb::Check, [book]) => Ok(Command::Check { book: book.clone() }),
+        (Verb::Plain, [book]) => Ok(Command::Plain { book: book.clone(), plain: output }),
+        (Verb::Same, [one, other]) if one == "-" && other == "-" => {
+            Err(usage(verb, "only one BOOK can be standard input"))
+        }
+        (Verb::Same, [one, other]) => Ok(Command::Same { one: one.clone(), other: other.clone() }),
         (Verb::Transcribe, [book, phones @ ..]) if !phones.is_empty() => {
             let phones = phones.iter().map(|phone| number(verb, phone)).collect::<Result<_, _>>()?;
             Ok(Command::Transcribe { book: book.clone(), phones })
@@ -99,11 +109,12 @@ fn sort(verb: Verb, rest: &[OsString]) -> Result<Given, Failure> {
     let mut rest = rest.iter();
     while let Some(argument) = rest.next() {
         match argument.to_str() {
-            Some("--") => given.plain.extend(rest.by_ref().cloned()),
+            Some("--") => given.words.extend(rest.by_ref().cloned()),
             Some("--help" | "-h") => given.help = true,
-            Some("-o") if verb == Verb::Build => {
+            Some("-o") if help::output(verb).is_some() => {
                 let Some(output) = rest.next() else {
-                    return Err(usage(verb, "after -o the name of the NETWORK is needed"));
+                    let what = help::output(verb).unwrap_or_default();
+                    return Err(usage(verb, &format!("after -o the name of the {what} is needed")));
                 };
                 if given.output.replace(output.clone()).is_some() {
                     return Err(usage(verb, "-o is given twice"));
@@ -112,7 +123,7 @@ fn sort(verb: Verb, rest: &[OsString]) -> Result<Given, Failure> {
             _ if is_option(argument) => {
                 return Err(usage(verb, &format!("there is no option '{}'", showing::name(argument))));
             }
-            _ => given.plain.push(argument.clone()),
+            _ => given.words.push(argument.clone()),
         }
     }
     Ok(given)

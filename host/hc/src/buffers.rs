@@ -11,6 +11,9 @@ const COMBINATION: usize = 11;
 const METASTATE: usize = 8;
 pub const ARC: usize = 4;
 
+/// The first word of a question's node.
+const QUESTION: u32 = 1;
+
 /// No build has more turns than metastates, 65535, so none is stopped.
 const TURN_LIMIT: u32 = u32::MAX;
 
@@ -45,12 +48,41 @@ impl BookTables {
     fn lent_to_read(&self) -> Tables<'_> {
         Tables { nodes: &self.nodes, classes: &self.classes, roots: &self.roots }
     }
+
+    /// The root of a tree by its place among the R lines, from 0.
+    pub fn root(&self, place: u32) -> u32 {
+        self.roots[place as usize]
+    }
+
+    pub fn node(&self, number: u32) -> Node {
+        match self.nodes[NODE * number as usize..][..NODE] {
+            [QUESTION, class, position, yes, no] => {
+                Node::Question { members: self.classes[class as usize - 1], position, yes, no }
+            }
+            [_, model, ..] => Node::Leaf { model },
+            _ => unreachable!("a node has five words"),
+        }
+    }
+}
+
+/// A node of a book, with the members of its class.
+pub enum Node {
+    Question { members: u64, position: u32, yes: u32, no: u32 },
+    Leaf { model: u32 },
 }
 
 pub fn read_book(text: &[u8]) -> (ReadAnswer, BookTables) {
     let mut tables = BookTables::empty();
     let answer = fulgwerz::read(text, tables.lent_to_fill());
     (answer, tables)
+}
+
+/// The plain form of a book, in so many bytes: the fault, and the text.
+pub fn write_book(header: Header, tables: &BookTables, room: usize) -> (u32, Vec<u8>) {
+    let mut text = vec![0; room];
+    let answer = fulgwerz::write_book(header, tables.lent_to_read(), &mut text);
+    text.truncate(answer.count);
+    (answer.fault, text)
 }
 
 /// The models of the phones: the fault, and one model for each phone and state.

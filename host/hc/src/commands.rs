@@ -1,7 +1,9 @@
 //! What each command does.
 
 use crate::args::Command;
+use crate::books::Book;
 use crate::buffers::{self, ARC};
+use crate::differences;
 use crate::failures::Failure;
 use crate::faults;
 use crate::help;
@@ -10,25 +12,35 @@ use crate::outputs;
 use crate::showing;
 use crate::stages::Stage;
 use std::ffi::OsStr;
+use std::process::ExitCode;
 
-pub fn perform(command: Command) -> Result<(), Failure> {
-    match command {
+pub fn perform(command: Command) -> Result<ExitCode, Failure> {
+    let done = match command {
         Command::Build { book, network } => build(&book, &network),
         Command::Check { book } => check(&book),
+        Command::Plain { book, plain } => plain_form(&book, &plain),
+        Command::Same { one, other } => return same(&one, &other),
         Command::Transcribe { book, phones } => transcribe(&book, &phones),
         Command::Arcs { network, state } => arcs(&network, state),
         Command::Help(verb) => outputs::to_stdout(help::text(verb).as_bytes()),
         Command::Version => outputs::to_stdout(concat!("hc ", env!("CARGO_PKG_VERSION"), "\n").as_bytes()),
-    }
+    };
+    done.map(|()| ExitCode::SUCCESS)
 }
 
 fn build(book: &OsStr, network: &OsStr) -> Result<(), Failure> {
-    if book != "-" && network != "-" && outputs::is_same_file(book, network) {
-        let name = showing::name(network);
-        return Err(Failure::because(format!("{name}: the network would replace its book")));
-    }
+    keep_book(book, network, "network")?;
     let text = build_text(&inputs::read(book)?)?;
     outputs::write(network, &text)
+}
+
+/// Refuses to write what is made from a book in its place.
+fn keep_book(book: &OsStr, output: &OsStr, what: &str) -> Result<(), Failure> {
+    if book != "-" && output != "-" && outputs::is_same_file(book, output) {
+        let name = showing::name(output);
+        return Err(Failure::because(format!("{name}: the {what} would replace its book")));
+    }
+    Ok(())
 }
 
 /// The text of a book's network.
@@ -50,12 +62,7 @@ fn build_text(book: &inputs::Text) -> Result<Vec<u8>, Failure> {
 }
 
 fn check(book: &OsStr) -> Result<(), Failure> {
-    let text = inputs::read(book)?;
-    let (answer, _) = buffers::read_book(&text.bytes);
-    if answer.fault != 0 {
-        return Err(faults::explain(&text, answer.fault, answer.line));
-    }
-    let header = answer.header;
+    let Book { text, header, .. } = Book::read(book)?;
     let accepted = format!(
         "{}: accepted: half-width {}, states {}, phones {}, classes {}, nodes {}\n",
         text.name, header.half, header.states, header.phones, header.classes, header.nodes
@@ -63,16 +70,30 @@ fn check(book: &OsStr) -> Result<(), Failure> {
     outputs::to_stdout(accepted.as_bytes())
 }
 
+fn plain_form(book: &OsStr, plain: &OsStr) -> Result<(), Failure> {
+    keep_book(book, plain, "plain form")?;
+    outputs::write(plain, &Book::read(book)?.plain_form()?)
+}
+
+/// Books are the same where their plain forms are, byte for byte. The trees are walked only to say what differs.
+fn same(one: &OsStr, other: &OsStr) -> Result<ExitCode, Failure> {
+    let (one, other) = (Book::read(one)?, Book::read(other)?);
+    let names = format!("{} and {}", one.text.name, other.text.name);
+    if one.plain_form()? == other.plain_form()? {
+        outputs::to_stdout(format!("{names}: the same book\n").as_bytes())?;
+        return Ok(ExitCode::SUCCESS);
+    }
+    let difference = differences::first(&one, &other);
+    outputs::to_stdout(format!("{names}: not the same book\n{difference}").as_bytes())?;
+    Ok(ExitCode::from(1))
+}
+
 /// Prints the models in one line.
 fn transcribe(book: &OsStr, phones: &[u32]) -> Result<(), Failure> {
-    let text = inputs::read(book)?;
-    let (answer, tables) = buffers::read_book(&text.bytes);
-    if answer.fault != 0 {
-        return Err(faults::explain(&text, answer.fault, answer.line));
-    }
-    let (fault, models) = buffers::transcribe(answer.header, &tables, phones);
+    let Book { text, header, tables } = Book::read(book)?;
+    let (fault, models) = buffers::transcribe(header, &tables, phones);
     if fault != 0 {
-        let range = format!("(the phones of this book are 1 to {})", answer.header.phones);
+        let range = format!("(the phones of this book are 1 to {})", header.phones);
         return Err(faults::explain(&text, fault, 0).adding(&range));
     }
     let models: Vec<String> = models.iter().map(u32::to_string).collect();

@@ -6,6 +6,8 @@ pub const USAGE: &str = "\
 usage:
   hc build BOOK [-o NETWORK]   builds the network of a tree book
   hc check BOOK                says whether a book is accepted, or what is wrong
+  hc plain BOOK [-o FILE]      writes the plain form of a book
+  hc same BOOK BOOK            says whether two books are the same, or where not
   hc transcribe BOOK PHONE..   prints the models that the trees give to phones
   hc arcs NETWORK STATE        prints the arcs that leave a state of a network
   hc help [COMMAND]            prints help, or more about a command
@@ -16,12 +18,15 @@ const GENERAL: &str = "
 A BOOK or NETWORK named - is standard input. A fault is shown on standard error:
 its number and word, what it means, and the line of the text. The guide
 docs/tree-books.md tells how to write a book and how to mend each fault.
-The exit status is 0, or 1 where something is wrong.
+The exit status is 0, or 1 where something is wrong; for hc same it is 0, or 1
+where the books are not the same, or 2 where something is wrong.
 
 examples:
   hc build welsh.book -o welsh.network
   hc build - < welsh.book > welsh.network
   hc check welsh.book
+  hc plain welsh.book -o welsh.plain
+  hc same welsh.book cardiff.book
   hc transcribe welsh.book 1 2 2 1
   hc arcs welsh.network 0
 ";
@@ -55,6 +60,40 @@ examples:
   hc check - < welsh.book
 ";
 
+const PLAIN: &str = "
+
+Reads the tree book and writes it in its plain form to FILE, or to standard
+output where FILE is - or not given. BOOK may be - for standard input.
+
+The plain form is one spelling for all books that have the same trees: the trees
+stand by phone and state, the nodes of each are numbered from its root down, yes
+before no; classes with the same members are one, those that no question asks
+about are left out, and they are numbered as the questions meet them. It is a
+book itself, and gives every row of phones the models that it had.
+
+FILE is replaced whole or not at all, and may not be BOOK itself.
+
+examples:
+  hc plain welsh.book -o welsh.plain
+  hc plain - < welsh.book | cmp - cardiff.plain
+";
+
+const SAME: &str = "
+
+Says whether two tree books are the same: the same half-width, states and phones
+and, for each phone and state, the same tree, however its nodes and the classes
+are numbered. Where they are not, says what differs first: half-width, states or
+phones, or a tree, and what differs there on the way from its root down, yes
+before no. One BOOK may be - for standard input.
+
+The exit status is 0 if they are the same, 1 if they are not, and 2 if there is
+no answer: a book is refused or cannot be read, or the command is wrong.
+
+examples:
+  hc same welsh.book cardiff.book
+  hc same welsh.book - < letter.book && echo nothing new
+";
+
 const TRANSCRIBE: &str = "
 
 Prints in one line the models that the trees of the book give to the phones,
@@ -83,6 +122,8 @@ pub fn usage(verb: Verb) -> &'static str {
     match verb {
         Verb::Build => "hc build BOOK [-o NETWORK]",
         Verb::Check => "hc check BOOK",
+        Verb::Plain => "hc plain BOOK [-o FILE]",
+        Verb::Same => "hc same BOOK BOOK",
         Verb::Transcribe => "hc transcribe BOOK PHONE..",
         Verb::Arcs => "hc arcs NETWORK STATE",
     }
@@ -91,9 +132,19 @@ pub fn usage(verb: Verb) -> &'static str {
 /// What a command asks for.
 pub fn wanted(verb: Verb) -> &'static str {
     match verb {
-        Verb::Build | Verb::Check => "one BOOK is needed",
+        Verb::Build | Verb::Check | Verb::Plain => "one BOOK is needed",
+        Verb::Same => "two BOOKs are needed",
         Verb::Transcribe => "a BOOK and one PHONE or more are needed",
         Verb::Arcs => "one NETWORK and one STATE are needed",
+    }
+}
+
+/// What a command that writes a file calls it.
+pub fn output(verb: Verb) -> Option<&'static str> {
+    match verb {
+        Verb::Build => Some("NETWORK"),
+        Verb::Plain => Some("FILE"),
+        _ => None,
     }
 }
 
@@ -107,6 +158,8 @@ pub fn text(verb: Option<Verb>) -> String {
     let more = match verb {
         Verb::Build => BUILD,
         Verb::Check => CHECK,
+        Verb::Plain => PLAIN,
+        Verb::Same => SAME,
         Verb::Transcribe => TRANSCRIBE,
         Verb::Arcs => ARCS,
     };

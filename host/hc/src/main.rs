@@ -1,8 +1,10 @@
-//! hc builds the networks of tree books in real sizes, by the proved library libfulgwerz.a.
+//! hc builds the networks of tree books in real sizes, and compares books, by the proved library libfulgwerz.a.
 
 mod args;
+mod books;
 mod buffers;
 mod commands;
+mod differences;
 mod failures;
 mod faults;
 mod help;
@@ -23,7 +25,7 @@ const STACK_BYTES: usize = 64 << 20;
 fn main() -> ExitCode {
     match thread::Builder::new().stack_size(STACK_BYTES).spawn(run) {
         // A thread that panicked has said why.
-        Ok(work) => work.join().unwrap_or(ExitCode::FAILURE),
+        Ok(work) => work.join().unwrap_or(failed()),
         Err(error) => end(Err(Failure::because(format!("no thread to work on: {error}")))),
     }
 }
@@ -33,12 +35,15 @@ fn run() -> ExitCode {
     end(args::parse(&arguments).and_then(commands::perform))
 }
 
-fn end(result: Result<(), Failure>) -> ExitCode {
-    match result {
-        Ok(()) => ExitCode::SUCCESS,
-        Err(failure) => {
-            failure.say();
-            ExitCode::FAILURE
-        }
-    }
+fn end(result: Result<ExitCode, Failure>) -> ExitCode {
+    result.unwrap_or_else(|failure| {
+        failure.say();
+        failed()
+    })
+}
+
+/// The status where something is wrong: 1, but 2 of `hc same`, whose 1 is the answer no.
+fn failed() -> ExitCode {
+    let decides = env::args_os().nth(1).is_some_and(|command| command == "same");
+    ExitCode::from(if decides { 2 } else { 1 })
 }

@@ -1,5 +1,6 @@
-//! Document 01 written a second time, simply and without proofs, with the entries of `fulgwerz`: what the library's
-//! answers and buffers are compared with. Also the generators of tree books, and in `fast` a build written for speed.
+//! Documents 01 and 02 written a second time, simply and without proofs, with the entries of `fulgwerz`: what the
+//! library's answers and buffers are compared with. Also the generators of tree books, and in `fast` a build and a
+//! writer of books written for speed.
 
 pub mod books;
 mod book_reader;
@@ -14,6 +15,7 @@ mod lines;
 mod matrix;
 mod network;
 mod network_text;
+mod plain_form;
 pub mod random;
 pub mod refusal;
 mod trees;
@@ -24,4 +26,5 @@ pub use combinations::combine;
 pub use leaving::leaving;
 pub use network::build;
 pub use network_text::{read_network, write};
+pub use plain_form::write_book;
 pub use trees::{leaf, leaf_in_list, transcribe};

@@ -6,13 +6,17 @@ use super::building::{Building, BuildingBook, Room};
 use super::combining::Combining;
 use super::lookup::Lookup;
 use super::networks::{text_of, ReadingNetwork};
+use super::plain_forms::PlainForm;
 use super::reading::{BookText, Read};
+use super::spellings;
 use super::tables::OwnTables;
 use super::transcription::Transcription;
+use super::writing_books::WritingBook;
 use super::Case;
 use fulgwerz::Space;
-use plain::books::{ceilings::*, recipes::question_free, Book};
+use plain::books::{ceilings::*, recipes::question_free, recipes::resolving, respelling::respelled, Book};
 use plain::limits::*;
+use plain::random::Random;
 
 pub fn cases() -> Vec<Box<dyn Case>> {
     let mut cases = Vec::new();
@@ -22,6 +26,8 @@ pub fn cases() -> Vec<Box<dyn Case>> {
     largest(&mut cases);
     network(&mut cases);
     working_space(&mut cases);
+    plain_forms(&mut cases);
+    every_length(&mut cases);
     cases
 }
 
@@ -112,5 +118,30 @@ fn working_space(cases: &mut Vec<Box<dyn Case>>) {
     }
     for (phones, metastates) in [(63, 3969), (63, 4095), (64, 4095), (64, 4096)] {
         cases.push(building_with(&question_free(1, 2, phones), 64, metastates, 300_000, u32::MAX));
+    }
+}
+
+/// The longest plain form, the largest tables, which have but one set of phones, and the deepest trees.
+fn plain_forms(cases: &mut Vec<Box<dyn Case>>) {
+    let mut random = Random::new(1);
+    for book in [most_classes(), largest_tables(), deepest_tree(), deepest_tree_of_no()] {
+        let spelled = respelled(&book, &mut random);
+        let tables = OwnTables::of(&spelled, 0);
+        let need = tables.plain_form().len();
+        for text in [need - 1, need, need + LINE + 1] {
+            cases.push(Box::new(WritingBook { tables: tables.clone(), text }));
+        }
+        cases.push(spellings::of_one_book(&book, &mut random));
+        cases.push(spellings::of_two_books(&book, &mut random));
+        cases.push(Box::new(PlainForm::new(&spelled, 0, vec![1, book.phones, 1])));
+    }
+}
+
+/// A small book into every length of text, up to a line more than it needs.
+fn every_length(cases: &mut Vec<Box<dyn Case>>) {
+    let book = respelled(&resolving(1, 2, 2, &[0, 2]), &mut Random::new(1));
+    let tables = OwnTables::of(&book, 0);
+    for text in 0..=tables.plain_form().len() + LINE {
+        cases.push(Box::new(WritingBook { tables: tables.clone(), text }));
     }
 }

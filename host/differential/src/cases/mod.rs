@@ -6,10 +6,13 @@ pub mod ceilings;
 mod combining;
 mod lookup;
 mod networks;
+mod plain_forms;
 mod reading;
 mod round_trips;
+mod spellings;
 mod tables;
 mod transcription;
+mod writing_books;
 
 use crate::outcome::{Outcome, Side};
 use plain::random::Random;
@@ -32,17 +35,20 @@ pub trait Case {
 type Maker = fn(&mut Random) -> Box<dyn Case>;
 
 /// The kinds of case with their shares, which are a hundred in all.
-const MAKERS: [(usize, Maker); 10] = [
-    (24, reading::case),
-    (10, lookup::case),
-    (10, transcription::case),
-    (9, combining::case),
-    (16, building::build_case),
-    (9, building::build_book_case),
-    (7, arcs::leaving_case),
-    (5, arcs::write_case),
-    (8, networks::case),
+const MAKERS: [(usize, Maker); 13] = [
+    (21, reading::case),
+    (9, lookup::case),
+    (9, transcription::case),
+    (8, combining::case),
+    (14, building::build_case),
+    (8, building::build_book_case),
+    (6, arcs::leaving_case),
+    (4, arcs::write_case),
+    (7, networks::case),
     (2, round_trips::case),
+    (6, writing_books::case),
+    (4, spellings::case),
+    (2, plain_forms::case),
 ];
 
 /// The case of this number: the same for the same seed.

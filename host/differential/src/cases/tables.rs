@@ -74,6 +74,16 @@ impl OwnTables {
         Tables { nodes: &self.nodes, classes: &self.classes, roots: &self.roots }
     }
 
+    /// The text that a book in known tables is written as.
+    pub fn plain_form(&self) -> Vec<u8> {
+        let lines = 1 + self.classes.len() * MOST_PHONES as usize + self.nodes.len() / NODE + self.roots.len();
+        let mut text = vec![0; LINE * lines];
+        let answer = plain::write_book(self.header, self.tables(), &mut text);
+        assert_eq!(answer.fault, 0, "a known book is refused: {self:?}");
+        text.truncate(answer.count);
+        text
+    }
+
     /// Changes a word, the header or a length; what comes out is foreign in most cases.
     pub fn change(&mut self, random: &mut Random) {
         match random.below(10) {

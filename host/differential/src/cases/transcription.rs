@@ -24,7 +24,7 @@ pub fn case(random: &mut Random) -> Box<dyn Case> {
 }
 
 /// Silence at both ends in most cases, and phones in range.
-fn sequence(random: &mut Random, phones: u32) -> Vec<u32> {
+pub fn sequence(random: &mut Random, phones: u32) -> Vec<u32> {
     let mut sequence: Vec<u32> =
         (0..random.below(12)).map(|_| random.between(1, phones as usize) as u32).collect();
     if random.percent(85) {

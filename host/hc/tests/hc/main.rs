@@ -1,4 +1,4 @@
-//! Runs the program hc as its users do, and compares what it answers with values written by hand from document 01.
+//! Runs the program hc as its users do, and compares what it answers with values written by hand from the documents.
 
 mod answers;
 mod arcs;
@@ -8,7 +8,9 @@ mod check;
 mod faults;
 mod files;
 mod networks;
+mod plain;
 mod running;
+mod same;
 mod texts;
 mod transcribe;
 mod usage;

@@ -42,6 +42,22 @@ impl Answer {
         assert_eq!(self.code, Some(1));
     }
 
+    /// It answered no: status 1, with this on standard output and nothing on standard error.
+    #[track_caller]
+    pub fn denies(&self, stdout: &str) {
+        assert_eq!(self.stderr, "");
+        assert_eq!(String::from_utf8_lossy(&self.stdout), stdout);
+        assert_eq!(self.code, Some(1));
+    }
+
+    /// It answered neither yes nor no: status 2, standard error begins so, and nothing is on standard output.
+    #[track_caller]
+    pub fn decides_nothing(&self, start: &str) {
+        assert!(self.stderr.starts_with(start), "{:?} does not begin with {start:?}", self.stderr);
+        assert_eq!(self.stdout, b"");
+        assert_eq!(self.code, Some(2));
+    }
+
     /// It failed, and standard error begins so.
     #[track_caller]
     pub fn fails_with(&self, start: &str) {

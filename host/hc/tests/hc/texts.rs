@@ -10,6 +10,13 @@ pub fn line(letter: char, numbers: &[u32]) -> String {
     format!("{:31}\n", format!("{letter}{fields}"))
 }
 
+/// A text from its lines, written with single blanks and a stroke between them.
+pub fn lines(text: &str) -> Vec<u8> {
+    let numbers = |fields: &str| fields.split(' ').map(|number| number.parse().unwrap()).collect::<Vec<u32>>();
+    let written = |row: &str| line(row.chars().next().unwrap(), &numbers(&row[2..]));
+    text.split(" / ").map(written).collect::<String>().into_bytes()
+}
+
 /// A text with one line changed, counted from 1; `line` is filled up with blanks.
 pub fn with_line(text: &[u8], number: usize, line: &str) -> Vec<u8> {
     let mut text = text.to_vec();

@@ -5,11 +5,14 @@ use crate::texts::BOOK;
 use std::ffi::OsString;
 use std::os::unix::ffi::OsStringExt;
 
-const USAGES: [(&str, &str); 4] = [
+/// All commands; `same` comes last, since its mistakes have a status of their own.
+const USAGES: [(&str, &str); 6] = [
     ("build", "usage: hc build BOOK [-o NETWORK]\n"),
     ("check", "usage: hc check BOOK\n"),
     ("transcribe", "usage: hc transcribe BOOK PHONE..\n"),
     ("arcs", "usage: hc arcs NETWORK STATE\n"),
+    ("plain", "usage: hc plain BOOK [-o FILE]\n"),
+    ("same", "usage: hc same BOOK BOOK\n"),
 ];
 
 #[test]
@@ -48,9 +51,9 @@ fn help_for_each_command() {
 
 #[test]
 fn lines_of_help_fit_a_terminal() {
-    for arguments in [&["help"][..], &["help", "build"], &["help", "check"], &["help", "transcribe"], &["help", "arcs"]]
-    {
-        let text = String::from_utf8(run(arguments).stdout).unwrap();
+    let topics = USAGES.map(|(command, _)| vec!["help", command]);
+    for arguments in topics.into_iter().chain([vec!["help"]]) {
+        let text = String::from_utf8(run(&arguments).stdout).unwrap();
         assert!(text.ends_with('\n') && text.lines().all(|line| line.chars().count() <= 80), "{text}");
     }
 }
@@ -78,6 +81,7 @@ fn too_few_or_too_many() {
         "one BOOK is needed",
         "a BOOK and one PHONE or more are needed",
         "one NETWORK and one STATE are needed",
+        "one BOOK is needed",
     ];
     for ((command, usage), wanted) in USAGES.into_iter().zip(wanted) {
         run(&[command]).fails(&format!("hc: {wanted}\n{usage}"));
@@ -87,15 +91,21 @@ fn too_few_or_too_many() {
     run(&["build", "book", "network"]).fails(&format!("hc: {}\n{}", wanted[0], USAGES[0].1));
     run(&["check", "book", "book"]).fails(&format!("hc: {}\n{}", wanted[1], USAGES[1].1));
     run(&["arcs", "network", "1", "2"]).fails(&format!("hc: {}\n{}", wanted[3], USAGES[3].1));
+    run(&["plain", "book", "book"]).fails(&format!("hc: {}\n{}", wanted[4], USAGES[4].1));
+    for arguments in [&["same"][..], &["same", "book"], &["same", "book", "book", "book"]] {
+        run(arguments).decides_nothing(&format!("hc: two BOOKs are needed\n{}", USAGES[5].1));
+    }
 }
 
 #[test]
 fn options() {
     let usage = USAGES[0].1;
     run(&["build", "book", "-o"]).fails(&format!("hc: after -o the name of the NETWORK is needed\n{usage}"));
+    run(&["plain", "book", "-o"]).fails(&format!("hc: after -o the name of the FILE is needed\n{}", USAGES[4].1));
     run(&["build", "book", "-o", "a", "-o", "b"]).fails(&format!("hc: -o is given twice\n{usage}"));
     run(&["build", "book", "--fast"]).fails(&format!("hc: there is no option '--fast'\n{usage}"));
     run(&["check", "book", "-o", "x"]).fails(&format!("hc: there is no option '-o'\n{}", USAGES[1].1));
+    run(&["same", "book", "book", "-o", "x"]).decides_nothing("hc: there is no option '-o'\nusage: hc same ");
     // After -- nothing is an option.
     run(&["check", "--", "-o"]).fails_with("hc: -o: No such file or directory");
     run_on(&["check", "--", "-"], BOOK)

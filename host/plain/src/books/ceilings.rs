@@ -3,7 +3,7 @@
 use super::numbering::Ground;
 use super::recipes::resolving;
 use super::trees::{resolve, Tree};
-use super::{all_phones, Book};
+use super::{all_phones, Book, Node};
 
 /// 16 phones with 16 x 16 x 16 combinations each.
 pub fn combinations_65536() -> Book {
@@ -100,10 +100,29 @@ pub fn largest_tables() -> Book {
     Ground { half: 3, states, phones, classes: vec![u64::MAX; 255] }.plant(&trees)
 }
 
+/// The same, but for the members of its classes: no two have the same, so all stay in the plain form, which is as long as
+/// can be. One class has all phones, 64 have all but one, the others all but two.
+pub fn most_classes() -> Book {
+    let without_one = (0..64).map(|phone| !(1u64 << phone));
+    let without_two = (1..64).flat_map(|high| (0..high).map(move |low| !(1u64 << high | 1 << low)));
+    let classes = [u64::MAX].into_iter().chain(without_one).chain(without_two).take(255).collect();
+    Book { classes, ..largest_tables() }
+}
+
 /// One phone, one tree of 2047 questions, one below the other.
 pub fn deepest_tree() -> Book {
     let tree = chain(2047, |depth| (1, depth % 3));
     Ground { half: 1, states: 1, phones: 1, classes: vec![1] }.plant(&[tree])
+}
+
+/// The same with yes and no exchanged: each question in the no of the one above.
+pub fn deepest_tree_of_no() -> Book {
+    let book = deepest_tree();
+    let exchange = |&node: &Node| match node {
+        Node::Question { class, position, yes, no } => Node::Question { class, position, yes: no, no: yes },
+        leaf => leaf,
+    };
+    Book { nodes: book.nodes.iter().map(exchange).collect(), ..book }
 }
 
 /// The first phone's tree has 1023 nodes, those of the others are leaves.

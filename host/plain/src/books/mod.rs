@@ -1,9 +1,11 @@
 //! Tree books to be written as text: what a book holds, and the generators of books.
 
 pub mod ceilings;
+pub mod changes;
 pub mod numbering;
 pub mod random_books;
 pub mod recipes;
+pub mod respelling;
 pub mod text;
 pub mod trees;
 
@@ -23,6 +25,13 @@ pub struct Book {
     pub classes: Vec<u64>,
     pub nodes: Vec<Node>,
     pub roots: Vec<u32>,
+}
+
+impl Book {
+    /// The members of the class with this number, counted from 1.
+    pub fn members(&self, class: u32) -> u64 {
+        self.classes[class as usize - 1]
+    }
 }
 
 /// The set of all phones.

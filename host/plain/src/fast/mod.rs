@@ -1,4 +1,5 @@
-//! The build as it is written for speed alone, the yardstick of the benchmark: no proofs, the same answers and words.
+//! The build, and the writer of books, as they are written for speed alone, the yardstick of the benchmark: no proofs,
+//! the same answers and words.
 //!
 //! Metastates are found in a hash map; a turn tries only the combinations of the phones in the shifted centre column,
 //! and leaves a meet at its first empty column; a matrix has just the columns of the half-width, known to the compiler.
@@ -7,9 +8,10 @@ mod combining;
 mod connecting;
 mod hashing;
 mod leaves;
+mod writing;
 
 use crate::foreign::tables_known;
-use crate::refusal::{Refusal, FOREIGN};
+use crate::refusal::{require, Refusal, FOREIGN};
 use fulgwerz::{BuildAnswer, CountAnswer, Header, Space, Tables};
 
 /// A matrix of W = 2n+1 columns, each a set of phones.
@@ -55,6 +57,21 @@ pub fn combine(header: Header, tables: Tables, combinations: &mut [u64]) -> Coun
         Ok(count) => CountAnswer { count, ..CountAnswer::default() },
         Err(Refusal { fault, line }) => {
             combinations.fill(0);
+            CountAnswer { fault, line, count: 0 }
+        }
+    }
+}
+
+/// Writes the plain form of the book in the tables, as `fulgwerz::write_book` does.
+pub fn write_book(header: Header, tables: Tables, text: &mut [u8]) -> CountAnswer {
+    let written = require(tables_known(header, tables), FOREIGN).and_then(|()| writing::write(header, tables, text));
+    match written {
+        Ok(count) => {
+            text[count..].fill(0);
+            CountAnswer { count, ..CountAnswer::default() }
+        }
+        Err(Refusal { fault, line }) => {
+            text.fill(0);
             CountAnswer { fault, line, count: 0 }
         }
     }
