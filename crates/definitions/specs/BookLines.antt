@@ -1,23 +1,26 @@
--- Document 01, "Tree book", its table: the lines of a book, and what they say together.
+-- Document 01, "Tree book", its table, with the B lines of document 02, P2: the lines of a book, and what
+-- they say together.
 use mathlib.Core.List.{List, [], _∷_, map}
-use Prim.Native.Nat.{ℕ, _*_}
+use Prim.Native.Nat.{ℕ, suc, _+_, _-_, _*_, _/_, _%_}
 use Prim.Native.Char.{code}
 use lib.Dec.{leb, eqb}
-use lib.ListN.{length}
 use mathlib.Core.Bool.{Bool, _&&_}
+use mathlib.Core.Option.{Option, none, some}
 use Rattle.definitions.specs.declared.Header.{Header}
-use Rattle.definitions.specs.Lists.{if_then_else_, _!_, concatMap}
+use Rattle.definitions.specs.Lists.{if_then_else_, _!_, concatMap, atLeastOne, firstWhere, mapOption, upFrom}
 use Rattle.definitions.specs.Lines.{Line}
 
--- the five letters with the fields that the table names
+-- the six letters with the fields that the table names; "A `B` line names a boundary phone .. and its plain
+-- phone"
 pub data BookLine : Type 0 where
   H : (half states phones classes nodes : ℕ) → BookLine
   Q : (class phone : ℕ) → BookLine
   N : (node class position yesNode noNode : ℕ) → BookLine
   L : (node model : ℕ) → BookLine
+  B : (boundary plain : ℕ) → BookLine
   R : (phone state root : ℕ) → BookLine
 
--- a line's numbers in the fields of its letter, which is one of these five
+-- a line's numbers in the fields of its letter, which is one of these six
 unfoldable pub bookLine : Line → BookLine
 bookLine line =
     let n : List ℕ = line .numbers in
@@ -25,6 +28,7 @@ bookLine line =
     if eqb (code "Q") (line .letter) then Q (n ! 0) (n ! 1) else
     if eqb (code "N") (line .letter) then N (n ! 0) (n ! 1) (n ! 2) (n ! 3) (n ! 4) else
     if eqb (code "L") (line .letter) then L (n ! 0) (n ! 1) else
+    if eqb (code "B") (line .letter) then B (n ! 0) (n ! 1) else
     R (n ! 0) (n ! 1) (n ! 2)
 
 -- the header: the numbers of the H line, which comes first
@@ -37,6 +41,7 @@ headerIn (H half states phones classes nodes) =
 headerIn (Q _ _) = noHeader
 headerIn (N _ _ _ _ _) = noHeader
 headerIn (L _ _) = noHeader
+headerIn (B _ _) = noHeader
 headerIn (R _ _ _) = noHeader
 
 unfoldable pub headerOf : List BookLine → Header
@@ -61,6 +66,7 @@ memberIn (H _ _ _ _ _) = []
 memberIn (Q class phone) = record { class = class; phone = phone } ∷ []
 memberIn (N _ _ _ _ _) = []
 memberIn (L _ _) = []
+memberIn (B _ _) = []
 memberIn (R _ _ _) = []
 
 unfoldable pub membersOf : List BookLine → List Member
@@ -98,6 +104,7 @@ nodeLineIn (Q _ _) = []
 nodeLineIn (N node class position yesNode noNode) =
     record { number = node; node = question (asks class position) yesNode noNode } ∷ []
 nodeLineIn (L node model) = record { number = node; node = leaf model } ∷ []
+nodeLineIn (B _ _) = []
 nodeLineIn (R _ _ _) = []
 
 unfoldable pub nodeLinesOf : List BookLine → List NodeLine
@@ -110,6 +117,36 @@ nodeIn line = map (λ l. l .node) (nodeLineIn line)
 unfoldable pub nodesOf : List BookLine → List TreeNode
 nodesOf lines = map (λ l. l .node) (nodeLinesOf lines)
 
+-- the boundary phones, each with its plain phone
+pub record Boundary : Type 0 where
+  pub phone : ℕ
+  pub plain : ℕ
+
+unfoldable pub boundaryIn : BookLine → List Boundary
+boundaryIn (H _ _ _ _ _) = []
+boundaryIn (Q _ _) = []
+boundaryIn (N _ _ _ _ _) = []
+boundaryIn (L _ _) = []
+boundaryIn (B boundary plain) = record { phone = boundary; plain = plain } ∷ []
+boundaryIn (R _ _ _) = []
+
+unfoldable pub boundariesOf : List BookLine → List Boundary
+boundariesOf lines = concatMap boundaryIn lines
+
+unfoldable pub isBoundary : List Boundary → (phone : ℕ) → Bool
+isBoundary boundaries phone = atLeastOne (λ b. eqb (b .phone) phone) boundaries
+
+-- the plain phone that a B line names for a phone
+unfoldable pub plainFor : List Boundary → (phone : ℕ) → Option ℕ
+plainFor boundaries phone = mapOption (λ b. b .plain) (firstWhere (λ b. eqb (b .phone) phone) boundaries)
+
+-- the words of their table: "a 32-bit word per phone, its plain phone or 0"
+unfoldable pub plainGiven : List Boundary → (phone : ℕ) → ℕ
+plainGiven boundaries phone = elim (plainFor boundaries phone) [ none ↦ 0 | some plain ↦ plain ]
+
+unfoldable pub plainWords : Header → List Boundary → List ℕ
+plainWords header boundaries = map (plainGiven boundaries) (upFrom 1 (header .phones))
+
 -- the roots: "phone, state, root node"
 pub record Root : Type 0 where
   pub phone : ℕ
@@ -121,22 +158,41 @@ rootIn (H _ _ _ _ _) = []
 rootIn (Q _ _) = []
 rootIn (N _ _ _ _ _) = []
 rootIn (L _ _) = []
+rootIn (B _ _) = []
 rootIn (R phone state root) = record { phone = phone; state = state; node = root } ∷ []
 
 unfoldable pub rootsOf : List BookLine → List Root
 rootsOf lines = concatMap rootIn lines
 
--- the place of the next root, as many as there are
-abbrev pub nextPlace : List Root → ℕ
-nextPlace roots = length roots
+-- the place of a root "in R order", from 0, and the place after the last R line's
+abbrev pub rootPlace : (states phone state : ℕ) → ℕ
+rootPlace states phone state = (phone - 1) * states + (state - 1)
+
+unfoldable pub nextPlace : (states : ℕ) → List Root → ℕ
+nextPlace states [] = 0
+nextPlace states (r ∷ []) = suc (rootPlace states (r .phone) (r .state))
+nextPlace states (r ∷ s ∷ roots) = nextPlace states (s ∷ roots)
 
 -- the nodes that they name
 abbrev pub rootNames : List Root → List ℕ
 rootNames roots = map (λ r. r .node) roots
 
--- the words of their table, "in R order"
-abbrev pub rootWords : List Root → List ℕ
-rootWords roots = rootNames roots
+-- "the node in the R line of the phone .. and that state"
+unfoldable pub rootFor : List Root → (phone state : ℕ) → Option ℕ
+rootFor roots phone state =
+    mapOption (λ r. r .node) (firstWhere (λ r. eqb (r .phone) phone && eqb (r .state) state) roots)
+
+-- the words of their table, "in R order": "a root that no R line gives is left as 4096"
+abbrev pub noRoot : ℕ
+noRoot = 4096
+
+unfoldable pub rootGiven : List Root → (phone state : ℕ) → ℕ
+rootGiven roots phone state = elim (rootFor roots phone state) [ none ↦ noRoot | some node ↦ node ]
+
+unfoldable pub rootWords : Header → List Root → List ℕ
+rootWords header roots =
+    map (λ place. rootGiven roots (place / header .states + 1) (place % header .states + 1))
+    (upFrom 0 (rootCount header))
 
 -- the nodes that a node names. "Every node is named exactly once, as a child or as a root"
 unfoldable pub childrenOf : TreeNode → List ℕ

@@ -1,18 +1,18 @@
--- Document 01, "Fault numbers": each fault's number, and how tests in a fixed order give an answer or a
--- refusal.
+-- Document 01, "Fault numbers", with 21 of document 02: each fault's number, and how tests in a fixed order
+-- give an answer or a refusal.
 use mathlib.Core.List.{List, [], _∷_}
 use mathlib.Core.Bool.{Bool}
 use Prim.Native.Nat.{ℕ}
 use Rattle.definitions.specs.declared.Fault.{Fault}
 use Rattle.definitions.specs.declared.Fault.the-variants.{Ragged, Misprint, Range, Order, Backward}
 use Rattle.definitions.specs.declared.Fault.the-variants.{Orphan, Count}
-use Rattle.definitions.specs.declared.Fault.the-variants.{Foreign, Narrow, Long, Choices, Crowd}
+use Rattle.definitions.specs.declared.Fault.the-variants.{Foreign, Narrow, Chained, Long, Choices, Crowd}
 use Rattle.definitions.specs.declared.Fault.the-variants.{Tangle, Short}
 use Rattle.definitions.specs.declared.Fault.the-variants.{Utterance, State}
 use Rattle.definitions.specs.declared.Refusal.{Refusal}
 use Rattle.definitions.specs.Lists.{if_then_else_, cleared, padded}
 
--- the table of document 01
+-- the table of document 01, and "Number 21 refuses a plain phone that is itself a boundary phone in the book"
 abbrev pub numberOf : Fault → ℕ
 numberOf Ragged = 11
 numberOf Misprint = 12
@@ -23,6 +23,7 @@ numberOf Orphan = 16
 numberOf Count = 17
 numberOf Foreign = 18
 numberOf Narrow = 20
+numberOf Chained = 21
 numberOf Long = 22
 numberOf Choices = 30
 numberOf Crowd = 31

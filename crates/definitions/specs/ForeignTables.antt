@@ -1,15 +1,16 @@
--- Document 01, fault 18: "lent tables .., with their header .., that the readers never leave".
-use mathlib.Core.List.{List, [], _∷_}
-use mathlib.Core.Bool.{Bool, true, _&&_, _||_}
-use Prim.Native.Nat.{ℕ, suc, _*_, _^_}
+-- Document 01, fault 18, with the tables of document 02, P2: "lent tables .., with their header .., that the
+-- readers never leave".
+use mathlib.Core.List.{List, [], _∷_, map}
+use mathlib.Core.Bool.{Bool, true, not, _&&_, _||_}
+use Prim.Native.Nat.{ℕ, suc, _-_, _*_, _^_}
 use lib.Dec.{leb, ltb, eqb}
 use lib.ListN.{length, take, drop}
 use Rattle.definitions.specs.Forms.{mostModel, formH}
 use Rattle.definitions.specs.declared.Header.{Header}
 use Rattle.definitions.specs.declared.Node.{Node}
-use Rattle.definitions.specs.Lists.{every}
+use Rattle.definitions.specs.Lists.{every, _!_, upFrom}
 use Rattle.definitions.specs.Lines.{inRanges}
-use Rattle.definitions.specs.BookLines.{rootCount}
+use Rattle.definitions.specs.BookLines.{rootCount, rootPlace, noRoot}
 use Rattle.definitions.specs.BookReading.{nodeSize, orphans}
 use Rattle.definitions.specs.Tables.{Tables, nodeRecords, Contents, tablesContents}
 
@@ -54,11 +55,35 @@ classTableKnown header words =
     holdsOnly (header .classes) words
     && every (λ set. ltb set (2 ^ header .phones)) (take (header .classes) words)
 
--- roots that are nodes
-unfoldable pub rootTableKnown : Header → List ℕ → Bool
-rootTableKnown header words =
-    holdsOnly (rootCount header) words
-    && every (λ root. ltb root (header .nodes)) (take (rootCount header) words)
+-- the roots of a phone, one for each state
+unfoldable pub rootsOfPhone : (states : ℕ) → (roots : List ℕ) → (phone : ℕ) → List ℕ
+rootsOfPhone states roots phone = map (λ state. roots ! rootPlace states phone state) (upFrom 1 states)
+
+-- a phone's roots that R lines leave: they are nodes, or those of a boundary phone "left out all together"
+unfoldable pub phoneKnown : Header → (plains roots : List ℕ) → (phone : ℕ) → Bool
+phoneKnown header plains roots phone =
+    every (λ root. ltb root (header .nodes)) (rootsOfPhone (header .states) roots phone)
+    || (not (eqb (plains ! (phone - 1)) 0)
+    && every (λ root. eqb root noRoot) (rootsOfPhone (header .states) roots phone))
+
+unfoldable pub rootsKnown : Header → (plains roots : List ℕ) → Bool
+rootsKnown header plains roots = every (phoneKnown header plains roots) (upFrom 1 (header .phones))
+
+unfoldable pub rootTableKnown : Header → (plains : List ℕ) → List ℕ → Bool
+rootTableKnown header plains words =
+    holdsOnly (rootCount header) words && rootsKnown header plains (take (rootCount header) words)
+
+-- a phone's word that B lines leave: a phone that is no boundary phone, or 0. The first word, of silence, is
+-- 0; so is the word at the place before it.
+unfoldable pub plainKnown : Header → (plains : List ℕ) → (plain : ℕ) → Bool
+plainKnown header plains plain = leb plain (header .phones) && eqb (plains ! (plain - 1)) 0
+
+unfoldable pub plainsKnown : Header → (plains : List ℕ) → Bool
+plainsKnown header plains = eqb (plains ! 0) 0 && every (plainKnown header plains) plains
+
+unfoldable pub plainTableKnown : Header → List ℕ → Bool
+plainTableKnown header words =
+    holdsOnly (header .phones) words && plainsKnown header (take (header .phones) words)
 
 -- "Every node is named exactly once, as a child or as a root"
 unfoldable pub namedOnce : Contents → Bool
@@ -70,5 +95,6 @@ tablesKnown header tables =
     headerKnown header
     && nodeTableKnown header (tables .nodes)
     && classTableKnown header (tables .classes)
-    && rootTableKnown header (tables .roots)
+    && plainTableKnown header (tables .plains)
+    && rootTableKnown header (take (header .phones) (tables .plains)) (tables .roots)
     && namedOnce (tablesContents header tables)

@@ -37,6 +37,10 @@ formN = form "N" (0 ‥ 4095 ∷ 1 ‥ 255 ∷ 0 ‥ 6 ∷ 0 ‥ 4095 ∷ 0 ‥ 
 abbrev pub formL : Form
 formL = form "L" (0 ‥ 4095 ∷ 1 ‥ 65535 ∷ [])
 
+-- Document 02: "A `B` line names a boundary phone (2 or above) and its plain phone"
+abbrev pub formB : Form
+formB = form "B" (2 ‥ 64 ∷ 1 ‥ 64 ∷ [])
+
 -- "R | phone, state, root node"
 abbrev pub formR : Form
 formR = form "R" (1 ‥ 64 ∷ 1 ‥ 3 ∷ 0 ‥ 4095 ∷ [])
@@ -52,7 +56,7 @@ formA = form "A" (0 ‥ 196606 ∷ 0 ‥ 196606 ∷ 0 ‥ 65535 ∷ 0 ‥ 64 ∷
 
 -- the letters that a tree book has, and those that network text has
 abbrev pub bookForms : List Form
-bookForms = formH ∷ formQ ∷ formN ∷ formL ∷ formR ∷ []
+bookForms = formH ∷ formQ ∷ formN ∷ formL ∷ formB ∷ formR ∷ []
 
 abbrev pub networkForms : List Form
 networkForms = formW ∷ formA ∷ []

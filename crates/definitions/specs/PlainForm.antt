@@ -3,6 +3,7 @@
 -- classes, and these are numbered anew. What the form promises is stated in spelling/OneSpelling.antt.
 use mathlib.Core.Path.{_≡_}
 use mathlib.Core.List.{List, [], _∷_, _++_, map}
+use mathlib.Core.Option.{Option, none, some}
 use Prim.Native.Nat.{ℕ, zero, suc, _+_, _-_}
 use lib.Dec.{leb, eqb}
 use lib.ListN.{length}
@@ -10,7 +11,7 @@ use Rattle.definitions.specs.declared.Header.{Header}
 use Rattle.definitions.specs.declared.Fault.the-variants.{Foreign, Short}
 use Rattle.definitions.specs.Faults.{Outcome, answered, _unless_, judge}
 use Rattle.definitions.specs.Lists.{if_then_else_, _!_, atLeastOne, concatMap, placeOf}
-use Rattle.definitions.specs.BookLines.{BookLine, TreeNode, question, leaf, Asked, asks}
+use Rattle.definitions.specs.BookLines.{BookLine, TreeNode, question, leaf, Asked, asks, noRoot}
 use Rattle.definitions.specs.Tables.{Contents, Tables, tablesContents}
 use Rattle.definitions.specs.ForeignTables.{tablesKnown}
 use Rattle.definitions.specs.Lookup.{nodeAt}
@@ -43,16 +44,21 @@ treeBelow (suc levels) nodes classes node =
 abbrev pub treeAt : List TreeNode → (classes : List ℕ) → (node : ℕ) → Tree
 treeAt nodes classes node = treeBelow (length nodes) nodes classes node
 
--- "Trees stand in R order"
-unfoldable pub treesOf : Contents → List Tree
-treesOf contents = map (treeAt (contents .nodes) (contents .classes)) (contents .roots)
+-- "Trees stand in R order"; where no R line gives a root there is none
+abbrev pub treeFor : List TreeNode → (classes : List ℕ) → (root : ℕ) → Option Tree
+treeFor nodes classes root = if eqb root noRoot then none else some (treeAt nodes classes root)
 
--- "they have the same half-width, states, phones and, tree by tree, the same shape, positions, member sets and models"
+unfoldable pub treesOf : Contents → List (Option Tree)
+treesOf contents = map (treeFor (contents .nodes) (contents .classes)) (contents .roots)
+
+-- "they have the same half-width, states, phones and, tree by tree, the same shape, positions, member sets and models";
+-- "P1's form keeps and compares the B lines"
 pub record SameBook (a b : Contents) : Type 0 where
   pub half : a .half ≡ b .half
   pub states : a .states ≡ b .states
   pub phones : a .phones ≡ b .phones
   pub trees : treesOf a ≡ treesOf b
+  pub plains : a .plains ≡ b .plains
 
 -- The classes: "Classes with the same members become one, unused classes go, and classes are numbered by first use in
 -- that order."
@@ -90,30 +96,40 @@ nodesFrom sets at (asking asked onYes onNo) =
     ∷ nodesFrom sets (suc at) onYes ++ nodesFrom sets (suc at + sizeOf onYes) onNo
 nodesFrom sets at (giving model) = leaf model ∷ []
 
--- the nodes and the roots of trees that stand one after the other
+-- the nodes of trees that stand one after the other
 unfoldable pub allNodes : (sets : List ℕ) → (at : ℕ) → List Tree → List TreeNode
 allNodes sets at [] = []
 allNodes sets at (tree ∷ trees) = nodesFrom sets at tree ++ allNodes sets (at + sizeOf tree) trees
 
-unfoldable pub rootsFrom : (at : ℕ) → List Tree → List ℕ
+-- their roots, with the places where there is none
+unfoldable pub rootsFrom : (at : ℕ) → List (Option Tree) → List ℕ
 rootsFrom at [] = []
-rootsFrom at (tree ∷ trees) = at ∷ rootsFrom (at + sizeOf tree) trees
+rootsFrom at (none ∷ trees) = noRoot ∷ rootsFrom at trees
+rootsFrom at (some tree ∷ trees) = at ∷ rootsFrom (at + sizeOf tree) trees
 
--- trees numbered anew, with a half-width, states and phones
-unfoldable pub numbered : (half states phones : ℕ) → List Tree → Contents
-numbered half states phones trees =
+-- the trees that are there
+unfoldable pub treesThere : List (Option Tree) → List Tree
+treesThere [] = []
+treesThere (none ∷ trees) = treesThere trees
+treesThere (some tree ∷ trees) = tree ∷ treesThere trees
+
+-- trees numbered anew, with a half-width, states, phones and plain phones
+unfoldable pub numbered : (half states phones : ℕ) → (plains : List ℕ) → List (Option Tree) → Contents
+numbered half states phones plains trees =
+    let there : List Tree = treesThere trees in
     record {
       half = half;
       states = states;
       phones = phones;
-      nodes = allNodes (setsOf trees) 0 trees;
-      classes = setsOf trees;
+      nodes = allNodes (setsOf there) 0 there;
+      classes = setsOf there;
       roots = rootsFrom 0 trees;
+      plains = plains;
     }
 
 unfoldable pub plainContents : Contents → Contents
 plainContents contents =
-    numbered (contents .half) (contents .states) (contents .phones) (treesOf contents)
+    numbered (contents .half) (contents .states) (contents .phones) (contents .plains) (treesOf contents)
 
 -- the header that states their counts
 unfoldable pub headerFor : Contents → Header

@@ -20,9 +20,9 @@ use Rattle.definitions.specs.Building.{Space, networkIn, countsIn}
 use Rattle.definitions.specs.BookBuilding.{BookBuilt, buildBook}
 use Rattle.definitions.specs.NetworkText.{networkText}
 
--- "with space for 1024 nodes"; every book's classes and roots fit
+-- "with space for 1024 nodes"; every book's classes, roots and plain phones fit
 abbrev pub programLent : Lent
-programLent = record { nodes = nodeSize * 1024; classes = 255; roots = 64 * 3 }
+programLent = record { nodes = nodeSize * 1024; classes = 255; roots = 64 * 3; plains = 64 }
 
 -- "512 combinations, 512 metastates and 2000 arcs, and a turn limit of 512"; space is lent before the book is
 -- read, so its records are those of the greatest half-width

@@ -1,5 +1,6 @@
--- Document 01, "Transcription": what the trees give to a sequence of phones, read from the book's lines alone.
--- Nothing here knows of tables or matrices: it is the meaning that demand 3 holds the network to.
+-- Document 01, "Transcription", with the trees in force of document 02, P2: what the trees give to a sequence
+-- of phones, read from the book's lines alone. Nothing here knows of tables or matrices: it is the meaning
+-- that demand 3 holds the network to.
 use mathlib.Core.Path.{_≡_}
 use mathlib.Core.List.{List, [], _∷_, _++_, map}
 use mathlib.Core.Bool.{Bool, _&&_}
@@ -7,10 +8,10 @@ use mathlib.Core.Option.{Option, none, some}
 use Prim.Native.Nat.{ℕ, zero, suc, _+_, _-_, _*_}
 use lib.Dec.{T, eqb}
 use lib.ListN.{length, take, drop, replicate}
-use Rattle.definitions.specs.Lists.{if_then_else_, _!_, every, atLeastOne, firstWhere, mapOption}
-use Rattle.definitions.specs.Lists.{concatMap, upFrom}
-use Rattle.definitions.specs.BookLines.{BookLine, headerOf, isPhone, membersOf, TreeNode, question}
-use Rattle.definitions.specs.BookLines.{leaf, nodeLinesOf, Asked, Reached, rootsOf}
+use Rattle.definitions.specs.Lists.{if_then_else_, _!_, every, atLeastOne, firstWhere, mapOption, concatMap}
+use Rattle.definitions.specs.Lists.{upFrom}
+use Rattle.definitions.specs.BookLines.{BookLine, headerOf, isPhone, membersOf, TreeNode, question, leaf}
+use Rattle.definitions.specs.BookLines.{nodeLinesOf, Asked, Reached, rootsOf, rootFor, boundariesOf, plainFor}
 
 -- "The context of place i in a sequence S has 2n+1 phones: in column c the phone at place i+c−n, or 1 where
 -- that lies beyond either end." With n phones before and after S, place i+c−n of S is place i+c. So the
@@ -37,8 +38,11 @@ contexts half S = contextsWithin half (silences half) S (silences half)
 
 -- "the node in the R line of the phone .. and that state"
 unfoldable pub rootLine : List BookLine → (phone state : ℕ) → Option ℕ
-rootLine lines phone state =
-    mapOption (λ r. r .node) (firstWhere (λ r. eqb (r .phone) phone && eqb (r .state) state) (rootsOf lines))
+rootLine lines phone state = rootFor (rootsOf lines) phone state
+
+-- the phone whose trees a phone has: "The boundary phone then takes the plain phone's trees"
+unfoldable pub treesPhone : List BookLine → (phone : ℕ) → ℕ
+treesPhone lines phone = elim (plainFor (boundariesOf lines) phone) [ none ↦ phone | some plain ↦ plain ]
 
 -- what the N or L line of a node says
 unfoldable pub nodeLine : List BookLine → (node : ℕ) → Option TreeNode
@@ -66,10 +70,11 @@ walkByLines (suc steps) lines context node =
       | some (leaf model) ↦ some (record { leaf = node; model = model })
     ]
 
--- "For each state, start at the node in the R line of the phone at i and that state."
+-- "For each state, start at the node in the R line of the phone at i and that state", of the phone whose
+-- trees it takes, "with itself in the centre column"
 unfoldable pub reachedByLines : List BookLine → (context : List ℕ) → (state : ℕ) → Option Reached
 reachedByLines lines context state =
-    elim (rootLine lines (context ! headerOf lines .half) state) [
+    elim (rootLine lines (treesPhone lines (context ! headerOf lines .half)) state) [
       | none ↦ none
       | some root ↦ walkByLines (length lines) lines context root
     ]

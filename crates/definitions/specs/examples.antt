@@ -7,3 +7,4 @@ pub mod LentTables
 pub mod Meaning
 pub mod Applied
 pub mod Spellings
+pub mod Boundaries

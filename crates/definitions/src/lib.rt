@@ -15,6 +15,9 @@ pub const MOST_COLUMNS: usize = 7;
 // How many nodes a book has at most; how many combinations, metastates and arcs.
 pub const MOST_NODES: usize = 4096;
 
+// What stands for a root that no R line gives.
+pub const NO_ROOT: u32 = 4096;
+
 pub const MOST_COMBINATIONS: usize = 65535;
 
 pub const MOST_METASTATES: usize = 65535;
@@ -59,7 +62,7 @@ pub struct Counts {
     pub arcs: u32,
 }
 
-// The faults of document 01, by their words and in the order of their numbers.
+// The faults of documents 01 and 02, by their words and in the order of their numbers.
 pub enum Fault {
     Ragged,
     Misprint,
@@ -70,6 +73,7 @@ pub enum Fault {
     Count,
     Foreign,
     Narrow,
+    Chained,
     Long,
     Choices,
     Crowd,
@@ -99,6 +103,7 @@ pub fn number(fault: Fault) -> u32
         Fault::Count => 17,
         Fault::Foreign => 18,
         Fault::Narrow => 20,
+        Fault::Chained => 21,
         Fault::Long => 22,
         Fault::Choices => 30,
         Fault::Crowd => 31,

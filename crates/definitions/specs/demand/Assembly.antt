@@ -22,10 +22,10 @@ use Rattle.definitions.specs.TreesGive.{Given}
 use Rattle.definitions.specs.laws.lists.Records.{arcs-read}
 use Rattle.definitions.specs.laws.text.Judging.{passes-at, judge-answered, andThen-answered}
 use Rattle.definitions.specs.laws.books.Books.{accepted-book}
-use Rattle.definitions.specs.laws.books.Accepted.{accepted-sound}
 use Rattle.definitions.specs.laws.trees.ModelsAlong.{given-is}
 use Rattle.definitions.specs.demand.Network.{bookRules, BuiltFrom}
 use Rattle.definitions.specs.demand.Main.{book-exactly}
+use Rattle.definitions.specs.laws.books.TreesInForce.{accepted-sound}
 
 module _ (header : Header) (tables : Tables) (space : Space) where
   -- the combinations that are connected are those of the book in the tables, which are known

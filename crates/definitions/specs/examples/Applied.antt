@@ -120,7 +120,7 @@ not-given-wide path =
 pub twiceBook : Sample
 twiceBook =
     record {
-      tables = record { nodes = nodeSize * 6; classes = 1; roots = 4 };
+      tables = record { nodes = nodeSize * 6; classes = 1; roots = 4; plains = 4 };
       text =
           textOf
           ("H     1     2     2     1     6"

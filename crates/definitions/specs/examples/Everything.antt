@@ -9,25 +9,26 @@ use Rattle.definitions.specs.Lines.{lineText, linesOf, endsInLineFeed, w
 use Rattle.definitions.specs.Reading.{lineTests, lineRead, readFrom, readText}
 use Rattle.definitions.specs.BookLines.{bookLine, headerIn, headerOf, rootCount, isPhone, memberIn}
 use Rattle.definitions.specs.BookLines.{membersOf, nodeLineIn, nodeLinesOf, nodesOf, rootIn, rootsOf}
-use Rattle.definitions.specs.BookLines.{childrenOf}
+use Rattle.definitions.specs.BookLines.{childrenOf, boundaryIn, boundariesOf, isBoundary, plainFor}
+use Rattle.definitions.specs.BookLines.{plainGiven, plainWords, nextPlace, rootFor, rootGiven}
+use Rattle.definitions.specs.BookLines.{rootWords}
 use Rattle.definitions.specs.BookReading.{bookFollows, withinHeader, comesBefore, bookInOrder}
-use Rattle.definitions.specs.BookReading.{childrenGreater, wideEnough, bookTests, bookComplete}
-use Rattle.definitions.specs.BookReading.{orphans, isLineOf, lineWhere, judgeNames, bookKind}
-use Rattle.definitions.specs.BookReading.{readBook}
+use Rattle.definitions.specs.BookReading.{childrenGreater, wideEnough, bookTests, orphans, isLineOf}
+use Rattle.definitions.specs.BookReading.{lineWhere, judgeNames, bookKind, readBook, leftOut, leftOutTo}
+use Rattle.definitions.specs.BookReading.{bookFull, bookEnough, plainsPlain, isChained, judgeBook}
 use Rattle.definitions.specs.Tables.{phonesOfClass, classSets, bookOf, nodeWords, tablesOf, noTables}
-use Rattle.definitions.specs.Tables.{tablesLeft, nodeOf, treeNode, nodeRecords, tablesBook}
+use Rattle.definitions.specs.Tables.{tablesLeft, nodeOf, treeNode, nodeRecords, tablesBook, rootOf}
+use Rattle.definitions.specs.Tables.{bookIn, contentsOf, tablesContents, treePhone, rootsInForce}
 use Rattle.definitions.specs.ForeignTables.{headerKnown, questionKnown, leafKnown, nodesKnown}
-use Rattle.definitions.specs.ForeignTables.{holdsOnly, nodeTableKnown, classTableKnown}
-use Rattle.definitions.specs.ForeignTables.{rootTableKnown, namedOnce, tablesKnown}
+use Rattle.definitions.specs.ForeignTables.{holdsOnly, nodeTableKnown, classTableKnown, rootTableKnown}
+use Rattle.definitions.specs.ForeignTables.{namedOnce, tablesKnown, rootsOfPhone, phoneKnown}
+use Rattle.definitions.specs.ForeignTables.{rootsKnown, plainKnown, plainsKnown, plainTableKnown}
 use Rattle.definitions.specs.Lookup.{modelAt, answers, walk, reached, lookupKnown, isContext}
 use Rattle.definitions.specs.Lookup.{leafLookup, leafLookupInTable}
 use Rattle.definitions.specs.PhoneSets.{has, alone, allPhones, without, setOf}
-use Rattle.definitions.specs.Matrices.{matrixWords, matrixSize, matrixRecord, rootMatrix, yesSide, noSide}
-use Rattle.definitions.specs.Matrices.{valid, meet, shift}
-use Rattle.definitions.specs.Matrices.{startCut, endsHere}
-use Rattle.definitions.specs.Tables.{rootOf, bookIn, contentsOf, tablesContents}
-use Rattle.definitions.specs.Combinations.{leavesBelow, isBefore, insertLeaf, ascending}
-use Rattle.definitions.specs.Combinations.{leavesOf}
+use Rattle.definitions.specs.Matrices.{matrixWords, matrixSize, matrixRecord, rootMatrix, yesSide}
+use Rattle.definitions.specs.Matrices.{noSide, valid, meet, shift, startCut, endsHere}
+use Rattle.definitions.specs.Combinations.{leavesBelow, isBefore, insertLeaf, ascending, leavesOf}
 use Rattle.definitions.specs.Combinations.{choose, combinationsOf, combinations, combinationWords}
 use Rattle.definitions.specs.Combinations.{combinationRoom, combine, combinationSpace}
 use Rattle.definitions.specs.Arcs.{firstState, lastState, arcWords, arcOf, arcsIn}
@@ -36,8 +37,7 @@ use Rattle.definitions.specs.Metastates.{combinationOf, phoneOf, starts,
 use Rattle.definitions.specs.Growing.{placeFrom, addArc, addElement, addBoth, grownIn, perform}
 use Rattle.definitions.specs.Growing.{performAll, expand, turnsFrom, grow}
 use Rattle.definitions.specs.Connecting.{ownArcs, finalArcs, startEvents, turnEvents, arcInto}
-use Rattle.definitions.specs.Building.{roomIn, build, countsIn, buffersOf, noBuffers}
-use Rattle.definitions.specs.Building.{buffersLeft}
+use Rattle.definitions.specs.Building.{roomIn, build, countsIn, buffersOf, noBuffers, buffersLeft}
 use Rattle.definitions.specs.Paths.{leads, accepting, withoutZeros, modelsCarried, phonesCarried}
 use Rattle.definitions.specs.Paths.{finalLast}
 use Rattle.definitions.specs.Leaving.{partOf, leaving, partHanded, partWords}
@@ -46,45 +46,46 @@ use Rattle.definitions.specs.NetworkText.{isState, networkFollows, withi
 use Rattle.definitions.specs.NetworkText.{networkTests, networkComplete, networkKind, readNetwork}
 use Rattle.definitions.specs.NetworkText.{arcsLeft, arcKnown, neverDescending, networkKnown}
 use Rattle.definitions.specs.NetworkText.{lineOfCounts, lineOfArc, networkText, writeNetwork}
-use Rattle.definitions.specs.TreesGive.{windows, around, contextsWithin, rootLine, nodeLine}
-use Rattle.definitions.specs.TreesGive.{putInClass, answersByLines, walkByLines, reachedByLines}
-use Rattle.definitions.specs.TreesGive.{modelGiven, together, modelsAlong, treesGive, silentEnds}
+use Rattle.definitions.specs.TreesGive.{windows, around, contextsWithin, rootLine, nodeLine, putInClass}
+use Rattle.definitions.specs.TreesGive.{answersByLines, walkByLines, reachedByLines, modelGiven}
+use Rattle.definitions.specs.TreesGive.{together, modelsAlong, treesGive, silentEnds, treesPhone}
 use Rattle.definitions.specs.Transcription.{modelOf, transcription, isUtterance, transcribe}
 use Rattle.definitions.specs.BookBuilding.{buildRead, buildBook, tablesAfter, buffersAfter}
 use Rattle.definitions.specs.Said.{saidOf, progressOf}
-use Rattle.definitions.specs.Program.{textOfBuilt, networkOf, refusalText, printed}
-use Rattle.definitions.specs.Program.{program}
-use Rattle.definitions.specs.BookText.{membersFrom, linesOfNodes, linesOfRoots, linesOfBook, bookLineFor}
-use Rattle.definitions.specs.BookText.{textOfBook}
+use Rattle.definitions.specs.Program.{textOfBuilt, networkOf, refusalText, printed, program}
+use Rattle.definitions.specs.BookText.{membersFrom, linesOfNodes, boundariesFrom, rootsListed}
+use Rattle.definitions.specs.BookText.{linesOfBook, bookLineFor, textOfBook}
 use Rattle.definitions.specs.PlainForm.{treeBelow, treesOf, setsIn, firstUses, setsOf, sizeOf}
-use Rattle.definitions.specs.PlainForm.{nodesFrom, allNodes, rootsFrom, numbered, plainContents, headerFor}
-use Rattle.definitions.specs.PlainForm.{plainLines, plainText, writePlain}
+use Rattle.definitions.specs.PlainForm.{nodesFrom, allNodes, rootsFrom, treesThere, numbered}
+use Rattle.definitions.specs.PlainForm.{plainContents, headerFor, plainLines, plainText, writePlain}
 
 unfoldable pub everything : Unit {0}
 unfolding every atLeastOne firstWhere mapOption select lastPasses concatMap upFrom occurrences same records
     padded judge andThen answerLeft isDigit isNumeral valueOf numeralWithin numeral skipSpaces digitsField
     fieldOf fieldText formOf isBlank numbersOf fieldsOf withLetter lineOf inRanges inFixedRanges lineText
     linesOf endsInLineFeed wholeLines lineTests lineRead readFrom readText bookLine headerIn headerOf
-    rootCount isPhone memberIn membersOf nodeLineIn nodeLinesOf nodesOf rootIn rootsOf childrenOf
-    bookFollows withinHeader comesBefore bookInOrder childrenGreater wideEnough bookTests bookComplete
-    orphans isLineOf lineWhere judgeNames bookKind readBook phonesOfClass classSets bookOf bookIn contentsOf
-    nodeWords tablesOf noTables tablesLeft nodeOf treeNode nodeRecords tablesBook tablesContents headerKnown
-    questionKnown leafKnown nodesKnown holdsOnly nodeTableKnown classTableKnown rootTableKnown namedOnce
-    tablesKnown modelAt answers walk reached lookupKnown isContext leafLookup leafLookupInTable has
-    alone allPhones without setOf matrixWords rootMatrix yesSide noSide valid meet shift startCut endsHere
-    leavesBelow isBefore insertLeaf ascending rootOf leavesOf choose combinationsOf combinations
-    combinationWords combinationRoom combine combinationSpace firstState lastState arcWords arcOf arcsIn
-    sameMetastate metastateWords startsFrom followersFrom combinationOf phoneOf starts followers modelsOf
-    mayEnd ownArcs finalArcs startEvents turnEvents arcInto placeFrom addArc addBoth perform performAll
-    expand turnsFrom roomIn build countsIn buffersOf noBuffers buffersLeft leads accepting withoutZeros
-    modelsCarried phonesCarried partOf leaving partHanded partWords networkLine countsInLine countsOf
-    arcInLine arcsOf isState networkFollows withinCounts networkInOrder networkTests networkComplete
-    networkKind readNetwork arcsLeft arcKnown neverDescending networkKnown lineOfCounts lineOfArc
-    networkText writeNetwork windows around contextsWithin rootLine nodeLine putInClass answersByLines
-    walkByLines reachedByLines modelGiven together modelsAlong treesGive silentEnds modelOf transcription
-    isUtterance transcribe buildRead buildBook tablesAfter buffersAfter textOfBuilt networkOf refusalText
-    printed program addElement grow grownIn finalLast matrixSize matrixRecord saidOf progressOf
-    membersFrom linesOfNodes linesOfRoots linesOfBook bookLineFor textOfBook treeBelow treesOf setsIn firstUses
-    setsOf placeOf sizeOf nodesFrom allNodes rootsFrom numbered plainContents headerFor plainLines plainText
-    writePlain
+    rootCount isPhone memberIn membersOf nodeLineIn nodeLinesOf nodesOf rootIn rootsOf childrenOf bookFollows
+    withinHeader comesBefore bookInOrder childrenGreater wideEnough bookTests bookFull orphans isLineOf
+    lineWhere judgeNames bookKind readBook phonesOfClass classSets bookOf bookIn contentsOf nodeWords tablesOf
+    noTables tablesLeft nodeOf treeNode nodeRecords tablesBook tablesContents headerKnown questionKnown
+    leafKnown nodesKnown holdsOnly nodeTableKnown classTableKnown rootTableKnown namedOnce tablesKnown modelAt
+    answers walk reached lookupKnown isContext leafLookup leafLookupInTable has alone allPhones without setOf
+    matrixWords rootMatrix yesSide noSide valid meet shift startCut endsHere leavesBelow isBefore insertLeaf
+    ascending rootOf leavesOf choose combinationsOf combinations combinationWords combinationRoom combine
+    combinationSpace firstState lastState arcWords arcOf arcsIn sameMetastate metastateWords startsFrom
+    followersFrom combinationOf phoneOf starts followers modelsOf mayEnd ownArcs finalArcs startEvents
+    turnEvents arcInto placeFrom addArc addBoth perform performAll expand turnsFrom roomIn build countsIn
+    buffersOf noBuffers buffersLeft leads accepting withoutZeros modelsCarried phonesCarried partOf leaving
+    partHanded partWords networkLine countsInLine countsOf arcInLine arcsOf isState networkFollows
+    withinCounts networkInOrder networkTests networkComplete networkKind readNetwork arcsLeft arcKnown
+    neverDescending networkKnown lineOfCounts lineOfArc networkText writeNetwork windows around contextsWithin
+    rootLine nodeLine putInClass answersByLines walkByLines reachedByLines modelGiven together modelsAlong
+    treesGive silentEnds modelOf transcription isUtterance transcribe buildRead buildBook tablesAfter
+    buffersAfter textOfBuilt networkOf refusalText printed program addElement grow grownIn finalLast
+    matrixSize matrixRecord saidOf progressOf membersFrom linesOfNodes boundariesFrom rootsListed linesOfBook
+    bookLineFor textOfBook treeBelow treesOf setsIn firstUses setsOf placeOf sizeOf nodesFrom allNodes
+    rootsFrom treesThere numbered plainContents headerFor plainLines plainText writePlain boundaryIn
+    boundariesOf isBoundary plainFor plainGiven plainWords nextPlace rootFor rootGiven rootWords leftOut
+    leftOutTo bookEnough plainsPlain isChained judgeBook rootsOfPhone phoneKnown rootsKnown plainKnown
+    plainsKnown plainTableKnown treePhone rootsInForce treesPhone
 everything = tt

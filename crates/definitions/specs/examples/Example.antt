@@ -67,7 +67,7 @@ unfoldable pub header : Header
 header = record { half = 1; states = 1; phones = 2; classes = 1; nodes = 4 }
 
 unfoldable pub lent : Lent
-lent = record { nodes = nodeSize * 4; classes = 1; roots = 2 }
+lent = record { nodes = nodeSize * 4; classes = 1; roots = 2; plains = 2 }
 
 unfoldable pub tables : Tables
 tables = tablesLeft lent (readBook lent input)

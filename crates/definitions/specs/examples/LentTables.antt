@@ -20,13 +20,16 @@ silence : Tables → Result
 silence lent-tables = given (transcribe header lent-tables (1 ∷ []) 4)
 
 withNodes : List ℕ → Tables
-withNodes words = record { nodes = words; classes = tables .classes; roots = tables .roots }
+withNodes words =
+    record { nodes = words; classes = tables .classes; roots = tables .roots; plains = tables .plains }
 
 withClasses : List ℕ → Tables
-withClasses words = record { nodes = tables .nodes; classes = words; roots = tables .roots }
+withClasses words =
+    record { nodes = tables .nodes; classes = words; roots = tables .roots; plains = tables .plains }
 
 withRoots : List ℕ → Tables
-withRoots words = record { nodes = tables .nodes; classes = tables .classes; roots = words }
+withRoots words =
+    record { nodes = tables .nodes; classes = tables .classes; roots = words; plains = tables .plains }
 
 -- words that reading leaves, and words that it never leaves
 pub known : List Case
@@ -71,7 +74,7 @@ buffer : (S : List ℕ) → Result
 buffer S = gives (answerLeft 3 (transcribe header tables S 3))
 
 wider : Lent
-wider = record { nodes = 22; classes = 2; roots = 3 }
+wider = record { nodes = 22; classes = 2; roots = 3; plains = 3 }
 
 leaves : List ℕ → Tables
 leaves text = tablesLeft wider (readBook wider text)

@@ -32,7 +32,7 @@ line number altered = reading (set inputLines (number - 1) altered)
 
 -- tables one word too short for the example's nodes
 narrow : Lent
-narrow = record { nodes = nodeSize * 4 - 1; classes = 1; roots = 2 }
+narrow = record { nodes = nodeSize * 4 - 1; classes = 1; roots = 2; plains = 2 }
 
 -- the example's header with one node less, which its tables do not fit
 fewer : Header

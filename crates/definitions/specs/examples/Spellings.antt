@@ -1,5 +1,5 @@
--- Document 02, P1, computed: a book with its classes and nodes in an order of its own, its plain form, and other books
--- beside it. The first book has four classes, of which two are the same and two are not asked for.
+-- Document 02, P1 with P2's B lines, computed: a book with its classes and nodes in an order of its own, its plain
+-- form, and other books beside it. The first book has four classes, of which two are the same and two are not used.
 use mathlib.Core.Path.{refl}
 use mathlib.Core.List.{List, [], _∷_, _++_}
 use Prim.Native.Nat.{ℕ, _*_}
@@ -110,9 +110,88 @@ plainSidesLines =
     ∷ "R     2     1     1"
     ∷ []
 
+-- the first book with a third phone, a boundary phone of the second, which has no R lines
+edgeLines : List String
+edgeLines =
+    "H     1     1     3     4     6"
+    ∷ "Q     1     1"
+    ∷ "Q     2     2"
+    ∷ "Q     4     2"
+    ∷ "L     0    10"
+    ∷ "N     1     4     0     3     2"
+    ∷ "N     2     2     2     5     4"
+    ∷ "L     3    20"
+    ∷ "L     4    21"
+    ∷ "L     5    22"
+    ∷ "B     3     2"
+    ∷ "R     1     1     0"
+    ∷ "R     2     1     1"
+    ∷ []
+
+plainEdgeLines : List String
+plainEdgeLines =
+    "H     1     1     3     1     6"
+    ∷ "Q     1     2"
+    ∷ "L     0    10"
+    ∷ "N     1     1     0     2     3"
+    ∷ "L     2    20"
+    ∷ "N     3     1     2     4     5"
+    ∷ "L     4    22"
+    ∷ "L     5    21"
+    ∷ "B     3     2"
+    ∷ "R     1     1     0"
+    ∷ "R     2     1     1"
+    ∷ []
+
+-- two states: the second phone has no R lines, and those of the fourth are kept though it takes the trees of silence
+keptLines : List String
+keptLines =
+    "H     0     2     4     2     8"
+    ∷ "Q     1     1"
+    ∷ "Q     2     3"
+    ∷ "L     0    41"
+    ∷ "N     1     2     0     6     3"
+    ∷ "L     2    32"
+    ∷ "L     3    33"
+    ∷ "L     4    12"
+    ∷ "L     5    11"
+    ∷ "L     6    31"
+    ∷ "L     7    42"
+    ∷ "B     2     3"
+    ∷ "B     4     1"
+    ∷ "R     1     1     5"
+    ∷ "R     1     2     4"
+    ∷ "R     3     1     1"
+    ∷ "R     3     2     2"
+    ∷ "R     4     1     0"
+    ∷ "R     4     2     7"
+    ∷ []
+
+plainKeptLines : List String
+plainKeptLines =
+    "H     0     2     4     1     8"
+    ∷ "Q     1     3"
+    ∷ "L     0    11"
+    ∷ "L     1    12"
+    ∷ "N     2     1     0     3     4"
+    ∷ "L     3    31"
+    ∷ "L     4    33"
+    ∷ "L     5    32"
+    ∷ "L     6    41"
+    ∷ "L     7    42"
+    ∷ "B     2     3"
+    ∷ "B     4     1"
+    ∷ "R     1     1     0"
+    ∷ "R     1     2     1"
+    ∷ "R     3     1     2"
+    ∷ "R     3     2     5"
+    ∷ "R     4     1     6"
+    ∷ "R     4     2     7"
+    ∷ []
+
 -- tables that are longer than any of these books
 lent : Lent
-lent = record { nodes = nodeSize * 9; classes = 5; roots = 3 }
+lent = record { nodes = nodeSize * 9; classes = 5; roots = 9; plains = 5 }
 
 -- what a book's tables are written as, into a buffer of so many bytes
 plainOf : List String → (size : ℕ) → Result
@@ -160,3 +239,21 @@ unfolding everything example linesOr models bookLines plainLines emptyLines plai
     plainEmptiesLines sidesLines plainSidesLines lent plainOf fewer trees leftOf table
 spellings =
     (refl, (refl, (refl, (refl, (refl, (refl, (refl, (refl, (refl, (refl, (refl, (refl, (refl, tt)))))))))))))
+
+-- books with B lines
+pub edgeTable : List Case
+edgeTable =
+    plainOf edgeLines 352 is gives (textOf plainEdgeLines)
+    ∷ plainOf keptLines 576 is gives (textOf plainKeptLines)
+    ∷ plainOf plainKeptLines 576 is gives (textOf plainKeptLines)
+    -- another plain phone is another book
+    ∷ plainOf (set edgeLines 10 "B     3     1") 352 is gives (textOf (set plainEdgeLines 8 "B     3     1"))
+    -- the models of a sequence: a boundary phone has the trees of its plain phone, with itself in the centre column
+    ∷ trees keptLines (1 ∷ 2 ∷ 3 ∷ 4 ∷ []) is gives (11 ∷ 12 ∷ 33 ∷ 32 ∷ 31 ∷ 32 ∷ 11 ∷ 12 ∷ [])
+    ∷ trees plainKeptLines (1 ∷ 2 ∷ 3 ∷ 4 ∷ []) is gives (11 ∷ 12 ∷ 33 ∷ 32 ∷ 31 ∷ 32 ∷ 11 ∷ 12 ∷ [])
+    ∷ []
+
+pub edges : Holds edgeTable
+unfolding everything example linesOr models edgeLines plainEdgeLines keptLines plainKeptLines lent plainOf trees
+    edgeTable
+edges = (refl, (refl, (refl, (refl, (refl, (refl, tt))))))

@@ -5,6 +5,12 @@ pub mod Books
 pub mod Sound
 pub mod Accepted
 pub mod KnownRecords
+pub mod LeftOut
+pub mod PhoneRoots
+pub mod GivenWords
+pub mod ForcedRoots
+pub mod Ordered
+pub mod TreesInForce
 pub mod AcceptedKnown
 pub mod KnownBooks
 pub mod ByLines
@@ -12,5 +18,8 @@ pub mod NamedOnce
 pub mod WrittenBooks
 pub mod WrittenClasses
 pub mod LinesSay
+pub mod WrittenBoundaries
+pub mod ListedRoots
+pub mod WrittenRoots
 pub mod BookTexts
 pub mod ForeignExactly

@@ -4,6 +4,8 @@ pub mod Lists
 pub mod Same
 pub mod Searching
 pub mod Members
+pub mod FirstWhere
+pub mod Counting
 pub mod Places
 pub mod Selected
 pub mod Occurrences

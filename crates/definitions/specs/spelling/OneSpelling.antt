@@ -2,12 +2,13 @@
 --
 -- "Two accepted books give the same bytes exactly when they have the same half-width, states, phones and, tree by tree,
 -- the same shape, positions, member sets and models. The plain form is itself accepted and gives every phone sequence
--- the models it had."
+-- the models it had." (P1) "P1's form keeps and compares the B lines." (P2)
 --
 -- What a reader must believe to read it, each definition in the documents' words:
 --   readBook (BookReading.antt)                    reading a text into tables of some lengths
 --   contentsOf (Tables.antt)                       what the lines of a book state
---   Tree, treesOf, SameBook (PlainForm.antt)       trees without numbers, and when two books are the same
+--   Tree, treesOf, SameBook (PlainForm.antt)       trees without numbers, where R lines give them, and when two books
+--                                                  are the same: these trees, and the plain phones of the B lines
 --   plainLines, plainText (PlainForm.antt)         the plain form, written by the writer of BookText.antt
 --   treesGive (TreesGive.antt)                     what the trees give, from the lines alone, as in demand 3
 use mathlib.Core.Path.{_≡_}
@@ -55,7 +56,7 @@ pub plain-form : (lent : Lent) (text : List ℕ) (lines : List BookLine) → rea
 plain-form lent text lines e =
     let contents : Contents = contentsOf lines in
     let is : contentsOf (plainLines contents) ≡ plainContents contents = plain-again lent text lines e in
-    let same = plain-same contents in
+    let same = plain-same (headerOf lines) contents (accepted-stated lent text lines e) in
     record {
       accepted = plain-accepted lent text lines e;
       same = rw is same;

@@ -1,6 +1,6 @@
--- The plain form of an accepted book is no longer than the text that the book was read from: it has as many nodes and
--- roots, and no more Q lines. For each of its classes has the set of some class of the book, no two have the same; and
--- a class has no more phones than Q lines. So a buffer as long as that text is never too short.
+-- The plain form of an accepted book is no longer than the text that the book was read from: it has as many nodes,
+-- and no more Q, B and R lines. For each of its classes has the set of some class of the book, no two have the same;
+-- and a class has no more phones than Q lines. So a buffer as long as that text is never too short.
 use mathlib.Core.Path.{_≡_, refl, ap, _∙_, subst}
 use mathlib.Core.Logic.{inl, inr}
 use mathlib.Core.List.{List, [], _∷_, map}
@@ -13,12 +13,12 @@ use Rattle.definitions.specs.declared.Header.{Header}
 use Rattle.definitions.specs.Faults.{answered}
 use Rattle.definitions.specs.Lists.{if_then_else_, select, upFrom, isIn, distinct}
 use Rattle.definitions.specs.PhoneSets.{has, setOf}
-use Rattle.definitions.specs.BookLines.{BookLine, Member, headerOf, membersOf, rootCount}
+use Rattle.definitions.specs.BookLines.{BookLine, Member, headerOf, membersOf, boundariesOf, rootsOf}
 use Rattle.definitions.specs.BookReading.{Lent, readBook}
 use Rattle.definitions.specs.Tables.{Contents, contentsOf, phonesOfClass, classSets}
-use Rattle.definitions.specs.BookText.{memberOf, phonesIn, membersFrom, linesOfBook}
-use Rattle.definitions.specs.PlainForm.{treesOf, setsOf, numbered, plainContents, headerFor, plainLines}
-use Rattle.definitions.specs.PlainForm.{plainText}
+use Rattle.definitions.specs.BookText.{memberOf, phonesIn, membersFrom, boundariesFrom, rootsListed, linesOfBook}
+use Rattle.definitions.specs.PlainForm.{Tree, treeAt, treesOf, treesThere, setsOf, numbered, plainContents}
+use Rattle.definitions.specs.PlainForm.{headerFor, plainLines, plainText}
 use Rattle.definitions.specs.laws.lists.Tests.{by-test}
 use Rattle.definitions.specs.laws.lists.Members.{listed}
 use Rattle.definitions.specs.laws.lists.Selected.{of-select}
@@ -28,10 +28,13 @@ use Rattle.definitions.specs.laws.lists.Fewer.{distinct-few, distinct-su
 use Rattle.definitions.specs.laws.matrices.PhoneSets.{has-listed}
 use Rattle.definitions.specs.laws.books.Books.{accepted-orderly, accepted-lines, accepted-length}
 use Rattle.definitions.specs.laws.books.KnownBooks.{Stated}
+use Rattle.definitions.specs.laws.books.SaidLines.{Says}
 use Rattle.definitions.specs.laws.books.LinesSay.{lines-say}
 use Rattle.definitions.specs.laws.books.BookTexts.{header-again}
-use Rattle.definitions.specs.spelling.PlainStated.{accepted-stated, used-once, used-listed, plain-nodes}
-use Rattle.definitions.specs.spelling.PlainStated.{plain-roots}
+use Rattle.definitions.specs.spelling.TreesThere.{given, there-given}
+use Rattle.definitions.specs.spelling.PlainStated.{accepted-stated, used-once, used-listed, stated-few}
+use Rattle.definitions.specs.spelling.PlainStated.{plain-nodes}
+use Rattle.definitions.specs.spelling.GivenFew.{boundaries-few, listed-many, new-many, roots-few}
 use Rattle.definitions.specs.spelling.PlainModels.{plain-accepted}
 
 -- ---- the Q lines of sets
@@ -136,19 +139,46 @@ module _ (lent : Lent) (text : List ℕ) (lines : List BookLine) (e : readBook l
   stated : Stated (headerOf lines) contents
   stated = accepted-stated lent text lines e
 
-  members-few : length (membersOf (plainLines contents)) ≤ length (membersOf lines)
+  abbrev there : List Tree
+  there = treesThere (treesOf contents)
+
+  -- its lines say what it holds
+  says : Says (plainLines contents) (membersFrom (headerOf lines .phones) 1 (setsOf there)) (plain .nodes)
+      (boundariesFrom 1 (contents .plains)) (rootsListed (headerOf lines .states) 0 (plain .roots))
   unfolding plainLines linesOfBook contentsOf plainContents numbered headerFor
+  says =
+      lines-say (headerFor plain) (membersFrom (headerOf lines .phones) 1 (setsOf there)) (plain .nodes)
+      (boundariesFrom 1 (contents .plains)) (rootsListed (headerOf lines .states) 0 (plain .roots))
+
+  members-few : length (membersOf (plainLines contents)) ≤ length (membersOf lines)
+  unfolding contentsOf
   members-few =
-      let sets : List ℕ = setsOf (treesOf contents) in
       let phones : ℕ = headerOf lines .phones in
-      let says = lines-say (headerFor plain) (membersFrom phones 1 sets) (plain .nodes) (plain .roots) in
       omega (
         arith,
         ap length (says .members-said),
-        members-many phones 1 sets,
-        distinct-sum (phonesMany phones) sets (contents .classes) (used-once (headerOf lines) contents stated)
-            (used-listed (headerOf lines) contents stated),
+        members-many phones 1 (setsOf there),
+        distinct-sum (phonesMany phones) (setsOf there) (contents .classes)
+            (used-once (headerOf lines) contents stated) (used-listed (headerOf lines) contents stated),
         sets-few phones (headerOf lines .classes) (membersOf lines),
+      )
+
+  bounded : length (boundariesOf (plainLines contents)) ≤ length (boundariesOf lines)
+  unfolding contentsOf
+  bounded =
+      omega (arith, ap length (says .boundaries-said), boundaries-few (headerOf lines) (boundariesOf lines))
+
+  rooted : length (rootsOf (plainLines contents)) ≤ length (rootsOf lines)
+  unfolding contentsOf plainContents numbered treesOf
+  rooted =
+      omega (
+        arith,
+        ap length (says .roots-said),
+        listed-many (headerOf lines .states) 0 (plain .roots),
+        new-many 0 (treesOf contents) (omega (arith, stated-few (headerOf lines) contents stated)),
+        ap length (there-given (contents .nodes) (contents .classes) (contents .roots)),
+        length-map (given (contents .roots)) (treeAt (contents .nodes) (contents .classes)),
+        roots-few (headerOf lines) (rootsOf lines),
       )
 
   pub plain-no-longer : length (plainText contents) ≤ length text
@@ -169,8 +199,6 @@ module _ (lent : Lent) (text : List ℕ) (lines : List BookLine) (e : readBook l
         again .nodes,
         ap (λ (h : Header). h .nodes) header,
         plain-nodes (headerOf lines) contents stated,
-        own .roots,
-        again .roots,
-        ap rootCount header,
-        plain-roots (headerOf lines) contents stated,
+        bounded,
+        rooted,
       )

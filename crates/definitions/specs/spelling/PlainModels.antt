@@ -72,7 +72,8 @@ module _ (lent : Lent) (text : List ℕ) (lines : List BookLine) (e : readBook l
   same-transcription S h =
       ap (λ (c : Contents). transcription (bookIn c) S) plain-again
       ∙ models-of-trees (headerFor plain) plain stays S h
-      ∙ rw (plain-same contents .trees) (sym (models-of-trees (headerOf lines) contents stated S h))
+      ∙ rw (plain-same (headerOf lines) contents stated .trees)
+      (sym (models-of-trees (headerOf lines) contents stated S h))
 
   pub plain-models : (S : List ℕ) → treesGive (plainLines contents) S ≡ treesGive lines S
   plain-models S =

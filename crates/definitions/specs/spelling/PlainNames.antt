@@ -4,14 +4,16 @@
 use mathlib.Core.Path.{_≡_, ap, _∙_}
 use mathlib.Core.List.{List, [], _∷_, _++_}
 use mathlib.Core.Bool.{not}
-use Prim.Native.Nat.{ℕ, suc, _+_}
+use mathlib.Core.Option.{Option, none, some}
+use Prim.Native.Nat.{ℕ, suc, _+_, _≤_, _<_}
 use native.Mathlib.Omega.{arith}
 use lib.Dec.{eqb}
 use lib.ListN.{length}
+use borrow.Author.Tests.{ne-eqb}
 use Rattle.definitions.specs.Lists.{concatMap, upFrom, occurrences}
-use Rattle.definitions.specs.BookLines.{TreeNode, childrenOf}
+use Rattle.definitions.specs.BookLines.{TreeNode, childrenOf, noRoot}
 use Rattle.definitions.specs.BookReading.{orphans}
-use Rattle.definitions.specs.PlainForm.{Tree, asking, giving, sizeOf, nodesFrom, allNodes, rootsFrom}
+use Rattle.definitions.specs.PlainForm.{Tree, asking, giving, sizeOf, nodesFrom, allNodes, rootsFrom, treesThere}
 use Rattle.definitions.specs.laws.lists.Sums.{sumOf}
 use Rattle.definitions.specs.laws.lists.Lists.{concatMap-append, upFrom-parts}
 use Rattle.definitions.specs.laws.lists.Members.{of-upFrom}
@@ -60,38 +62,43 @@ module _ (sets : List ℕ) (x : ℕ) where
         among-parts left (sizeOf onYes) (sizeOf onNo),
       )
 
-  -- so all roots and children are all nodes
-  all-names : (at : ℕ) (trees : List Tree)
-      → occurrences x (concatMap childrenOf (allNodes sets at trees) ++ rootsFrom at trees)
-      ≡ among at (sizes trees)
-  unfolding allNodes rootsFrom sumOf occurrences upFrom concatMap
-  all-names at trees =
-      occurrences-append x (concatMap childrenOf (allNodes sets at trees)) (rootsFrom at trees) ∙ both at trees
+  -- so all roots and children are all nodes; where there is no tree no node is named
+  all-names : (at : ℕ) (trees : List (Option Tree)) → x < noRoot
+      → occurrences x (concatMap childrenOf (allNodes sets at (treesThere trees)) ++ rootsFrom at trees)
+      ≡ among at (sizes (treesThere trees))
+  unfolding allNodes rootsFrom treesThere sumOf occurrences upFrom concatMap
+  all-names at trees node =
+      occurrences-append x (concatMap childrenOf (allNodes sets at (treesThere trees))) (rootsFrom at trees)
+      ∙ both at trees
     where
-      both : (at : ℕ) (trees : List Tree)
-          → asChild (allNodes sets at trees) + occurrences x (rootsFrom at trees) ≡ among at (sizes trees)
+      both : (at : ℕ) (trees : List (Option Tree))
+          → asChild (allNodes sets at (treesThere trees)) + occurrences x (rootsFrom at trees)
+          ≡ among at (sizes (treesThere trees))
       both at [] = omega arith
-      both at (t ∷ trees) =
+      both at (none ∷ trees) = rw (ne-eqb x noRoot (λ e. omega (arith, e, node))) (both at trees)
+      both at (some t ∷ trees) =
           let next : ℕ = at + sizeOf t in
+          let there : List Tree = treesThere trees in
           omega (
             arith,
-            child-append (nodesFrom sets at t) (allNodes sets next trees),
+            child-append (nodesFrom sets at t) (allNodes sets next there),
             occurrences-append x (at ∷ []) (rootsFrom next trees),
             tree-names at t,
             both next trees,
-            among-parts at (sizeOf t) (sizes trees),
+            among-parts at (sizeOf t) (sizes there),
           )
 
-pub plain-named : (sets : List ℕ) (trees : List Tree)
-    → orphans (allNodes sets 0 trees) (rootsFrom 0 trees) ≡ []
+pub plain-named : (sets : List ℕ) (trees : List (Option Tree)) → sizes (treesThere trees) ≤ noRoot
+    → orphans (allNodes sets 0 (treesThere trees)) (rootsFrom 0 trees) ≡ []
 unfolding orphans
-plain-named sets trees =
-    let nodes : List TreeNode = allNodes sets 0 trees in
+plain-named sets trees room =
+    let there : List Tree = treesThere trees in
+    let nodes : List TreeNode = allNodes sets 0 there in
+    let many = all-size sets 0 there in
     select-none (λ node. not (eqb (occurrences node (concatMap childrenOf nodes ++ rootsFrom 0 trees)) 1))
     (upFrom 0 (length nodes)) (λ node i.
     let (low, high) = of-upFrom 0 (length nodes) node i in
     rw (
-      all-names sets node 0 trees,
-      counted-once 0 (sizes trees) node low
-          (omega (arith, all-size sets 0 trees)),
+      all-names sets node 0 trees (omega (arith, many, high, room)),
+      counted-once 0 (sizes there) node low (omega (arith, many, high)),
     ))

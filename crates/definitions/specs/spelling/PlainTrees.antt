@@ -5,21 +5,24 @@
 use mathlib.Core.Path.{_≡_, refl, ap, ap₂, _∙_}
 use mathlib.Core.Logic.{inl, inr}
 use mathlib.Core.List.{List, [], _∷_, _++_, map, append-assoc}
+use mathlib.Core.Bool.{false}
+use mathlib.Core.Option.{Option, none, some}
 use Prim.Native.Nat.{ℕ, zero, suc, _+_, _-_, _≤_}
 use native.Mathlib.Omega.{arith}
 use lib.Dec.{eqb}
 use lib.ListN.{length, length-append}
 use lib.Seq.{getD-at}
-use Rattle.definitions.specs.Lists.{_!_, concatMap, placeOf, isIn}
-use Rattle.definitions.specs.BookLines.{TreeNode, question, leaf}
+use borrow.Author.Tests.{ne-eqb}
+use Rattle.definitions.specs.Lists.{if_then_else_, _!_, concatMap, placeOf, isIn}
+use Rattle.definitions.specs.BookLines.{TreeNode, question, leaf, noRoot}
 use Rattle.definitions.specs.Tables.{Contents}
 use Rattle.definitions.specs.PlainForm.{Question, Tree, asking, giving, questionOf, treeBelow, treesOf}
 use Rattle.definitions.specs.PlainForm.{setsIn, setsOf, askedAmong, sizeOf, nodesFrom, allNodes, rootsFrom}
-use Rattle.definitions.specs.PlainForm.{numbered, plainContents}
+use Rattle.definitions.specs.PlainForm.{treesThere, numbered, plainContents}
 use Rattle.definitions.specs.laws.lists.Sums.{sumOf}
 use Rattle.definitions.specs.laws.lists.Members.{in-left, in-right}
 use Rattle.definitions.specs.laws.lists.Places.{numbers-told, placed}
-use Rattle.definitions.specs.spelling.TreeShapes.{below-asks, below-gives}
+use Rattle.definitions.specs.spelling.TreeShapes.{some-node, below-asks, below-gives}
 use Rattle.definitions.specs.spelling.FirstUses.{used-first}
 
 -- ---- how many nodes
@@ -42,10 +45,11 @@ all-size sets at [] = refl
 all-size sets at (t ∷ trees) =
     rw length-append (omega (arith, nodes-size sets at t, all-size sets (at + sizeOf t) trees))
 
-pub roots-length : (at : ℕ) (trees : List Tree) → length (rootsFrom at trees) ≡ length trees
+pub roots-length : (at : ℕ) (trees : List (Option Tree)) → length (rootsFrom at trees) ≡ length trees
 unfolding rootsFrom
 roots-length at [] = refl
-roots-length at (t ∷ trees) = ap suc (roots-length (at + sizeOf t) trees)
+roots-length at (none ∷ trees) = ap suc (roots-length at trees)
+roots-length at (some t ∷ trees) = ap suc (roots-length (at + sizeOf t) trees)
 
 -- ---- the tree again
 
@@ -91,32 +95,44 @@ module _ (sets : List ℕ) where
       (λ s i. used s (inr (in-right s (setsIn onYes) (setsIn onNo) i)))))
       ∙ ap (λ (q : Question). asking q onYes onNo) (asked-again asked (used (asked .set) (inl refl)))
 
-  -- all trees, from root to root
-  trees-again : (levels : ℕ) (k : List TreeNode) (trees : List Tree) (at : ℕ) → length k ≡ at
-      → sizes trees ≤ levels → ((set : ℕ) → isIn set (concatMap setsIn trees) → isIn set sets)
-      → map (treeBelow levels (k ++ allNodes sets at trees) sets) (rootsFrom at trees) ≡ trees
-  unfolding allNodes rootsFrom sumOf concatMap
-  trees-again levels k [] at e few used = refl
-  trees-again levels k (t ∷ trees) at e few used =
+  -- what is found at a new root: all numbers of nodes are below the word that is no root
+  abbrev found : (levels : ℕ) → List TreeNode → (root : ℕ) → Option Tree
+  found levels nodes root = if eqb root noRoot then none else some (treeBelow levels nodes sets root)
+
+  -- all trees, from root to root, and none where there was none
+  trees-again : (levels : ℕ) (k : List TreeNode) (trees : List (Option Tree)) (at : ℕ) → length k ≡ at
+      → sizes (treesThere trees) ≤ levels → at + sizes (treesThere trees) ≤ noRoot
+      → ((set : ℕ) → isIn set (concatMap setsIn (treesThere trees)) → isIn set sets)
+      → map (found levels (k ++ allNodes sets at (treesThere trees))) (rootsFrom at trees) ≡ trees
+  unfolding allNodes rootsFrom treesThere sumOf concatMap
+  trees-again levels k [] at e few room used = refl
+  trees-again levels k (none ∷ trees) at e few room used =
+      ap (λ (l : List (Option Tree)). none ∷ l) (trees-again levels k trees at e few room used)
+  trees-again levels k (some t ∷ trees) at e few room used =
+      let there : List Tree = treesThere trees in
       let own : List TreeNode = nodesFrom sets at t in
-      let rest : List TreeNode = allNodes sets (at + sizeOf t) trees in
+      let rest : List TreeNode = allNodes sets (at + sizeOf t) there in
       let moved : k ++ (own ++ rest) ≡ (k ++ own) ++ rest = simp append-assoc in
       let next : length (k ++ own) ≡ at + sizeOf t = rw length-append (omega (arith, nodes-size sets at t)) in
-      ap₂ (λ (x : Tree) (l : List Tree). x ∷ l)
-      (tree-again levels k t rest at e (omega arith)
-      (λ s i. used s (in-left s (setsIn t) (concatMap setsIn trees) i)))
-      (rw moved (trees-again levels (k ++ own) trees (at + sizeOf t) next (omega arith)
-      (λ s i. used s (in-right s (setsIn t) (concatMap setsIn trees) i))))
+      let a-node : eqb at noRoot ≡ false = ne-eqb at noRoot (λ q. omega (arith, q, some-node t, room)) in
+      ap₂ (λ (x : Option Tree) (l : List (Option Tree)). x ∷ l)
+      (rw a-node (ap some (tree-again levels k t rest at e (omega arith)
+      (λ s i. used s (in-left s (setsIn t) (concatMap setsIn there) i)))))
+      (rw moved (trees-again levels (k ++ own) trees (at + sizeOf t) next (omega arith) (omega arith)
+      (λ s i. used s (in-right s (setsIn t) (concatMap setsIn there) i))))
 
 -- the trees of numbered trees are those trees
-pub numbered-trees : (half states phones : ℕ) (trees : List Tree)
-    → treesOf (numbered half states phones trees) ≡ trees
+pub numbered-trees : (half states phones : ℕ) (plains : List ℕ) (trees : List (Option Tree))
+    → sizes (treesThere trees) ≤ noRoot → treesOf (numbered half states phones plains trees) ≡ trees
 unfolding treesOf numbered setsOf
-numbered-trees half states phones trees =
-    let many = all-size (setsOf trees) 0 trees in
-    trees-again (setsOf trees) (length (allNodes (setsOf trees) 0 trees)) [] trees 0 refl (omega arith)
-    (λ s i. used-first [] (concatMap setsIn trees) s i)
+numbered-trees half states phones plains trees room =
+    let there : List Tree = treesThere trees in
+    let many = all-size (setsOf there) 0 there in
+    trees-again (setsOf there) (length (allNodes (setsOf there) 0 there)) [] trees 0 refl (omega arith)
+    (omega arith) (λ s i. used-first [] (concatMap setsIn there) s i)
 
-pub plain-trees : (contents : Contents) → treesOf (plainContents contents) ≡ treesOf contents
+pub plain-trees : (contents : Contents) → sizes (treesThere (treesOf contents)) ≤ noRoot
+    → treesOf (plainContents contents) ≡ treesOf contents
 unfolding plainContents
-plain-trees contents = numbered-trees (contents .half) (contents .states) (contents .phones) (treesOf contents)
+plain-trees contents room =
+    numbered-trees (contents .half) (contents .states) (contents .phones) (contents .plains) (treesOf contents) room

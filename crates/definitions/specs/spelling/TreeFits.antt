@@ -12,13 +12,13 @@ use Rattle.definitions.specs.Lists.{concatMap, isIn}
 use Rattle.definitions.specs.Forms.{_‥_}
 use Rattle.definitions.specs.BookLines.{TreeNode, Asked}
 use Rattle.definitions.specs.PlainForm.{Question, Tree, asking, giving, questionOf, treeBelow, setsIn}
-use Rattle.definitions.specs.PlainForm.{askedAmong, sizeOf, nodesFrom, allNodes, rootsFrom}
+use Rattle.definitions.specs.PlainForm.{askedAmong, sizeOf, nodesFrom, allNodes}
 use Rattle.definitions.specs.laws.lists.Sums.{sumOf}
 use Rattle.definitions.specs.laws.lists.Members.{in-at, in-left, in-right, of-append}
 use Rattle.definitions.specs.laws.lists.Places.{numbers-told, placed}
 use Rattle.definitions.specs.Ranges.{Within}
 use Rattle.definitions.specs.laws.trees.Walks.{Forward, by-node}
-use Rattle.definitions.specs.laws.books.Accepted.{allFrom, all-append, AskedFits, NodeFits, RootFits}
+use Rattle.definitions.specs.laws.books.Accepted.{allFrom, all-append, AskedFits, NodeFits}
 use Rattle.definitions.specs.laws.books.Accepted.{question-fitting, leaf-fitting}
 use Rattle.definitions.specs.spelling.TreeShapes.{some-node, below-asks, below-gives}
 use Rattle.definitions.specs.spelling.PlainTrees.{nodes-size, sizes}
@@ -123,10 +123,3 @@ module _ (header : Header) (classes sets : List ℕ) (counted : header .classes 
       (omega arith))
       (all-nodes-fit next trees (λ u i. fit u (inr i))
       (λ s i. used s (in-right s (setsIn t) (concatMap setsIn trees) i)) (omega arith))
-
-pub all-roots-fit : (header : Header) (place at : ℕ) (trees : List Tree) → at + sizes trees ≤ header .nodes
-    → allFrom (RootFits header) place (rootsFrom at trees)
-unfolding rootsFrom sumOf
-all-roots-fit header place at [] room = tt
-all-roots-fit header place at (t ∷ trees) room =
-    (omega (arith, some-node t), all-roots-fit header (suc place) (at + sizeOf t) trees (omega arith))

@@ -1,32 +1,36 @@
--- What a tree by itself gives to a context is what the walk from its root reaches. So books with the same trees,
--- half-width, states and phones give every phone sequence the same models, however their nodes are numbered.
-use mathlib.Core.Path.{_≡_, sym, ap, _∙_}
+-- What a tree by itself gives to a context is what the walk from its root reaches. So books with the same trees, plain
+-- phones, half-width, states and phones give every phone sequence the same models, however their nodes are numbered.
+use mathlib.Core.Path.{_≡_, refl, sym, ap, _∙_}
 use mathlib.Core.List.{List, map}
 use mathlib.Core.Bool.{Bool, true, false}
-use Prim.Native.Nat.{ℕ, zero, suc, _+_, _-_, _*_, _≤_, _<_}
+use mathlib.Core.Option.{Option, none, some}
+use Prim.Native.Nat.{ℕ, zero, suc, _+_, _*_, _≤_, _<_}
 use native.Mathlib.Omega.{arith}
-use lib.Arith.{digits-lt}
-use lib.Dec.{T}
+use lib.Dec.{T, eqb}
 use lib.ListN.{length, getD}
+use borrow.Author.Tests.{ne-eqb}
 use Rattle.definitions.specs.declared.Header.{Header}
 use Rattle.definitions.specs.Lists.{if_then_else_, _!_, every, concatMap, upFrom}
-use Rattle.definitions.specs.BookLines.{TreeNode, rootCount, isPhone}
-use Rattle.definitions.specs.Tables.{Contents, bookIn, rootOf}
+use Rattle.definitions.specs.BookLines.{TreeNode, rootCount, rootPlace, noRoot, isPhone}
+use Rattle.definitions.specs.Tables.{Contents, treePhone, rootsInForce, bookIn, rootOf}
 use Rattle.definitions.specs.PhoneSets.{has}
 use Rattle.definitions.specs.Lookup.{answers, walk, reached}
 use Rattle.definitions.specs.TreesGive.{silences, contexts}
 use Rattle.definitions.specs.Transcription.{modelOf, transcription}
-use Rattle.definitions.specs.PlainForm.{Question, Tree, asking, giving, treeBelow, treeAt, treesOf}
+use Rattle.definitions.specs.PlainForm.{Question, Tree, asking, giving, treeBelow, treeAt, treeFor}
+use Rattle.definitions.specs.PlainForm.{treesOf}
 use Rattle.definitions.specs.laws.lists.Tests.{every-at}
 use Rattle.definitions.specs.laws.lists.Lists.{map-at}
-use Rattle.definitions.specs.laws.lists.Members.{concatMap-same, map-same, of-upFrom, in-at}
+use Rattle.definitions.specs.laws.lists.Members.{concatMap-same, map-same, of-upFrom}
 use Rattle.definitions.specs.laws.text.Ranges.{phone-range}
 use Rattle.definitions.specs.laws.trees.Walks.{Forward, by-node, walk-leaf, walk-question}
-use Rattle.definitions.specs.laws.books.KnownBooks.{Stated}
+use Rattle.definitions.specs.laws.books.LeftOut.{spot-below, at-spot}
+use Rattle.definitions.specs.laws.books.ForcedRoots.{tree-plain}
+use Rattle.definitions.specs.laws.books.KnownBooks.{Stated, stated-sound}
 use Rattle.definitions.specs.laws.trees.ModelsAlong.{context-in-range}
 use Rattle.definitions.specs.laws.trees.Contexts.{silences-length, silent-phones}
 use Rattle.definitions.specs.spelling.TreeShapes.{below-asks, below-gives}
-use Rattle.definitions.specs.spelling.PlainStated.{stated-forward, stated-root}
+use Rattle.definitions.specs.spelling.PlainStated.{stated-forward}
 
 -- the answer to what a question asks by its set, and the model that a tree gives to a context
 abbrev pub answersSet : (context : List ℕ) → Question → Bool
@@ -72,44 +76,75 @@ module _ (nodes : List TreeNode) (classes context : List ℕ) (forward : Forward
 
 -- ---- the models of a book
 
--- the tree of a phone and a state
-abbrev pub treeOf : List Tree → (states phone state : ℕ) → Tree
-treeOf trees states phone state = getD trees ((phone - 1) * states + (state - 1)) (giving 0)
+-- the tree in force of a phone and a state, which is there
+abbrev pub treeIn : Option Tree → Tree
+treeIn none = giving 0
+treeIn (some t) = t
+
+abbrev pub treeOf : List (Option Tree) → (plains : List ℕ) → (states phone state : ℕ) → Tree
+treeOf trees plains states phone state = treeIn (getD trees (rootPlace states (treePhone plains phone) state) none)
+
+module _ (header : Header) (contents : Contents) (s : Stated header contents) (phone state : ℕ)
+    (p : 1 ≤ phone) (P : phone ≤ contents .phones) (k : 1 ≤ state) (K : state ≤ contents .states)
+  where
+    -- where its root stands, in R order
+    abbrev place : ℕ
+    place = rootPlace (contents .states) (treePhone (contents .plains) phone) state
+
+    abbrev root : ℕ
+    root = rootOf (bookIn contents) phone state
+
+    place-listed : place < length (contents .roots)
+    unfolding rootCount
+    place-listed =
+        let trees = tree-plain header (contents .plains) (contents .roots) (sym (s .heads .plains)) (s .plains)
+        (s .roots) phone p (omega (arith, P, s .heads .phones)) in
+        let all : contents .phones * contents .states ≡ length (contents .roots) =
+        rw (← s .heads .phones, ← s .heads .states) (s .heads .roots) in
+        rw (← all) (spot-below (record { phone-low = trees .low; state-low = k; state-high = K })
+        (omega (arith, trees .high, s .heads .phones)))
+
+    root-is : contents .roots ! place ≡ root
+    unfolding rootOf bookIn rootsInForce
+    root-is =
+        sym (at-spot (λ phone state. contents .roots ! rootPlace (contents .states) (treePhone (contents .plains) phone)
+        state) (record { phone-low = p; state-low = k; state-high = K }) P)
+
+    -- and its tree
+    tree-is : treeOf (treesOf contents) (contents .plains) (contents .states) phone state
+        ≡ treeAt (contents .nodes) (contents .classes) root
+    unfolding treesOf bookIn
+    tree-is =
+        let listed : root < length (contents .nodes) = stated-sound header contents s .root phone state in
+        let a-node : eqb root noRoot ≡ false =
+        ne-eqb root noRoot (λ e. omega (arith, e, listed, s .heads .nodes, s .in-range .nodes-range .high)) in
+        ap treeIn (map-at (treeFor (contents .nodes) (contents .classes)) (contents .roots) 0 none place place-listed
+        ∙ ap (treeFor (contents .nodes) (contents .classes)) root-is) ∙ rw a-node refl
 
 module _ (header : Header) (contents : Contents) (s : Stated header contents) where
-  -- in R order there is a root for every phone and state
-  root-place : (phone state : ℕ) → 1 ≤ phone → phone ≤ contents .phones → 1 ≤ state → state ≤ contents .states
-      → (phone - 1) * contents .states + (state - 1) < length (contents .roots)
-  unfolding rootCount
-  root-place phone state p P k K =
-      let all : contents .phones * contents .states ≡ length (contents .roots) =
-      rw (← s .heads .phones, ← s .heads .states) (s .heads .roots) in
-      rw (← all) (digits-lt {q = phone - 1} {r = state - 1} (omega arith) (omega arith))
-
   model-of : (context : List ℕ) (state : ℕ) → 1 ≤ context ! contents .half → context ! contents .half ≤ contents .phones
       → 1 ≤ state → state ≤ contents .states
       → modelOf (bookIn contents) context state
-      ≡ modelIn (treeOf (treesOf contents) (contents .states) (context ! contents .half) state) context
-  unfolding modelOf rootOf reached bookIn treesOf
+      ≡ modelIn (treeOf (treesOf contents) (contents .plains) (contents .states) (context ! contents .half) state)
+      context
+  unfolding modelOf reached bookIn
   model-of context state p P k K =
       let phone : ℕ = context ! contents .half in
-      let place = root-place phone state p P k K in
-      let root : ℕ = rootOf (bookIn contents) phone state in
-      let listed = stated-root header contents s root (in-at (contents .roots) _ 0 place) in
       model-below (contents .nodes) (contents .classes) context (stated-forward header contents s)
-      (length (contents .nodes)) root listed (omega arith)
-      ∙ ap (λ (t : Tree). modelIn t context)
-      (sym (map-at (treeAt (contents .nodes) (contents .classes)) (contents .roots) 0 (giving 0) _ place))
+      (length (contents .nodes)) (rootOf (bookIn contents) phone state)
+      (stated-sound header contents s .root phone state) (omega arith)
+      ∙ ap (λ (t : Tree). modelIn t context) (sym (tree-is header contents s phone state p P k K))
 
 -- what a book's trees give along a sequence, with no numbers of nodes and classes
-unfoldable pub modelsOfTrees : (half states : ℕ) → List Tree → (S : List ℕ) → List ℕ
-modelsOfTrees half states trees S =
-    concatMap (λ context. map (λ state. modelIn (treeOf trees states (context ! half) state) context)
+unfoldable pub modelsOfTrees : (half states : ℕ) → (plains : List ℕ) → List (Option Tree) → (S : List ℕ) → List ℕ
+modelsOfTrees half states plains trees S =
+    concatMap (λ context. map (λ state. modelIn (treeOf trees plains states (context ! half) state) context)
     (upFrom 1 states)) (contexts half S)
 
 pub models-of-trees : (header : Header) (contents : Contents) → Stated header contents → (S : List ℕ)
     → T (every (isPhone (contents .phones)) S)
-    → transcription (bookIn contents) S ≡ modelsOfTrees (contents .half) (contents .states) (treesOf contents) S
+    → transcription (bookIn contents) S
+    ≡ modelsOfTrees (contents .half) (contents .states) (contents .plains) (treesOf contents) S
 unfolding transcription bookIn modelsOfTrees
 models-of-trees header contents s S h =
     concatMap-same _ _ (contexts (contents .half) S) (λ context c.

@@ -6,20 +6,22 @@
 use mathlib.Core.Path.{_≡_, refl, ap, _∙_}
 use mathlib.Core.Logic.{⊎-elim}
 use mathlib.Core.List.{List, [], _∷_, _++_, map}
-use Prim.Native.Nat.{ℕ, suc, _+_, _<_}
+use Prim.Native.Nat.{ℕ, suc, _+_, _≤_, _<_}
 use native.Mathlib.Omega.{arith}
 use lib.ListN.{length}
 use Rattle.definitions.specs.Lists.{concatMap, upFrom, occurrences, isIn}
-use Rattle.definitions.specs.BookLines.{TreeNode, childrenOf}
+use Rattle.definitions.specs.BookLines.{TreeNode, childrenOf, noRoot}
 use Rattle.definitions.specs.BookReading.{orphans}
 use Rattle.definitions.specs.Lookup.{nodeAt}
-use Rattle.definitions.specs.PlainForm.{treeAt, sizeOf}
+use Rattle.definitions.specs.PlainForm.{treeAt, treeFor, sizeOf, treesThere}
 use Rattle.definitions.specs.laws.lists.Members.{of-append, of-upFrom}
 use Rattle.definitions.specs.laws.trees.Walks.{Forward, by-node}
 use Rattle.definitions.specs.laws.books.NamedOnce.{named-once, child-listed}
+use Rattle.definitions.specs.laws.lists.Occurrences.{occurrences-append}
 use Rattle.definitions.specs.laws.lists.Sums.{sumOf, sum-append, sum-map, sum-once}
 use Rattle.definitions.specs.spelling.TreeShapes.{tree-asks, tree-gives}
 use Rattle.definitions.specs.spelling.PlainTrees.{sizes}
+use Rattle.definitions.specs.spelling.TreesThere.{given, there-given, given-names}
 
 -- what is one more at each node than at its children
 sum-nodes : (f : ℕ → ℕ) (at : ℕ) (nodes : List TreeNode)
@@ -47,18 +49,29 @@ module _ (nodes : List TreeNode) (classes : List ℕ) where
         (λ asked yesNode noNode e.
         rw (tree-asks nodes classes forward node asked yesNode noNode h e, e) (omega arith))
 
-    pub trees-size : (roots : List ℕ) → ((root : ℕ) → isIn root roots → root < length nodes)
-        → orphans nodes roots ≡ [] → sizes (map (treeAt nodes classes) roots) ≡ length nodes
-    trees-size roots listed none =
+    pub trees-size : (roots : List ℕ) → length nodes ≤ noRoot
+        → ((root : ℕ) → isIn root (given roots) → root < length nodes) → orphans nodes roots ≡ []
+        → sizes (treesThere (map (treeFor nodes classes) roots)) ≡ length nodes
+    trees-size roots few listed none =
         let children : List ℕ = concatMap childrenOf nodes in
-        let low : (x : ℕ) → isIn x (children ++ roots) → x < length nodes =
-        λ x i. ⊎-elim (child-listed nodes forward x) (listed x) (of-append x children roots i) in
-        let once : (x : ℕ) → isIn x (upFrom 0 (length nodes)) → occurrences x (children ++ roots) ≡ 1 =
-        λ x i. named-once nodes roots none x (omega (arith, of-upFrom 0 (length nodes) x i)) in
+        let own : List ℕ = given roots in
+        let low : (x : ℕ) → isIn x (children ++ own) → x < length nodes =
+        λ x i. ⊎-elim (child-listed nodes forward x) (listed x) (of-append x children own i) in
+        let once : (x : ℕ) → isIn x (upFrom 0 (length nodes)) → occurrences x (children ++ own) ≡ 1 =
+        λ x i.
+        let (first, last) = of-upFrom 0 (length nodes) x i in
         omega (
           arith,
-          sum-map sizeOf (treeAt nodes classes) roots,
-          sum-append sizeAt children roots,
-          sum-once sizeAt (children ++ roots) (length nodes) low once,
+          named-once nodes roots none x (omega (arith, last)),
+          given-names x roots (omega (arith, last, few)),
+          occurrences-append x children own,
+          occurrences-append x children roots,
+        ) in
+        omega (
+          arith,
+          ap sizes (there-given nodes classes roots),
+          sum-map sizeOf (treeAt nodes classes) own,
+          sum-append sizeAt children own,
+          sum-once sizeAt (children ++ own) (length nodes) low once,
           sum-nodes sizeAt 0 nodes (λ i h. ap sizeAt {x = 0 + i} {y = i} (omega arith) ∙ size-at i h),
         )

@@ -1,31 +1,33 @@
 -- Accepted books are sound. What a line that passed its tests says of its node, its root or its class's
 -- member is kept by every further line, so it holds of all nodes, roots and members of the book.
 -- What the lines say of nodes and roots (laws/books/ByLines.antt) and the whole of demand 3 stand on it.
-use mathlib.Core.Path.{_≡_, subst}
+use mathlib.Core.Path.{_≡_, sym, subst}
 use mathlib.Core.List.{List, [], _∷_, _++_}
 use mathlib.Core.Bool.{Bool, _&&_}
 use Prim.Native.Nat.{ℕ, zero, suc, _+_, _*_, _≤_, _<_}
 use native.Mathlib.Omega.{arith}
-use lib.Dec.{leb, ltb, leb→le, ltb→lt, eqb→eq}
+use lib.Dec.{leb, ltb, leb→le, ltb→lt, eqb→eq, T}
 use lib.ListN.{length, getD}
+use mathlib.Core.Logic.{inl, inr}
 use Rattle.definitions.specs.declared.Header.{Header}
-use Rattle.definitions.specs.Lists.{_!_}
+use Rattle.definitions.specs.Lists.{_!_, every, isIn}
 use Rattle.definitions.specs.Faults.{answered}
 use Rattle.definitions.specs.Forms.{_‥_}
-use Rattle.definitions.specs.BookLines.{BookLine, H, Q, N, L, R, headerOf, TreeNode, question, leaf}
-use Rattle.definitions.specs.BookLines.{nodesOf, nodeIn, nodeLineIn, rootsOf, rootIn, Member, membersOf}
-use Rattle.definitions.specs.BookLines.{memberIn, Asked, asks, rootWords}
+use Rattle.definitions.specs.BookLines.{BookLine, H, Q, N, L, R, headerOf, TreeNode, question, leaf, nodesOf}
+use Rattle.definitions.specs.BookLines.{nodeIn, nodeLineIn, rootsOf, rootIn, Member, membersOf, memberIn, Asked}
+use Rattle.definitions.specs.BookLines.{asks, B, Root, Boundary, boundaryIn, boundariesOf}
 use Rattle.definitions.specs.BookReading.{Lent, withinHeader, bookInOrder, childrenGreater, readBook}
-use Rattle.definitions.specs.Tables.{bookOf, rootOf, Contents, bookIn, contentsOf}
+use Rattle.definitions.specs.Tables.{rootOf, Contents, bookIn, rootsInForce}
 use Rattle.definitions.specs.Lookup.{nodeAt}
-use Rattle.definitions.specs.laws.lists.Tests.{T-and, T-three}
 use Rattle.definitions.specs.Ranges.{Within, InRange}
+use Rattle.definitions.specs.laws.lists.Tests.{T-and, T-three}
 use Rattle.definitions.specs.laws.books.Tables.{Heads}
-use Rattle.definitions.specs.laws.books.SaidLines.{line-says, members-more, nodes-more, root-words-more}
-use Rattle.definitions.specs.laws.books.Books.{Fits, Orderly, accepted-holds, accepted-orderly}
-use Rattle.definitions.specs.laws.books.Books.{orderly-heads}
+use Rattle.definitions.specs.laws.books.SaidLines.{line-says, members-more, nodes-more, roots-more}
+use Rattle.definitions.specs.laws.books.SaidLines.{boundaries-more}
+use Rattle.definitions.specs.laws.books.Books.{Fits, accepted-holds}
 use Rattle.definitions.specs.laws.trees.Walks.{Forward}
 use Rattle.definitions.specs.laws.books.Sound.{Sound}
+use Rattle.definitions.specs.laws.books.LeftOut.{Spot}
 
 -- ---- what holds of every element of a list, and of its number, where the first has number `at`
 
@@ -55,7 +57,14 @@ all-at P at [] d h i n k e = absurd (omega arith)
 all-at P at (x ∷ l) d h zero n k e = subst (λ n. P n x) {x = at} {y = n} (omega arith) (h .0)
 all-at P at (x ∷ l) d h (suc i) n k e = all-at P (suc at) l d (h .1) i n (omega arith) (omega arith)
 
--- ---- the nodes, the roots and the members of classes of a book
+-- one of them has a number
+pub all-in : {A : Type 0} (P : ℕ → A → Type 0) (at : ℕ) (l : List A) → allFrom P at l → (x : A) → isIn x l
+    → (n : ℕ) × P n x
+all-in P at [] h x i = absurd i
+all-in P at (y ∷ l) h x (inl e) = (at, subst (P at) (sym e) (h .0))
+all-in P at (y ∷ l) h x (inr i) = all-in P (suc at) l (h .1) x i
+
+-- ---- the nodes, the roots, the boundary phones and the members of classes of a book
 
 -- what the N line of a node says: a class and a position in range, and children that are greater nodes
 pub record AskedFits (header : Header) (asked : Asked) : Type 0 where
@@ -75,15 +84,25 @@ NodeFits header node (question asked yesNode noNode) =
     QuestionFits header node asked yesNode noNode
 NodeFits header node (leaf model) = Within (1 ‥ 65535) model
 
-abbrev pub RootFits : Header → ℕ → ℕ → Type 0
-RootFits header i root = root < header .nodes
+-- what an R line says of a root, and a B line of a boundary phone
+pub record RootFits (header : Header) (i : ℕ) (root : Root) : Type 0 where
+  pub spot : Spot (header .states) (root .phone) (root .state)
+  pub phone-high : root .phone ≤ header .phones
+  pub listed : root .node < header .nodes
+
+pub record BoundaryFits (header : Header) (i : ℕ) (b : Boundary) : Type 0 where
+  pub phone-low : 2 ≤ b .phone
+  pub phone-high : b .phone ≤ header .phones
+  pub plain-low : 1 ≤ b .plain
+  pub plain-high : b .plain ≤ header .phones
 
 abbrev pub MemberFits : Header → ℕ → Member → Type 0
 MemberFits header i m = m .phone ≤ header .phones
 
 pub record AllFit (header : Header) (lines : List BookLine) : Type 0 where
   pub nodes : allFrom (NodeFits header) 0 (nodesOf lines)
-  pub roots : allFrom (RootFits header) 0 (rootWords (rootsOf lines))
+  pub boundaries : allFrom (BoundaryFits header) 0 (boundariesOf lines)
+  pub roots : allFrom (RootFits header) 0 (rootsOf lines)
   pub members : allFrom (MemberFits header) 0 (membersOf lines)
 
 -- the node, the root or the member of a line that passed its tests
@@ -122,20 +141,48 @@ nodes-fit lent before (Q class phone) f = tt
 nodes-fit lent before (N node class position yesNode noNode) f =
     (question-fits lent before node class position yesNode noNode f, tt)
 nodes-fit lent before (L node model) f = (f .ranged, tt)
+nodes-fit lent before (B boundary plain) f = tt
 nodes-fit lent before (R phone state root) f = tt
 
-roots-fit : (lent : Lent) (before : List BookLine) (line : BookLine) → Fits lent before line
-    → allFrom (RootFits (headerOf before)) (length (rootWords (rootsOf before))) (rootWords (rootIn line))
+pub roots-fit : (lent : Lent) (before : List BookLine) (line : BookLine) → Fits lent before line
+    → allFrom (RootFits (headerOf before)) (length (rootsOf before)) (rootIn line)
 unfolding rootIn withinHeader
 roots-fit lent before (H half states phones classes nodes) f = tt
 roots-fit lent before (Q class phone) f = tt
 roots-fit lent before (N node class position yesNode noNode) f = tt
 roots-fit lent before (L node model) f = tt
+roots-fit lent before (B boundary plain) f = tt
 roots-fit lent before (R phone state root) f =
     let header : Header = headerOf before in
     let parts = T-three (leb phone (header .phones)) (leb state (header .states)) (ltb root (header .nodes))
     .0 (f .within) in
-    (ltb→lt _ _ (parts .2), tt)
+    let spot : Spot (header .states) phone state =
+    record {
+      phone-low = f .ranged .0 .low;
+      state-low = f .ranged .1 .low;
+      state-high = leb→le _ _ (parts .1);
+    } in
+    (record { spot = spot; phone-high = leb→le _ _ (parts .0); listed = ltb→lt _ _ (parts .2) }, tt)
+
+boundaries-fit : (lent : Lent) (before : List BookLine) (line : BookLine) → Fits lent before line
+    → allFrom (BoundaryFits (headerOf before)) (length (boundariesOf before)) (boundaryIn line)
+unfolding boundaryIn withinHeader
+boundaries-fit lent before (H half states phones classes nodes) f = tt
+boundaries-fit lent before (Q class phone) f = tt
+boundaries-fit lent before (N node class position yesNode noNode) f = tt
+boundaries-fit lent before (L node model) f = tt
+boundaries-fit lent before (B boundary plain) f =
+    let phones : ℕ = headerOf before .phones in
+    let parts = T-and (leb boundary phones) (leb plain phones) .0 (f .within) in (
+      record {
+        phone-low = f .ranged .0 .low;
+        phone-high = leb→le _ _ (parts .0);
+        plain-low = f .ranged .1 .low;
+        plain-high = leb→le _ _ (parts .1);
+      },
+      tt,
+    )
+boundaries-fit lent before (R phone state root) f = tt
 
 members-fit : (lent : Lent) (before : List BookLine) (line : BookLine) → Fits lent before line
     → allFrom (MemberFits (headerOf before)) (length (membersOf before)) (memberIn line)
@@ -147,12 +194,13 @@ members-fit lent before (Q class phone) f =
     (leb→le _ _ (parts .1), tt)
 members-fit lent before (N node class position yesNode noNode) f = tt
 members-fit lent before (L node model) f = tt
+members-fit lent before (B boundary plain) f = tt
 members-fit lent before (R phone state root) f = tt
 
 -- so all nodes, roots and members of an accepted book fit
 pub accepted-fit : (lent : Lent) (text : List ℕ) (lines : List BookLine) → readBook lent text ≡ answered lines
     → AllFit (headerOf lines) lines
-unfolding nodeLineIn rootIn memberIn
+unfolding nodeLineIn boundaryIn rootIn memberIn
 accepted-fit lent text lines e =
     accepted-holds lent (λ lines. AllFit (headerOf lines) lines) alone more text lines e .holds
   where
@@ -163,6 +211,7 @@ accepted-fit lent text lines e =
         let says = line-says (H half states phones classes nodes) in
         record {
           nodes = rw (says .nodes-said) tt;
+          boundaries = rw (says .boundaries-said) tt;
           roots = rw (says .roots-said) tt;
           members = rw (says .members-said) tt;
         }
@@ -175,8 +224,9 @@ accepted-fit lent text lines e =
         rw e record {
           nodes = all-more (NodeFits header) (nodesOf before) (nodeIn line) (nodes-more before line)
               (a .nodes) (nodes-fit lent before line f);
-          roots = all-more (RootFits header) (rootWords (rootsOf before)) (rootWords (rootIn line))
-              (root-words-more before line)
+          boundaries = all-more (BoundaryFits header) (boundariesOf before) (boundaryIn line)
+              (boundaries-more before line) (a .boundaries) (boundaries-fit lent before line f);
+          roots = all-more (RootFits header) (rootsOf before) (rootIn line) (roots-more before line)
               (a .roots) (roots-fit lent before line f);
           members = all-more (MemberFits header) (membersOf before) (memberIn line) (members-more before line)
               (a .members) (members-fit lent before line f);
@@ -194,11 +244,15 @@ question-listed (x ∷ nodes) (suc node) asked yesNode noNode e =
     let further = question-listed nodes node asked yesNode noNode e in omega arith
 
 -- beyond the list stands root 0, which is a node too
-root-listed : (header : Header) (at : ℕ) (roots : List ℕ) (i : ℕ) → 0 < header .nodes
-    → allFrom (RootFits header) at roots → roots ! i < header .nodes
-root-listed header at [] i h a = h
-root-listed header at (root ∷ roots) zero h a = a .0
-root-listed header at (root ∷ roots) (suc i) h a = root-listed header (suc at) roots i h (a .1)
+root-listed : (header : Header) (roots : List ℕ) (i : ℕ) → 0 < header .nodes
+    → T (every (λ root. ltb root (header .nodes)) roots) → roots ! i < header .nodes
+unfolding every
+root-listed header [] i h a = h
+root-listed header (root ∷ roots) zero h a =
+    ltb→lt _ _ (T-and (ltb root (header .nodes)) (every (λ root. ltb root (header .nodes)) roots) .0 a .0)
+root-listed header (root ∷ roots) (suc i) h a =
+    root-listed header roots i h
+    (T-and (ltb root (header .nodes)) (every (λ root. ltb root (header .nodes)) roots) .0 a .1)
 
 -- nodes that fit
 module _ (header : Header) (nodes : List TreeNode) (fit : allFrom (NodeFits header) 0 nodes) where
@@ -223,10 +277,10 @@ module _ (header : Header) (nodes : List TreeNode) (fit : allFrom (NodeFits head
         record { greater = f .no-greater; listed = rw (← count) (f .no-listed) },
       )
 
--- a header with its ranges, contents with its counts, nodes and roots that fit
+-- a header with its ranges, contents with its counts, nodes that fit, and roots in force that are nodes
 module _ (header : Header) (contents : Contents) (ranged : InRange header) (heads : Heads header contents)
     (nodes : allFrom (NodeFits header) 0 (contents .nodes))
-    (roots : allFrom (RootFits header) 0 (contents .roots))
+    (force : T (every (λ root. ltb root (header .nodes)) (rootsInForce contents)))
   where
     pub fitting-sound : Sound (bookIn contents)
     unfolding rootOf bookIn
@@ -243,15 +297,12 @@ module _ (header : Header) (contents : Contents) (ranged : InRange header) (head
           );
       model = λ node model h q. leaf-fitting header (contents .nodes) nodes node model h q .low;
       root = λ phone state.
-          rw (← heads .nodes) (root-listed header 0 (contents .roots) _ (ranged .nodes-range .low) roots);
+          rw (← heads .nodes) (root-listed header (rootsInForce contents) _ (ranged .nodes-range .low) force);
     }
 
 module _ (lent : Lent) (text : List ℕ) (lines : List BookLine)
     (e : readBook lent text ≡ answered lines)
   where
-    orderly : Orderly lines
-    orderly = accepted-orderly lent text lines e
-
     fit : AllFit (headerOf lines) lines
     fit = accepted-fit lent text lines e
 
@@ -259,9 +310,3 @@ module _ (lent : Lent) (text : List ℕ) (lines : List BookLine)
         → nodeAt (nodesOf lines) node ≡ question asked yesNode noNode
         → QuestionFits (headerOf lines) node asked yesNode noNode
     accepted-question = question-fitting (headerOf lines) (nodesOf lines) (fit .nodes)
-
-    pub accepted-sound : Sound (bookOf lines)
-    unfolding bookOf bookIn contentsOf
-    accepted-sound =
-        fitting-sound (headerOf lines) (contentsOf lines) (orderly .in-range) (orderly-heads lines orderly)
-        (fit .nodes) (fit .roots)

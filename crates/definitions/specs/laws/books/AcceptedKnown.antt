@@ -11,36 +11,39 @@ use lib.Dec.{T, leb, ltb, eqb, leb→le, le→leb, lt→ltb, eqb→eq}
 use lib.ListN.{length, take, drop, length-drop, take-append-drop}
 use lib.Seq.{drop-at, length-take-le}
 use borrow.Author.Tests.{le-leb}
+use native.Mathlib.Omega.{arith}
 use Rattle.definitions.specs.declared.Fault.the-variants.{Choices}
 use Rattle.definitions.specs.declared.Header.{Header}
 use Rattle.definitions.specs.Lists.{every, select, concatMap, upFrom, cleared, padded, isIn}
 use Rattle.definitions.specs.Faults.{answered, judge, _unless_}
 use Rattle.definitions.specs.Forms.{Range, _‥_}
 use Rattle.definitions.specs.Lines.{formOf, inRanges, inFixedRanges}
-use Rattle.definitions.specs.BookLines.{BookLine, bookLine, headerOf, rootCount, Member, membersOf}
-use Rattle.definitions.specs.BookLines.{TreeNode, question, leaf, nodesOf, rootsOf, rootWords}
-use Rattle.definitions.specs.BookReading.{Lent, nodeSize, wideEnough, readBook}
-use Rattle.definitions.specs.Tables.{bookOf, phonesOfClass, classSets, nodeWords, nodeOf, nodeRecords}
-use Rattle.definitions.specs.Tables.{Tables, tablesOf, tablesLeft, contentsOf, tablesContents}
+use Rattle.definitions.specs.BookLines.{BookLine, bookLine, headerOf, rootCount, Member, membersOf, TreeNode}
+use Rattle.definitions.specs.BookLines.{question, leaf, nodesOf, rootsOf, rootWords, rootNames}
+use Rattle.definitions.specs.BookReading.{Lent, nodeSize, wideEnough, readBook, orphans}
+use Rattle.definitions.specs.Tables.{bookOf, phonesOfClass, classSets, nodeWords, nodeOf, nodeRecords, Tables}
+use Rattle.definitions.specs.Tables.{tablesOf, tablesLeft, contentsOf, tablesContents}
 use Rattle.definitions.specs.ForeignTables.{headerKnown, questionKnown, leafKnown, nodesKnown, holdsOnly}
 use Rattle.definitions.specs.ForeignTables.{nodeTableKnown, classTableKnown, rootTableKnown, namedOnce}
-use Rattle.definitions.specs.ForeignTables.{tablesKnown}
+use Rattle.definitions.specs.ForeignTables.{tablesKnown, plainsKnown, plainTableKnown, rootsKnown}
 use Rattle.definitions.specs.PhoneSets.{setOf}
 use Rattle.definitions.specs.Combinations.{combinations, combinationRoom, combine}
+use Rattle.definitions.specs.Ranges.{Within, InRange}
+use Rattle.definitions.specs.laws.lists.Selected.{of-select}
+use Rattle.definitions.specs.laws.books.NamedOnce.{orphans-same}
+use Rattle.definitions.specs.laws.books.Ordered.{accepted-ordered}
 use Rattle.definitions.specs.laws.lists.Tests.{T-and, T-three, if-true}
 use Rattle.definitions.specs.laws.lists.Lists.{padded-length, padded-take, every-replicate}
 use Rattle.definitions.specs.laws.lists.Members.{of-map, every-in}
-use Rattle.definitions.specs.laws.lists.Selected.{of-select}
 use Rattle.definitions.specs.laws.lists.Records.{flat-length}
-use Rattle.definitions.specs.Ranges.{Within, InRange}
 use Rattle.definitions.specs.laws.text.Ranges.{line-ranged}
 use Rattle.definitions.specs.laws.books.Tables.{Heads, node-sized, tables-records, tables-contents}
 use Rattle.definitions.specs.laws.books.Books.{Roomy, roomy, Orderly, accepted-holds, accepted-orderly}
 use Rattle.definitions.specs.laws.books.Books.{orderly-heads, accepted-book}
-use Rattle.definitions.specs.laws.books.Accepted.{allFrom, NodeFits, RootFits, MemberFits, AllFit}
-use Rattle.definitions.specs.laws.books.Accepted.{accepted-fit}
+use Rattle.definitions.specs.laws.books.Accepted.{allFrom, NodeFits, MemberFits, AllFit, accepted-fit, all-in}
 use Rattle.definitions.specs.laws.books.KnownRecords.{record-exactly, known-first}
 use Rattle.definitions.specs.laws.matrices.PhoneSets.{setOf-below}
+use Rattle.definitions.specs.laws.books.TreesInForce.{accepted-plains, accepted-roots}
 
 -- ---- the header
 
@@ -72,7 +75,8 @@ pub record KnownParts (header : Header) (tables : Tables) : Type 0 where
   pub own : T (headerKnown header)
   pub nodes : T (nodeTableKnown header (tables .nodes))
   pub classes : T (classTableKnown header (tables .classes))
-  pub roots : T (rootTableKnown header (tables .roots))
+  pub plains : T (plainTableKnown header (tables .plains))
+  pub roots : T (rootTableKnown header (take (header .phones) (tables .plains)) (tables .roots))
   pub once : T (namedOnce (tablesContents header tables))
 
 pub tables-parts : (header : Header) (tables : Tables)
@@ -81,24 +85,19 @@ unfolding tablesKnown
 tables-parts header tables =
     let nodes : Bool = nodeTableKnown header (tables .nodes) in
     let classes : Bool = classTableKnown header (tables .classes) in
-    let roots : Bool = rootTableKnown header (tables .roots) in
+    let plains : Bool = plainTableKnown header (tables .plains) in
+    let roots : Bool = rootTableKnown header (take (header .phones) (tables .plains)) (tables .roots) in
     let once : Bool = namedOnce (tablesContents header tables) in
-    let first = T-three (headerKnown header) nodes classes in
-    let last = T-three (headerKnown header && nodes && classes) roots once in (
+    let first = T-and (headerKnown header) nodes in
+    let middle = T-three (headerKnown header && nodes) classes plains in
+    let last = T-three (headerKnown header && nodes && classes && plains) roots once in (
       λ h.
           let (before, r, o) = last .0 h in
-          let (k, n, c) = first .0 before in
-          record { own = k; nodes = n; classes = c; roots = r; once = o },
-      λ p. last .1 (first .1 (p .own, p .nodes, p .classes), p .roots, p .once),
+          let (start, c, p) = middle .0 before in
+          let (k, n) = first .0 start in
+          record { own = k; nodes = n; classes = c; plains = p; roots = r; once = o },
+      λ p. last .1 (middle .1 (first .1 (p .own, p .nodes), p .classes, p .plains), p .roots, p .once),
     )
-
--- ---- what holds of each element of a list with its number
-
-pub all-in : {A : Type 0} (P : ℕ → A → Type 0) (at : ℕ) (l : List A) → allFrom P at l → (x : A) → isIn x l
-    → (n : ℕ) × P n x
-all-in P at [] h x i = absurd i
-all-in P at (y ∷ l) h x (inl e) = (at, subst (P at) (sym e) (h .0))
-all-in P at (y ∷ l) h x (inr i) = all-in P (suc at) l (h .1) x i
 
 -- ---- padded tables
 
@@ -231,15 +230,41 @@ module _ (lent : Lent) (text : List ℕ) (lines : List BookLine) (e : readBook l
   known-classes = words-known (lent .classes) (header .classes) (contentsOf lines .classes) _
       (heads .classes) (room .classes) (classes-below header (membersOf lines) (fit .members))
 
-  known-roots : T (rootTableKnown header (tables .roots))
-  unfolding rootTableKnown tablesOf contentsOf
-  known-roots = words-known (lent .roots) (rootCount header) (rootWords (rootsOf lines)) _
-      (heads .roots) (room .roots)
-      (λ root i. lt→ltb _ _ (all-in (RootFits header) 0 (rootWords (rootsOf lines)) (fit .roots) root i .1))
+  -- each plain phone is a phone and no boundary phone, and each phone's roots are nodes or left out all together
+  known-plains : T (plainTableKnown header (tables .plains))
+  unfolding plainTableKnown tablesOf
+  known-plains =
+      let words : List ℕ = padded (lent .plains) (contentsOf lines .plains) in
+      T-and (holdsOnly (header .phones) words) (plainsKnown header (take (header .phones) words)) .1 (
+        holds-used (lent .plains) (header .phones) (contentsOf lines .plains) (heads .plains) (room .plains),
+        rw (padded-take (lent .plains) (header .phones) (contentsOf lines .plains) (heads .plains))
+            (accepted-plains lent text lines e),
+      )
+
+  known-roots : T (rootTableKnown header (take (header .phones) (tables .plains)) (tables .roots))
+  unfolding rootTableKnown tablesOf
+  known-roots =
+      let words : List ℕ = padded (lent .roots) (contentsOf lines .roots) in
+      let plains : List ℕ = take (header .phones) (padded (lent .plains) (contentsOf lines .plains)) in
+      T-and (holdsOnly (rootCount header) words) (rootsKnown header plains (take (rootCount header) words)) .1 (
+        holds-used (lent .roots) (rootCount header) (contentsOf lines .roots) (heads .roots) (room .roots),
+        rw (
+          padded-take (lent .plains) (header .phones) (contentsOf lines .plains) (heads .plains),
+          padded-take (lent .roots) (rootCount header) (contentsOf lines .roots) (heads .roots),
+        ) (accepted-roots lent text lines e),
+      )
+
+  -- the words of the table name the nodes that the lines name: what is left out is no node
+  names-same : orphans (contentsOf lines .nodes) (contentsOf lines .roots)
+      ≡ orphans (nodesOf lines) (rootNames (rootsOf lines))
+  unfolding contentsOf
+  names-same =
+      orphans-same (nodesOf lines) (rootWords header (rootsOf lines)) (rootNames (rootsOf lines))
+      (omega (arith, orderly .nodes, orderly .in-range .nodes-range .high)) (accepted-ordered lent text lines e .named)
 
   known-names : T (namedOnce (tablesContents header tables))
-  unfolding namedOnce contentsOf
-  known-names = rw (tables-contents header lent (contentsOf lines) heads, orderly .named-once) tt
+  unfolding namedOnce
+  known-names = rw (tables-contents header lent (contentsOf lines) heads, names-same, orderly .named-once) tt
 
   all-known : T (tablesKnown header tables)
   all-known =
@@ -247,6 +272,7 @@ module _ (lent : Lent) (text : List ℕ) (lines : List BookLine) (e : readBook l
         own = header-known header (orderly .in-range);
         nodes = known-nodes;
         classes = known-classes;
+        plains = known-plains;
         roots = known-roots;
         once = known-names;
       })

@@ -4,10 +4,10 @@
 use mathlib.Core.Path.{_≡_, refl, sym, ap, ap₂, _∙_}
 use mathlib.Core.Logic.{⊎-elim}
 use mathlib.Core.List.{List, [], _∷_, _++_, map}
-use mathlib.Core.Bool.{_||_}
+use mathlib.Core.Bool.{Bool, _&&_, _||_}
 use Prim.Native.Nat.{ℕ, suc, _*_, _^_, _≤_}
 use native.Mathlib.Omega.{arith}
-use lib.Dec.{T, leb, ltb, le→leb, ltb→lt, eqb→eq}
+use lib.Dec.{T, leb, ltb, le→leb, eqb→eq}
 use lib.ListN.{length, take}
 use lib.Seq.{length-take-le}
 use Rattle.definitions.specs.declared.Header.{Header}
@@ -16,20 +16,20 @@ use Rattle.definitions.specs.Lists.{every, concatMap, records, padded}
 use Rattle.definitions.specs.BookLines.{rootCount}
 use Rattle.definitions.specs.BookReading.{nodeSize, wideEnough, orphans}
 use Rattle.definitions.specs.Tables.{nodeWords, Tables, lentOf, tablesOf, nodeOf, treeNode, recordWords}
-use Rattle.definitions.specs.Tables.{nodeRecords, tablesContents, Contents}
-use Rattle.definitions.specs.ForeignTables.{questionKnown, leafKnown, nodesKnown, holdsOnly}
-use Rattle.definitions.specs.ForeignTables.{nodeTableKnown, classTableKnown, rootTableKnown, namedOnce}
-use Rattle.definitions.specs.ForeignTables.{tablesKnown}
-use Rattle.definitions.specs.laws.lists.Tests.{T-and, T-three}
-use Rattle.definitions.specs.laws.lists.Lists.{every-cons, five}
-use Rattle.definitions.specs.laws.lists.Records.{joined, allOf, sized-parts, records-sized}
-use Rattle.definitions.specs.laws.lists.Records.{joined-records}
-use Rattle.definitions.specs.laws.books.Tables.{Heads, tree-nodes-length}
+use Rattle.definitions.specs.Tables.{nodeRecords, tablesContents, Contents, bookIn, rootsInForce}
+use Rattle.definitions.specs.ForeignTables.{questionKnown, leafKnown, nodesKnown, holdsOnly, nodeTableKnown}
+use Rattle.definitions.specs.ForeignTables.{classTableKnown, rootTableKnown, namedOnce, tablesKnown}
+use Rattle.definitions.specs.ForeignTables.{plainsKnown, plainTableKnown, rootsKnown}
 use Rattle.definitions.specs.Ranges.{InRange}
-use Rattle.definitions.specs.laws.books.Accepted.{allFrom, NodeFits, RootFits}
+use Rattle.definitions.specs.laws.books.Sound.{Sound}
+use Rattle.definitions.specs.laws.books.ForcedRoots.{force-listed}
+use Rattle.definitions.specs.laws.books.Accepted.{fitting-sound, allFrom, NodeFits}
+use Rattle.definitions.specs.laws.lists.Tests.{T-and, T-three}
+use Rattle.definitions.specs.laws.lists.Lists.{five}
+use Rattle.definitions.specs.laws.lists.Records.{joined, allOf, sized-parts, records-sized, joined-records}
+use Rattle.definitions.specs.laws.books.Tables.{Heads, tree-nodes-length}
 use Rattle.definitions.specs.laws.books.KnownRecords.{record-exactly, known-first}
-use Rattle.definitions.specs.laws.books.AcceptedKnown.{header-ranges, tables-parts, holds-padded}
-use Rattle.definitions.specs.laws.books.AcceptedKnown.{KnownParts}
+use Rattle.definitions.specs.laws.books.AcceptedKnown.{header-ranges, tables-parts, holds-padded, KnownParts}
 
 -- a header with a book that lines can state
 pub record Stated (header : Header) (contents : Contents) : Type 0 where
@@ -37,8 +37,20 @@ pub record Stated (header : Header) (contents : Contents) : Type 0 where
   pub heads : Heads header contents
   pub nodes : allFrom (NodeFits header) 0 (contents .nodes)
   pub sets : T (every (λ set. ltb set (2 ^ header .phones)) (contents .classes))
-  pub roots : allFrom (RootFits header) 0 (contents .roots)
+  pub plains : T (plainsKnown header (contents .plains))
+  pub roots : T (rootsKnown header (contents .plains) (contents .roots))
   pub named-once : orphans (contents .nodes) (contents .roots) ≡ []
+
+-- its roots in force are nodes, so its trees can be walked
+pub stated-force : (header : Header) (contents : Contents) → Stated header contents
+    → T (every (λ root. ltb root (header .nodes)) (rootsInForce contents))
+stated-force header contents s =
+    force-listed header contents (sym (s .heads .states)) (sym (s .heads .phones)) (sym (s .heads .plains))
+    (s .in-range .states-range .low) (s .plains) (s .roots)
+
+pub stated-sound : (header : Header) (contents : Contents) → Stated header contents → Sound (bookIn contents)
+stated-sound header contents s =
+    fitting-sound header contents (s .in-range) (s .heads) (s .nodes) (stated-force header contents s)
 
 -- ---- records
 
@@ -91,20 +103,18 @@ module _ (header : Header) (words : List ℕ) where
       T-and (holdsOnly (header .classes) words)
       (every (λ set. ltb set (2 ^ header .phones)) (take (header .classes) words)) .0 h
 
-  pub root-table-parts : T (rootTableKnown header words)
-      → T (holdsOnly (rootCount header) words)
-      × T (every (λ root. ltb root (header .nodes)) (take (rootCount header) words))
-  unfolding rootTableKnown
-  root-table-parts h =
-      T-and (holdsOnly (rootCount header) words)
-      (every (λ root. ltb root (header .nodes)) (take (rootCount header) words)) .0 h
+  pub plain-table-parts : T (plainTableKnown header words)
+      → T (holdsOnly (header .phones) words) × T (plainsKnown header (take (header .phones) words))
+  unfolding plainTableKnown
+  plain-table-parts h =
+      T-and (holdsOnly (header .phones) words) (plainsKnown header (take (header .phones) words)) .0 h
 
-all-listed : (header : Header) (at : ℕ) (roots : List ℕ) → T (every (λ root. ltb root (header .nodes)) roots)
-    → allFrom (RootFits header) at roots
-all-listed header at [] h = tt
-all-listed header at (root ∷ roots) h =
-    let (first, rest) = every-cons (λ root. ltb root (header .nodes)) root roots .0 h in
-    (ltb→lt root (header .nodes) first, all-listed header (suc at) roots rest)
+  pub root-table-parts : (plains : List ℕ) → T (rootTableKnown header plains words)
+      → T (holdsOnly (rootCount header) words)
+      × T (rootsKnown header plains (take (rootCount header) words))
+  unfolding rootTableKnown
+  root-table-parts plains h =
+      T-and (holdsOnly (rootCount header) words) (rootsKnown header plains (take (rootCount header) words)) .0 h
 
 pub none-orphaned : (contents : Contents) → T (namedOnce contents)
     → orphans (contents .nodes) (contents .roots) ≡ []
@@ -130,7 +140,10 @@ module _ (header : Header) (tables : Tables) (known : T (tablesKnown header tabl
   classes-held = holds-padded _ (tables .classes) (class-table-parts header (tables .classes) (parts .classes) .0)
 
   roots-held : Held (rootCount header) (tables .roots)
-  roots-held = holds-padded _ (tables .roots) (root-table-parts header (tables .roots) (parts .roots) .0)
+  roots-held = holds-padded _ (tables .roots) (root-table-parts header (tables .roots) _ (parts .roots) .0)
+
+  plains-held : Held (header .phones) (tables .plains)
+  plains-held = holds-padded _ (tables .plains) (plain-table-parts header (tables .plains) (parts .plains) .0)
 
   records-known : T (nodesKnown header 0 (nodeRecords header (tables .nodes)))
   records-known = node-table-parts header (tables .nodes) (parts .nodes) .1
@@ -148,10 +161,12 @@ module _ (header : Header) (tables : Tables) (known : T (tablesKnown header tabl
               nodes = sym (tree-nodes-length header (tables .nodes));
               classes = sym (length-take-le (header .classes) (tables .classes) (classes-held .0));
               roots = sym (length-take-le (rootCount header) (tables .roots) (roots-held .0));
+              plains = sym (length-take-le (header .phones) (tables .plains) (plains-held .0));
             };
         nodes = known-nodes header 0 (nodeRecords header (tables .nodes)) records-known;
         sets = class-table-parts header (tables .classes) (parts .classes) .1;
-        roots = all-listed header 0 _ (root-table-parts header (tables .roots) (parts .roots) .1);
+        plains = plain-table-parts header (tables .plains) (parts .plains) .1;
+        roots = root-table-parts header (tables .roots) _ (parts .roots) .1;
         named-once = none-orphaned (tablesContents header tables) (parts .once);
       }
 
@@ -159,9 +174,14 @@ module _ (header : Header) (tables : Tables) (known : T (tablesKnown header tabl
   pub known-wide : T (wideEnough (lentOf tables) header)
   unfolding wideEnough
   known-wide =
-      T-three (leb (nodeSize * header .nodes) (length (tables .nodes)))
-      (leb (header .classes) (length (tables .classes))) (leb (rootCount header) (length (tables .roots))) .1
-      (le→leb _ _ (nodes-held .0), le→leb _ _ (classes-held .0), le→leb _ _ (roots-held .0))
+      let nodes : Bool = leb (nodeSize * header .nodes) (length (tables .nodes)) in
+      let classes : Bool = leb (header .classes) (length (tables .classes)) in
+      T-three (nodes && classes) (leb (rootCount header) (length (tables .roots)))
+      (leb (header .phones) (length (tables .plains))) .1 (
+        T-and nodes classes .1 (le→leb _ _ (nodes-held .0), le→leb _ _ (classes-held .0)),
+        le→leb _ _ (roots-held .0),
+        le→leb _ _ (plains-held .0),
+      )
 
   -- and hold that book, and nothing beyond
   nodes-again : padded (length (tables .nodes)) (concatMap nodeWords (tablesContents header tables .nodes))
@@ -181,4 +201,5 @@ module _ (header : Header) (tables : Tables) (known : T (tablesKnown header tabl
     nodes = nodes-again i;
     classes = sym (classes-held .1) i;
     roots = sym (roots-held .1) i;
+    plains = sym (plains-held .1) i;
   }

@@ -1,24 +1,40 @@
 -- Laws about trees whose nodes are each named once: a node has one parent, no leaf stands twice below one.
 -- Of two nodes above a third, one is above the other, by the one parent of each; neither child of a question
 -- is above the other, so no node is below both. The order of leaves and combinations rests on this.
-use mathlib.Core.Path.{_≡_, refl, sym, ap, subst}
+use mathlib.Core.Path.{_≡_, refl, sym, ap, _∙_, subst}
 use mathlib.Core.Logic.{_⊎_, inl, inr}
 use mathlib.Core.List.{List, [], _∷_, _++_}
 use mathlib.Core.Bool.{Bool, true, false, not}
-use Prim.Native.Nat.{ℕ, zero, suc, _≤_, _<_}
+use Prim.Native.Nat.{ℕ, zero, suc, _+_, _≤_, _<_}
 use native.Mathlib.Omega.{arith}
 use lib.Dec.{T, eqb, eqb→eq}
 use lib.ListN.{length}
 use Rattle.definitions.specs.BookReading.{ChildOnce, orphans}
 use Rattle.definitions.specs.Lists.{concatMap, upFrom, occurrences, isIn, distinct}
-use Rattle.definitions.specs.BookLines.{TreeNode, question, leaf, childrenOf}
+use Rattle.definitions.specs.BookLines.{TreeNode, question, leaf, childrenOf, noRoot}
 use Rattle.definitions.specs.Lookup.{nodeAt}
 use Rattle.definitions.specs.laws.lists.Members.{in-left, in-right, of-concatMap, place-of, in-upFrom}
 use Rattle.definitions.specs.laws.lists.Members.{distinct-concatMap, distinct-left, distinct-right}
-use Rattle.definitions.specs.laws.lists.Members.{distinct-apart}
-use Rattle.definitions.specs.laws.lists.Selected.{in-select}
-use Rattle.definitions.specs.laws.lists.Occurrences.{occurrences-left, distinct-once}
+use Rattle.definitions.specs.laws.lists.Members.{distinct-apart, of-upFrom}
+use Rattle.definitions.specs.laws.lists.Selected.{in-select, select-same}
+use Rattle.definitions.specs.laws.lists.Occurrences.{occurrences-left, distinct-once, occurrences-append}
 use Rattle.definitions.specs.laws.trees.Walks.{Later, Forward}
+
+-- ---- names that are the same
+
+-- lists that name each node as often leave the same orphans; 4096 is no node
+pub orphans-same : (nodes : List TreeNode) (a b : List ℕ) → length nodes ≤ noRoot
+    → ((x : ℕ) → x < noRoot → occurrences x a ≡ occurrences x b) → orphans nodes a ≡ orphans nodes b
+unfolding orphans
+orphans-same nodes a b few same =
+    let children : List ℕ = concatMap childrenOf nodes in
+    let test : List ℕ → ℕ → Bool = λ roots node. not (eqb (occurrences node (children ++ roots)) 1) in
+    select-same (test a) (test b) (upFrom 0 (length nodes)) (λ node i.
+    let (low, high) = of-upFrom 0 (length nodes) node i in
+    ap (λ (n : ℕ). not (eqb n 1)) (
+    occurrences-append node children a
+    ∙ ap (λ (n : ℕ). occurrences node children + n) (same node (omega (arith, high, few)))
+    ∙ sym (occurrences-append node children b)))
 
 -- ---- a node has one parent
 

@@ -1,45 +1,41 @@
--- Laws about what lines say together: the members, nodes and roots of no line, of one, of lines joined, and
--- of one line more at the end. How `membersOf`, `nodesOf` and `rootsOf` go through the lines is known here
--- alone: every other proof goes by these laws, nearly always by one line more.
+-- Laws about what lines say together: the members, nodes, boundary phones and roots of no line, of one, of
+-- lines joined, and of one line more at the end. How `membersOf`, `nodesOf`, `boundariesOf` and `rootsOf` go
+-- through the lines is known here alone: every other proof goes by these laws, nearly always by one line
+-- more.
 use mathlib.Core.Path.{_≡_, refl, sym, ap, ap₂, _∙_}
 use mathlib.Core.List.{List, [], _∷_, _++_, map, append-nil, map-append}
-use Prim.Native.Nat.{ℕ, _+_, _≤_, _<_}
+use Prim.Native.Nat.{_+_, _≤_, _<_}
 use native.Mathlib.Omega.{arith}
 use lib.ListN.{length, length-append, length-map}
 use Rattle.definitions.specs.Lists.{concatMap}
 use Rattle.definitions.specs.BookLines.{BookLine, H, Q, N, L, R, headerOf, Member, memberIn, membersOf}
-use Rattle.definitions.specs.BookLines.{TreeNode, nodeIn, nodesOf, nodeLineIn, nodeLinesOf, rootIn}
-use Rattle.definitions.specs.BookLines.{rootsOf, rootNames, rootWords}
+use Rattle.definitions.specs.BookLines.{TreeNode, nodeIn, nodesOf, nodeLineIn, nodeLinesOf, rootIn, rootsOf}
+use Rattle.definitions.specs.BookLines.{rootNames, B, Root, Boundary, boundaryIn, boundariesOf}
 use Rattle.definitions.specs.laws.lists.Lists.{concatMap-append, concatMap-snoc}
 
 -- what lines say
-pub record Says (lines : List BookLine) (members : List Member) (nodes : List TreeNode) (roots : List ℕ)
-    : Type 0 where
+pub record Says (lines : List BookLine) (members : List Member) (nodes : List TreeNode)
+    (boundaries : List Boundary) (roots : List Root) : Type 0 where
   pub members-said : membersOf lines ≡ members
   pub nodes-said : nodesOf lines ≡ nodes
-  pub roots-said : rootWords (rootsOf lines) ≡ roots
+  pub boundaries-said : boundariesOf lines ≡ boundaries
+  pub roots-said : rootsOf lines ≡ roots
 
-pub none-says : Says [] [] [] []
-unfolding membersOf nodesOf nodeLinesOf rootsOf concatMap
-none-says = record { members-said = refl; nodes-said = refl; roots-said = refl }
+pub none-says : Says [] [] [] [] []
+unfolding membersOf nodesOf nodeLinesOf boundariesOf rootsOf concatMap
+none-says = record { members-said = refl; nodes-said = refl; boundaries-said = refl; roots-said = refl }
 
-pub line-says : (line : BookLine) → Says (line ∷ []) (memberIn line) (nodeIn line) (rootWords (rootIn line))
-unfolding membersOf nodesOf nodeLinesOf rootsOf concatMap
+pub line-says : (line : BookLine)
+    → Says (line ∷ []) (memberIn line) (nodeIn line) (boundaryIn line) (rootIn line)
+unfolding membersOf nodesOf nodeLinesOf boundariesOf rootsOf concatMap
 line-says line = record {
   members-said = append-nil (memberIn line);
   nodes-said = ap (map (λ l. l .node)) (append-nil (nodeLineIn line));
-  roots-said = ap (map (λ r. r .node)) (append-nil (rootIn line));
+  boundaries-said = append-nil (boundaryIn line);
+  roots-said = append-nil (rootIn line);
 }
 
--- the roots and the nodes' lines themselves
-pub roots-none : rootsOf [] ≡ []
-unfolding rootsOf concatMap
-roots-none = refl
-
-pub line-of-root : (line : BookLine) → rootsOf (line ∷ []) ≡ rootIn line
-unfolding rootsOf concatMap
-line-of-root line = append-nil (rootIn line)
-
+-- the nodes' lines themselves
 pub line-of-node : (line : BookLine) → nodeLinesOf (line ∷ []) ≡ nodeLineIn line
 unfolding nodeLinesOf concatMap
 line-of-node line = append-nil (nodeLineIn line)
@@ -56,9 +52,6 @@ node-lines-count lines = sym (length-map (nodeLinesOf lines) (λ l. l .node))
 -- as many names and as many words as roots
 pub root-names-count : (lines : List BookLine) → length (rootNames (rootsOf lines)) ≡ length (rootsOf lines)
 root-names-count lines = length-map (rootsOf lines) (λ r. r .node)
-
-pub root-words-count : (lines : List BookLine) → length (rootWords (rootsOf lines)) ≡ length (rootsOf lines)
-root-words-count lines = root-names-count lines
 
 -- the header stays after the first line
 pub header-parts : (before lines : List BookLine) → 0 < length before
@@ -86,17 +79,20 @@ module _ (k l : List BookLine) where
   unfolding rootsOf
   roots-parts = concatMap-append rootIn k l
 
-  root-words-parts : rootWords (rootsOf (k ++ l)) ≡ rootWords (rootsOf k) ++ rootWords (rootsOf l)
-  root-words-parts = ap (map (λ r. r .node)) roots-parts ∙ map-append _ (rootsOf k) (rootsOf l)
+  pub boundaries-parts : boundariesOf (k ++ l) ≡ boundariesOf k ++ boundariesOf l
+  unfolding boundariesOf
+  boundaries-parts = concatMap-append boundaryIn k l
 
 pub says-parts : {k l : List BookLine} {members others : List Member} {nodes more : List TreeNode}
-    {roots further : List ℕ} → Says k members nodes roots → Says l others more further
-    → Says (k ++ l) (members ++ others) (nodes ++ more) (roots ++ further)
+    {edges beyond : List Boundary} {roots further : List Root} → Says k members nodes edges roots
+    → Says l others more beyond further
+    → Says (k ++ l) (members ++ others) (nodes ++ more) (edges ++ beyond) (roots ++ further)
 says-parts {k} {l} s t =
     record {
       members-said = members-parts k l ∙ ap₂ _++_ (s .members-said) (t .members-said);
       nodes-said = nodes-parts k l ∙ ap₂ _++_ (s .nodes-said) (t .nodes-said);
-      roots-said = root-words-parts k l ∙ ap₂ _++_ (s .roots-said) (t .roots-said);
+      boundaries-said = boundaries-parts k l ∙ ap₂ _++_ (s .boundaries-said) (t .boundaries-said);
+      roots-said = roots-parts k l ∙ ap₂ _++_ (s .roots-said) (t .roots-said);
     }
 
 -- ---- one line more, at the end
@@ -121,9 +117,9 @@ module _ (before : List BookLine) (line : BookLine) where
       ≡ rootNames (rootsOf before) ++ rootNames (rootIn line)
   root-names-more = ap rootNames roots-more ∙ map-append _ (rootsOf before) (rootIn line)
 
-  pub root-words-more : rootWords (rootsOf (before ++ (line ∷ [])))
-      ≡ rootWords (rootsOf before) ++ rootWords (rootIn line)
-  root-words-more = root-names-more
+  pub boundaries-more : boundariesOf (before ++ (line ∷ [])) ≡ boundariesOf before ++ boundaryIn line
+  unfolding boundariesOf
+  boundaries-more = concatMap-snoc boundaryIn before line
 
   -- and so many more
   pub nodes-count : length (nodesOf (before ++ (line ∷ []))) ≡ length (nodesOf before) + length (nodeIn line)
@@ -131,6 +127,10 @@ module _ (before : List BookLine) (line : BookLine) where
 
   pub roots-count : length (rootsOf (before ++ (line ∷ []))) ≡ length (rootsOf before) + length (rootIn line)
   roots-count = ap length roots-more ∙ length-append (rootsOf before) (rootIn line)
+
+  pub boundaries-count : length (boundariesOf (before ++ (line ∷ [])))
+      ≡ length (boundariesOf before) + length (boundaryIn line)
+  boundaries-count = ap length boundaries-more ∙ length-append (boundariesOf before) (boundaryIn line)
 
 -- a line is of one node at most
 pub nodes-few : (lines : List BookLine) → length (nodesOf lines) ≤ length lines
@@ -145,4 +145,5 @@ nodes-few (line ∷ lines) =
     one-at-most (Q class phone) = omega arith
     one-at-most (N node class position yesNode noNode) = omega arith
     one-at-most (L node model) = omega arith
+    one-at-most (B boundary plain) = omega arith
     one-at-most (R phone state root) = omega arith

@@ -24,6 +24,7 @@ pub record Heads (header : Header) (contents : Contents) : Type 0 where
   pub nodes : header .nodes ≡ length (contents .nodes)
   pub classes : header .classes ≡ length (contents .classes)
   pub roots : rootCount header ≡ length (contents .roots)
+  pub plains : header .phones ≡ length (contents .plains)
 
 pub node-sized : (node : TreeNode) → length (nodeWords node) ≡ nodeSize
 unfolding nodeWords
@@ -92,4 +93,5 @@ tables-contents header lent contents h = λ i. record {
   nodes = tables-nodes header (lent .nodes) (contents .nodes) (h .nodes) i;
   classes = padded-take (lent .classes) (header .classes) (contents .classes) (h .classes) i;
   roots = padded-take (lent .roots) (rootCount header) (contents .roots) (h .roots) i;
+  plains = padded-take (lent .plains) (header .phones) (contents .plains) (h .plains) i;
 }

@@ -7,9 +7,9 @@ use mathlib.Core.Bool.{Bool, true, false}
 use Prim.Native.Nat.{ℕ, zero, suc, _+_, _≤_, _<_}
 use native.Mathlib.Omega.{arith}
 use lib.Dec.{eqb}
-use lib.ListN.{length}
+use lib.ListN.{length, set, replicate}
 use borrow.Author.Tests.{eqb-true, eqb-false}
-use Rattle.definitions.specs.Lists.{if_then_else_, occurrences, upFrom, isIn, distinct}
+use Rattle.definitions.specs.Lists.{if_then_else_, _!_, occurrences, upFrom, isIn, distinct}
 use Rattle.definitions.specs.laws.lists.Tests.{by-test, if-true, eq→eqb}
 
 -- the first element counts one more than in the rest
@@ -69,3 +69,19 @@ counted-once a (suc count) x h k =
     by-test (eqb x a)
     (λ e. rw e (ap suc (counted-beyond (suc a) count x (omega (arith, eqb-true x a e)))))
     (λ e. rw e (counted-once (suc a) count x (omega (arith, eqb-false x a e)) (omega arith)))
+
+-- one word put where another number stood
+pub occurrences-set : (x : ℕ) (l : List ℕ) (i v : ℕ) → i < length l → eqb x (l ! i) ≡ false
+    → occurrences x (set l i v) ≡ occurrences x l + occurrences x (v ∷ [])
+unfolding occurrences
+occurrences-set x [] i v h e = absurd (omega arith)
+occurrences-set x (y ∷ l) zero v h e = rw e (by-test (eqb x v) (λ q. rw q (omega arith)) (λ q. rw q (omega arith)))
+occurrences-set x (y ∷ l) (suc i) v h e =
+    let rest = occurrences-set x l i v (omega arith) e in
+    by-test (eqb x y) (λ q. rw q (omega (arith, rest))) (λ q. rw q rest)
+
+-- a number that none of the words is
+pub occurrences-other : (x word count : ℕ) → eqb x word ≡ false → occurrences x (replicate count word) ≡ 0
+unfolding occurrences
+occurrences-other x word zero e = refl
+occurrences-other x word (suc count) e = rw e (occurrences-other x word count e)

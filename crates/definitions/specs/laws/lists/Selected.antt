@@ -44,6 +44,14 @@ module _ {A : Type 0} (test : A → Bool) where
   select-none [] h = refl
   select-none (x ∷ l) h = select-past x l (h x (inl refl)) ∙ select-none l (λ y i. h y (inr i))
 
+  -- ---- the same where another test agrees
+
+  pub select-same : (other : A → Bool) (l : List A) → ((x : A) → isIn x l → test x ≡ other x)
+      → select test l ≡ select other l
+  unfolding select
+  select-same other [] h = refl
+  select-same other (x ∷ l) h = rw (h x (inl refl), select-same other l (λ y i. h y (inr i)))
+
   -- ---- which elements are left
 
   pub in-select : (x : A) (l : List A) → isIn x l → T (test x) → isIn x (select test l)

@@ -25,6 +25,7 @@ use Rattle.definitions.specs.laws.lists.Tests.{by-test}
 use Rattle.definitions.specs.laws.lists.Lists.{every-cons}
 use Rattle.definitions.specs.laws.text.LineFields.{allFit}
 use Rattle.definitions.specs.laws.text.Lines.{line-length}
+use Rattle.definitions.specs.declared.Fault.the-variants.{Chained}
 
 -- ---- the length of the input
 
@@ -65,6 +66,7 @@ fault-small Orphan = lit≤ tt
 fault-small Count = lit≤ tt
 fault-small Foreign = lit≤ tt
 fault-small Narrow = lit≤ tt
+fault-small Chained = lit≤ tt
 fault-small Long = lit≤ tt
 fault-small Choices = lit≤ tt
 fault-small Crowd = lit≤ tt

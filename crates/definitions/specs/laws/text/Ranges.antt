@@ -15,6 +15,8 @@ use Rattle.definitions.specs.Forms.{Range, Form, _‥_, formH, formQ, fo
 use Rattle.definitions.specs.Lines.{Line, formOf, inRanges, inFixedRanges}
 use Rattle.definitions.specs.BookLines.{BookLine, H, Q, N, L, R, bookLine, isPhone}
 use Rattle.definitions.specs.laws.lists.Tests.{T-and, between}
+use Rattle.definitions.specs.Forms.{formB}
+use Rattle.definitions.specs.BookLines.{B}
 
 in-range : (r : Range) (n : ℕ) → T (leb (r .lowest) n && leb n (r .highest)) → Within r n
 in-range r n h =
@@ -59,41 +61,44 @@ Ranged (H half states phones classes nodes) = HeaderRanges half states phones cl
 Ranged (Q class phone) = Within (1 ‥ 255) class × Within (1 ‥ 64) phone
 Ranged (N node class position yesNode noNode) = Within (1 ‥ 255) class
 Ranged (L node model) = Within (1 ‥ 65535) model
+Ranged (B boundary plain) = Within (2 ‥ 64) boundary × Within (1 ‥ 64) plain
 Ranged (R phone state root) = Within (1 ‥ 64) phone × Within (1 ‥ 3) state
 
--- one of the five tables, by its letter: h for H, and so on
-abbrev formBy : (h q n l r : Bool) → Option Form
-formBy h q n l r =
+-- one of the six tables, by its letter: h for H, and so on
+abbrev formBy : (h q n l b r : Bool) → Option Form
+formBy h q n l b r =
     if h then some formH else if q then some formQ else if n then some formN else
-    if l then some formL else if r then some formR else none
+    if l then some formL else if b then some formB else if r then some formR else none
 
-abbrev lineBy : (h q n l : Bool) → (numbers : List ℕ) → BookLine
-lineBy h q n l m =
+abbrev lineBy : (h q n l b : Bool) → (numbers : List ℕ) → BookLine
+lineBy h q n l b m =
     if h then H (m ! 0) (m ! 1) (m ! 2) (m ! 3) (m ! 4) else if q then Q (m ! 0) (m ! 1) else
     if n then N (m ! 0) (m ! 1) (m ! 2) (m ! 3) (m ! 4) else if l then L (m ! 0) (m ! 1) else
-    R (m ! 0) (m ! 1) (m ! 2)
+    if b then B (m ! 0) (m ! 1) else R (m ! 0) (m ! 1) (m ! 2)
 
-ranged-by : (h q n l r : Bool) (m : List ℕ)
-    → T (elim (formBy h q n l r) [ none ↦ false | some form ↦ inRanges (form .fields) m ])
-    → Ranged (lineBy h q n l m)
-ranged-by true q n l r m t = record {
+ranged-by : (h q n l b r : Bool) (m : List ℕ)
+    → T (elim (formBy h q n l b r) [ none ↦ false | some form ↦ inRanges (form .fields) m ])
+    → Ranged (lineBy h q n l b m)
+ranged-by true q n l b r m t = record {
   half-range = ranges-at (formH .fields) m t 0 (lit< tt);
   states-range = ranges-at (formH .fields) m t 1 (lit< tt);
   phones-range = ranges-at (formH .fields) m t 2 (lit< tt);
   classes-range = ranges-at (formH .fields) m t 3 (lit< tt);
   nodes-range = ranges-at (formH .fields) m t 4 (lit< tt);
 }
-ranged-by false true n l r m t =
+ranged-by false true n l b r m t =
     (ranges-at (formQ .fields) m t 0 (lit< tt), ranges-at (formQ .fields) m t 1 (lit< tt))
-ranged-by false false true l r m t = ranges-at (formN .fields) m t 1 (lit< tt)
-ranged-by false false false true r m t = ranges-at (formL .fields) m t 1 (lit< tt)
-ranged-by false false false false true m t =
+ranged-by false false true l b r m t = ranges-at (formN .fields) m t 1 (lit< tt)
+ranged-by false false false true b r m t = ranges-at (formL .fields) m t 1 (lit< tt)
+ranged-by false false false false true r m t =
+    (ranges-at (formB .fields) m t 0 (lit< tt), ranges-at (formB .fields) m t 1 (lit< tt))
+ranged-by false false false false false true m t =
     (ranges-at (formR .fields) m t 0 (lit< tt), ranges-at (formR .fields) m t 1 (lit< tt))
-ranged-by false false false false false m t = absurd t
+ranged-by false false false false false false m t = absurd t
 
 pub line-ranged : (line : Line) → T (inFixedRanges bookForms line) → Ranged (bookLine line)
 unfolding inFixedRanges formOf bookLine
-line-ranged line h = ranged-by (is "H") (is "Q") (is "N") (is "L") (is "R") (line .numbers) h
+line-ranged line h = ranged-by (is "H") (is "Q") (is "N") (is "L") (is "B") (is "R") (line .numbers) h
   where
     is : Char → Bool
     is letter = eqb (code letter) (line .letter)

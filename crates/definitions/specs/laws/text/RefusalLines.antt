@@ -32,6 +32,8 @@ use Rattle.definitions.specs.Connecting.{startEvents, arcInto, Built, ma
 use Rattle.definitions.specs.Building.{Space, roomIn, build}
 use Rattle.definitions.specs.BookBuilding.{buildRead, buildBook}
 use Rattle.definitions.specs.laws.lists.Records.{records-length}
+use Rattle.definitions.specs.BookLines.{boundariesOf}
+use Rattle.definitions.specs.BookReading.{judgeBook, isChained}
 
 -- a refusal, if it is one, has a line up to `most`
 abbrev RefusesUpTo : {A : Type 0} → (most : ℕ) → Outcome A → Type 0
@@ -134,10 +136,16 @@ names-lines lines = go (orphans (nodesOf lines) (rootNames (rootsOf lines)))
     go [] = tt
     go (node ∷ others) = omega (arith, line-within (isLineOf node) 1 lines)
 
+judged-lines : (lines : List BookLine) → RefusesUpTo (suc (length lines)) (judgeBook lines)
+unfolding judgeBook
+judged-lines lines =
+    judge-lines (suc (length lines)) (lineWhere (isChained (boundariesOf lines)) 1 lines) _ _
+    (omega (arith, line-within (isChained (boundariesOf lines)) 1 lines)) (names-lines lines)
+
 -- reading refuses at a line of the text, or at the one after the last
 book-lines : (lent : Lent) (text : List ℕ) → RefusesUpTo (suc (length text / 32)) (readBook lent text)
 unfolding readBook bookKind
-book-lines lent text = text-lines (bookKind lent) names-lines text
+book-lines lent text = text-lines (bookKind lent) judged-lines text
 
 -- ---- building, with line 0
 

@@ -7,7 +7,7 @@ use lib.Dec.{eqb}
 use Rattle.definitions.specs.declared.Fault.{Fault}
 use Rattle.definitions.specs.declared.Fault.the-variants.{Ragged, Misprint, Range, Order, Backward}
 use Rattle.definitions.specs.declared.Fault.the-variants.{Orphan, Count}
-use Rattle.definitions.specs.declared.Fault.the-variants.{Foreign, Narrow, Long, Choices, Crowd}
+use Rattle.definitions.specs.declared.Fault.the-variants.{Foreign, Narrow, Chained, Long, Choices, Crowd}
 use Rattle.definitions.specs.declared.Fault.the-variants.{Tangle, Short}
 use Rattle.definitions.specs.declared.Fault.the-variants.{Utterance, State}
 use Rattle.definitions.specs.declared.Refusal.{Refusal}
@@ -18,7 +18,7 @@ use Rattle.definitions.specs.Said.{Said, refusalSaid}
 -- the fault of a number
 abbrev faults : List Fault
 faults =
-    Ragged ∷ Misprint ∷ Range ∷ Order ∷ Backward ∷ Orphan ∷ Count ∷ Foreign ∷ Narrow ∷ Long ∷ Choices ∷ Crowd
+    Ragged ∷ Misprint ∷ Range ∷ Order ∷ Backward ∷ Orphan ∷ Count ∷ Foreign ∷ Narrow ∷ Chained ∷ Long ∷ Choices ∷ Crowd
     ∷ Tangle ∷ Short ∷ Utterance ∷ []
 
 unfoldable pub faultIn : List Fault → (number : ℕ) → Fault
@@ -48,6 +48,7 @@ refusal-told answers refuses nothing r = go (r .fault) (r .line)
     go Count line = refl
     go Foreign line = refl
     go Narrow line = refl
+    go Chained line = refl
     go Long line = refl
     go Choices line = refl
     go Crowd line = refl

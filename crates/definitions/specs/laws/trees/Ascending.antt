@@ -23,10 +23,10 @@ use Rattle.definitions.specs.laws.lists.Rising.{precedes-after, Rising, 
 use Rattle.definitions.specs.laws.lists.Rising.{rising-upFrom}
 use Rattle.definitions.specs.laws.books.Books.{accepted-orderly}
 use Rattle.definitions.specs.laws.trees.Walks.{Forward, by-node}
-use Rattle.definitions.specs.laws.books.Accepted.{accepted-sound}
 use Rattle.definitions.specs.laws.trees.Leaves.{of-insert, of-ascending}
 use Rattle.definitions.specs.laws.books.NamedOnce.{child-once, leavesUnder, leaves-once}
 use Rattle.definitions.specs.demand.Carrier.{Carrier, holdsSome, meetOf, topOf}
+use Rattle.definitions.specs.laws.books.TreesInForce.{accepted-sound}
 
 -- ---- the leaves of a tree
 

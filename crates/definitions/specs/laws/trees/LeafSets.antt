@@ -36,9 +36,8 @@ use Rattle.definitions.specs.BookReading.{ChildOnce}
 use Rattle.definitions.specs.laws.books.NamedOnce.{child-once}
 use Rattle.definitions.specs.laws.text.Judging.{pass-none, pass-more, judge-passing}
 use Rattle.definitions.specs.laws.books.Tables.{node-records-length}
-use Rattle.definitions.specs.laws.books.Accepted.{fitting-sound}
 use Rattle.definitions.specs.laws.books.AcceptedKnown.{KnownParts, tables-parts}
-use Rattle.definitions.specs.laws.books.KnownBooks.{Stated, known-stated, node-table-parts}
+use Rattle.definitions.specs.laws.books.KnownBooks.{Stated, stated-sound, known-stated, node-table-parts}
 use Rattle.definitions.specs.laws.books.KnownBooks.{class-table-parts}
 use Rattle.definitions.specs.laws.trees.Ascending.{leafBefore, leaves-ascend}
 use Rattle.definitions.specs.demand.Carrier.{Carrier, topOf, fits, Wide, top-wide, top-centre, fits-top}
@@ -210,8 +209,7 @@ module _ (header : Header) (tables : Tables) (known : T (tablesKnown header tabl
   sound : Sound book
   unfolding tablesBook
   sound =
-      let s = stated in
-      fitting-sound header (tablesContents header tables) (s .in-range) (s .heads) (s .nodes) (s .roots)
+      stated-sound header (tablesContents header tables) stated
 
   pub known-leaf-sets : (phone state : ℕ) → T (isPhone (header .phones) phone)
       → LeafSets (tablesBook header tables) phone state

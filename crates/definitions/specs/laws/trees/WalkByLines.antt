@@ -26,9 +26,10 @@ use Rattle.definitions.specs.laws.text.Ranges.{phone-range}
 use Rattle.definitions.specs.laws.trees.Walks.{walk-leaf, walk-question, by-node, either-node}
 use Rattle.definitions.specs.laws.books.Sound.{Sound}
 use Rattle.definitions.specs.laws.books.SaidLines.{nodes-few}
-use Rattle.definitions.specs.laws.books.Accepted.{accepted-question, accepted-sound}
-use Rattle.definitions.specs.laws.books.ByLines.{accepted-node-line, accepted-root-line}
+use Rattle.definitions.specs.laws.books.Accepted.{accepted-question}
+use Rattle.definitions.specs.laws.books.ByLines.{accepted-node-line}
 use Rattle.definitions.specs.laws.matrices.PhoneSets.{has-listed}
+use Rattle.definitions.specs.laws.books.TreesInForce.{accepted-root-line, accepted-sound}
 
 -- ---- classes
 
