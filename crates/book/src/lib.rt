@@ -20,3 +20,9 @@ enum Step {
     Next(State),
     Stop(Fault),
 }
+
+// What a line is sought by: a node whose N or L line it is, or a set that its plain phone is in.
+enum Sought {
+    Node(usize),
+    PlainIn(u64),
+}

@@ -1,5 +1,5 @@
-// Reading a tree book: its header, and its nodes, classes and roots in lent tables; or the refusal, and the
-// tables cleared.
+// Reading a tree book: its header, and its nodes, classes, roots and plain phones in lent tables; or the refusal, and
+// the tables cleared.
 use crate::Reading;
 use crate::Step;
 use crate::taking::finish;
@@ -21,15 +21,22 @@ ghost use Rattle.book.specs.Answers.{readingOf, readingSaid};
 ghost use Rattle.book.specs.Taking.{Cleared, ClearedFrom, Read};
 
 // Reads all lines into cleared tables. Where a line is refused, the tables hold what was read before it.
-fn read_lines(text: &[u8], nodes: &mut [u32], classes: &mut [u64], roots: &mut [u32]) -> Reading
-    requires { ⌜ Cleared (now nodes) (now classes) (now roots) ⌝ }
+fn read_lines(
+    text: &[u8],
+    nodes: &mut [u32],
+    classes: &mut [u64],
+    roots: &mut [u32],
+    plains: &mut [u32],
+) -> Reading
+    requires { ⌜ Cleared (now nodes) (now classes) (now roots) (now plains) ⌝ }
     ensures answer { λ r. ⌜
-        r ≡ readingOf (readBook (lengthsOf (now (nodes .entry)) (now (classes .entry)) (now (roots .entry)))
+        r ≡ readingOf (readBook
+        (lengthsOf (now (nodes .entry)) (now (classes .entry)) (now (roots .entry)) (now (plains .entry)))
         (now (text .entry)))
         ⌝ }
     ensures tables { λ r. ⌜
-        Read (lengthsOf (now (nodes .entry)) (now (classes .entry)) (now (roots .entry))) (now (text .entry))
-        (now (nodes .exit)) (now (classes .exit)) (now (roots .exit))
+        Read (lengthsOf (now (nodes .entry)) (now (classes .entry)) (now (roots .entry)) (now (plains .entry)))
+        (now (text .entry)) (now (nodes .exit)) (now (classes .exit)) (now (roots .exit)) (now (plains .exit))
         ⌝ }
 {
     if !whole_lines(text) {
@@ -44,7 +51,15 @@ fn read_lines(text: &[u8], nodes: &mut [u32], classes: &mut [u64], roots: &mut [
     while i < text.len() / 32 {
         let from = 32 * i;
         let end = from + 32;
-        let step = take_line(state, &text[from..end], nodes, classes, roots, &mut counts);
+        let step = take_line(
+            state,
+            &text[from..end],
+            nodes,
+            classes,
+            roots,
+            plains,
+            &mut counts,
+        );
         match step {
             Step::Next(next) => {
                 state = next;
@@ -58,40 +73,49 @@ fn read_lines(text: &[u8], nodes: &mut [u32], classes: &mut [u64], roots: &mut [
     finish(text, state, &counts)
 }
 
-// Clears the three tables.
-fn clear_tables(nodes: &mut [u32], classes: &mut [u64], roots: &mut [u32])
+// Clears the four tables.
+fn clear_tables(nodes: &mut [u32], classes: &mut [u64], roots: &mut [u32], plains: &mut [u32])
     ensures { λ r. ⌜
-        ClearedFrom (now (nodes .entry)) (now (classes .entry)) (now (roots .entry))
-        (now (nodes .exit)) (now (classes .exit)) (now (roots .exit))
+        ClearedFrom (now (nodes .entry)) (now (classes .entry)) (now (roots .entry)) (now (plains .entry))
+        (now (nodes .exit)) (now (classes .exit)) (now (roots .exit)) (now (plains .exit))
         ⌝ }
 {
     clear_words(nodes);
     clear_wide_words(classes);
     clear_words(roots);
+    clear_words(plains);
 }
 
 // Reads a tree book.
-pub fn read(text: &[u8], nodes: &mut [u32], classes: &mut [u64], roots: &mut [u32]) -> Reading
+pub fn read(
+    text: &[u8],
+    nodes: &mut [u32],
+    classes: &mut [u64],
+    roots: &mut [u32],
+    plains: &mut [u32],
+) -> Reading
     ensures answer { λ r. ⌜
-        readingSaid r ≡ saidOf headerOf noHeader
-        (readBook (lengthsOf (now (nodes .entry)) (now (classes .entry)) (now (roots .entry)))
+        readingSaid r ≡ saidOf headerOf noHeader (readBook
+        (lengthsOf (now (nodes .entry)) (now (classes .entry)) (now (roots .entry)) (now (plains .entry)))
         (now (text .entry)))
         ⌝ }
     ensures tables { λ r. ⌜
-        lentTables (now (nodes .exit)) (now (classes .exit)) (now (roots .exit))
-        ≡ tablesLeft (lengthsOf (now (nodes .entry)) (now (classes .entry)) (now (roots .entry)))
-        (readBook (lengthsOf (now (nodes .entry)) (now (classes .entry)) (now (roots .entry)))
+        lentTables (now (nodes .exit)) (now (classes .exit)) (now (roots .exit)) (now (plains .exit))
+        ≡ tablesLeft
+        (lengthsOf (now (nodes .entry)) (now (classes .entry)) (now (roots .entry)) (now (plains .entry)))
+        (readBook
+        (lengthsOf (now (nodes .entry)) (now (classes .entry)) (now (roots .entry)) (now (plains .entry)))
         (now (text .entry)))
         ⌝ }
 {
-    clear_tables(nodes, classes, roots);
-    let answer = read_lines(text, nodes, classes, roots);
+    clear_tables(nodes, classes, roots, plains);
+    let answer = read_lines(text, nodes, classes, roots, plains);
     match answer {
         Reading::Accepted(header) => {
             return Reading::Accepted(header);
         }
         Reading::Refused(refusal) => {
-            clear_tables(nodes, classes, roots);
+            clear_tables(nodes, classes, roots, plains);
             return Reading::Refused(refusal);
         }
     }

@@ -7,7 +7,7 @@ ghost use Rattle.definitions.specs.BookLines.{bookLine};
 ghost use Rattle.lines.specs.Rows.{lineIn, rowOf};
 ghost use Rattle.booklines.specs.Entries.{entryLine};
 
-// What a row says. A row of another letter than these five says what an R line says.
+// What a row says. A row of another letter than these six says what an R line says.
 pub fn entry_of(row: Row) -> Entry
     requires { ⌜ row ≡ rowOf (lineIn row) ⌝ }
     ensures { λ r. ⌜ entryLine r ≡ bookLine (lineIn row) ⌝ }
@@ -32,6 +32,9 @@ pub fn entry_of(row: Row) -> Entry
     }
     if letter == b'L' {
         return Entry::L(n[0], n[1]);
+    }
+    if letter == b'B' {
+        return Entry::B(n[0], n[1]);
     }
     Entry::R(n[0], n[1], n[2])
 }

@@ -3,6 +3,7 @@ use crate::Entry;
 use crate::Last;
 use crate::Lengths;
 use crate::State;
+use crate::leaving::may_leave_out;
 use definitions::Fault;
 use definitions::Header;
 use definitions::NODE_SIZE;
@@ -10,18 +11,18 @@ use definitions::wide;
 use lines::Letters;
 use lines::Row;
 use lines::Verdict;
+use lines::counting::root_place;
 use lines::ranges::in_fixed_ranges;
 ghost use mathlib.Core.Path.{_≡_};
-ghost use mathlib.Core.Bool.{_&&_};
-ghost use Prim.Native.Nat.{_+_, _/_, _%_, _≤_, _<_};
-ghost use lib.Dec.{T, eqb};
-ghost use Rattle.definitions.specs.BookLines.{N, R, headerIn};
+ghost use Prim.Native.Nat.{_≤_};
+ghost use lib.Dec.{T};
+ghost use Rattle.definitions.specs.BookLines.{N, B, R, headerIn, rootPlace};
 ghost use Rattle.definitions.specs.BookReading.{withinHeader, childrenGreater, wideEnough};
 ghost use Rattle.lines.specs.Judging.{verdictOf};
 ghost use Rattle.lines.specs.Rows.{lineIn};
 ghost use Rattle.booklines.specs.Entries.{entryLine, lentOf};
 ghost use Rattle.booklines.specs.States.{followsIn, inOrderIn, afterLastMember, testsIn, HasStates};
-ghost use Rattle.booklines.specs.States.{Countable};
+ghost use Rattle.booklines.specs.States.{leftOutIn};
 
 // 14 for the letter: whether a line of this letter may stand next.
 fn follows(s: State, entry: Entry) -> bool
@@ -37,6 +38,15 @@ fn follows(s: State, entry: Entry) -> bool
         }
         Entry::N(_, _, _, _, _) => s.nodes < s.header.nodes,
         Entry::L(_, _) => s.nodes < s.header.nodes,
+        Entry::B(_, _) => {
+            if s.lines == 0 {
+                return false;
+            }
+            if s.nodes != s.header.nodes {
+                return false;
+            }
+            s.next == 0
+        }
         Entry::R(_, _, _) => {
             if s.lines == 0 {
                 return false;
@@ -63,6 +73,16 @@ fn question_within(header: Header, node: u32, class: u32, position: u32, yes: u3
         return false;
     }
     no < header.nodes
+}
+
+// 13 for a boundary phone and its plain phone, by the header's counts.
+fn boundary_within(header: Header, boundary: u32, plain: u32) -> bool
+    ensures { λ r. ⌜ r ≡ withinHeader header (B boundary plain) ⌝ }
+{
+    if header.phones < boundary {
+        return false;
+    }
+    plain <= header.phones
 }
 
 // 13 for a root's numbers, by the header's counts.
@@ -99,6 +119,7 @@ fn within_header(header: Header, entry: Entry) -> bool
             no,
         ),
         Entry::L(node, _) => node < header.nodes,
+        Entry::B(boundary, plain) => boundary_within(header, boundary, plain),
         Entry::R(phone, state, root) => root_within(header, phone, state, root),
     }
 }
@@ -121,21 +142,18 @@ fn after_last(last: Last, class: u32, phone: u32) -> bool
     }
 }
 
-// Whether a root is the next by phone and state.
-fn next_root(roots: usize, states: u32, phone: u32, state: u32) -> bool
-    requires { ⌜ (1 ≤ states) × (roots < 18446744073709551615) ⌝ }
-    ensures { λ r. ⌜ r ≡ (eqb phone (roots / states + 1) && eqb state (roots % states + 1)) ⌝ }
+// Whether a root may stand next: between it and the last stand only boundary phones.
+fn root_in_order(s: State, phone: u32, state: u32) -> bool
+    requires { ⌜ 1 ≤ s .header .states ⌝ }
+    ensures { λ r. ⌜ r ≡ leftOutIn s (rootPlace (s .header .states) phone state) ⌝ }
 {
-    let states = wide(states);
-    if wide(phone) != roots / states + 1 {
-        return false;
-    }
-    wide(state) == roots % states + 1
+    let place = root_place(s.header.states, phone, state);
+    may_leave_out(s.boundaries, s.header.states, s.next, place)
 }
 
 // 14 for the numbers.
 fn in_order(s: State, entry: Entry) -> bool
-    requires { ⌜ HasStates s × Countable s × T (followsIn s (entryLine entry)) ⌝ }
+    requires { ⌜ HasStates s × T (followsIn s (entryLine entry)) ⌝ }
     ensures { λ r. ⌜ r ≡ inOrderIn s (entryLine entry) ⌝ }
 {
     let last = s.last;
@@ -144,7 +162,8 @@ fn in_order(s: State, entry: Entry) -> bool
         Entry::Q(class, phone) => after_last(last, class, phone),
         Entry::N(node, _, _, _, _) => node == s.nodes,
         Entry::L(node, _) => node == s.nodes,
-        Entry::R(phone, state, _) => next_root(s.roots, s.header.states, phone, state),
+        Entry::B(boundary, _) => s.after <= wide(boundary),
+        Entry::R(phone, state, _) => root_in_order(s, phone, state),
     }
 }
 
@@ -162,6 +181,7 @@ fn children_greater(entry: Entry) -> bool
         Entry::H(_) => true,
         Entry::Q(_, _) => true,
         Entry::L(_, _) => true,
+        Entry::B(_, _) => true,
         Entry::R(_, _, _) => true,
     }
 }
@@ -176,7 +196,10 @@ fn wide_enough(lengths: Lengths, header: Header) -> bool
     if lengths.classes < wide(header.classes) {
         return false;
     }
-    wide(header.phones) * wide(header.states) <= lengths.roots
+    if lengths.roots < wide(header.phones) * wide(header.states) {
+        return false;
+    }
+    wide(header.phones) <= lengths.plains
 }
 
 // 20 at the header's line.
@@ -188,13 +211,14 @@ fn tables_fit(lengths: Lengths, entry: Entry) -> bool
         Entry::Q(_, _) => true,
         Entry::N(_, _, _, _, _) => true,
         Entry::L(_, _) => true,
+        Entry::B(_, _) => true,
         Entry::R(_, _, _) => true,
     }
 }
 
 // The first test of a row and of what it says that fails.
 pub fn judge_line(s: State, lengths: Lengths, row: Row, entry: Entry) -> Verdict
-    requires { ⌜ HasStates s × Countable s ⌝ }
+    requires { ⌜ HasStates s ⌝ }
     ensures { λ r. ⌜ r ≡ verdictOf (testsIn (lentOf lengths) s (lineIn row) (entryLine entry)) ⌝ }
 {
     if !follows(s, entry) {

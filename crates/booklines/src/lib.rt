@@ -1,6 +1,7 @@
 // The lines of a tree book: what each says, its tests in order, and what is kept of those taken so far.
 pub mod entries;
 pub mod judging;
+mod leaving;
 pub mod states;
 
 use definitions::Header;
@@ -14,6 +15,8 @@ pub enum Entry {
     N(u32, u32, u32, u32, u32),
     // A node's number and its model.
     L(u32, u32),
+    // A boundary phone and its plain phone.
+    B(u32, u32),
     // A phone, a state and their root.
     R(u32, u32, u32),
 }
@@ -30,7 +33,13 @@ pub struct State {
     pub header: Header,
     pub last: Last,
     pub nodes: u32,
-    pub roots: usize,
+    // The lowest phone that the next B line may name.
+    pub after: usize,
+    // The set of the boundary phones, and that of their plain phones.
+    pub boundaries: u64,
+    pub plains: u64,
+    // The place after the last R line's.
+    pub next: usize,
 }
 
 // The lengths of the lent tables.
@@ -38,4 +47,5 @@ pub struct Lengths {
     pub nodes: usize,
     pub classes: usize,
     pub roots: usize,
+    pub plains: usize,
 }

@@ -10,7 +10,7 @@ use Rattle.definitions.specs.BookLines.{Q}
 use Rattle.definitions.specs.BookReading.{nodeSize}
 use Rattle.definitions.specs.Tables.{Contents, nodeOf, treeNode}
 use Rattle.definitions.specs.BookText.{bookLineFor, lineOfMember, membersFrom, lineOfNode, linesOfNodes}
-use Rattle.definitions.specs.BookText.{linesOfRoots, linesOfBook}
+use Rattle.definitions.specs.BookText.{lineOfBoundary, boundariesFrom, lineOfRoot, rootsListed, linesOfBook}
 use Rattle.tables.specs.Usable.{recordsFrom, treeNodes}
 
 -- the Q lines of a class with those of these phones that its set has
@@ -28,13 +28,17 @@ linesAt words node = bookLineFor (lineOfNode node (treeNode (nodeOf (drop (nodeS
 abbrev pub nodeLines : (nodes at : ℕ) → (words : List ℕ) → List Line
 nodeLines nodes at words = map bookLineFor (linesOfNodes at (map treeNode (recordsFrom nodes at words)))
 
+-- the B lines of the phones `phone`, phone+1, .. with these plain phones
+abbrev pub boundaryLines : (phone : ℕ) → (plains : List ℕ) → List Line
+boundaryLines phone plains = map (λ b. bookLineFor (lineOfBoundary b)) (boundariesFrom phone plains)
+
 -- the R lines of roots from a place on
 abbrev pub rootLines : (states at : ℕ) → (roots : List ℕ) → List Line
-rootLines states at roots = map bookLineFor (linesOfRoots states at roots)
+rootLines states at roots = map (λ r. bookLineFor (lineOfRoot r)) (rootsListed states at roots)
 
--- what a table of nodes holds, with classes that have these sets, and these roots
-abbrev pub contentsWith : Header → (nodes sets roots : List ℕ) → Contents
-contentsWith header nodes sets roots =
+-- what a table of nodes holds, with classes that have these sets, these roots and these plain phones
+abbrev pub contentsWith : Header → (nodes sets roots plains : List ℕ) → Contents
+contentsWith header nodes sets roots plains =
     record {
       half = header .half;
       states = header .states;
@@ -42,8 +46,9 @@ contentsWith header nodes sets roots =
       nodes = treeNodes header nodes;
       classes = sets;
       roots = roots;
+      plains = plains;
     }
 
-abbrev pub bookLines : Header → (nodes sets roots : List ℕ) → List Line
-bookLines header nodes sets roots =
-    map bookLineFor (linesOfBook header (contentsWith header nodes sets roots))
+abbrev pub bookLines : Header → (nodes sets roots plains : List ℕ) → List Line
+bookLines header nodes sets roots plains =
+    map bookLineFor (linesOfBook header (contentsWith header nodes sets roots plains))

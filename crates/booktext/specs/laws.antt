@@ -4,6 +4,7 @@ pub mod OneLine
 pub mod Putting
 pub mod ClassLines
 pub mod NodeLines
+pub mod BoundaryLines
 pub mod RootLines
 pub mod AllLines
 pub mod Texts

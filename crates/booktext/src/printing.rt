@@ -1,4 +1,5 @@
 // All lines of a book in tables.
+use crate::boundaries::put_boundaries;
 use crate::classes::put_classes;
 use crate::nodes::put_nodes;
 use crate::putting::put_line;
@@ -17,14 +18,16 @@ pub fn put_book(
     nodes: &[u32],
     sets: &[u64],
     roots: &[u32],
+    plains: &[u32],
     text: &mut [u8],
 ) -> usize
     requires { ⌜
         (1 ≤ header .states) × (length (now sets) ≤ mostNodes) × (length (now roots) ≤ mostNodes)
+        × (length (now plains) ≤ mostNodes)
         ⌝ }
     ensures { λ r. ⌜
-        Put (bookLines header (now (nodes .entry)) (now (sets .entry)) (now (roots .entry))) (now (text .entry)) 0
-        (now (text .exit)) r
+        Put (bookLines header (now (nodes .entry)) (now (sets .entry)) (now (roots .entry)) (now (plains .entry)))
+        (now (text .entry)) 0 (now (text .exit)) r
         ⌝ }
 {
     let row = Row {
@@ -41,5 +44,6 @@ pub fn put_book(
     let heading = put_line(row, text, 0);
     let members = put_classes(header.phones, sets, text, heading);
     let all_nodes = put_nodes(header.nodes, nodes, text, members);
-    put_roots(header.states, roots, text, all_nodes)
+    let boundaries = put_boundaries(plains, text, all_nodes);
+    put_roots(header.states, roots, text, boundaries)
 }

@@ -1,9 +1,8 @@
 -- The tables that a build was lent, which are cleared where it is refused.
 use Rattle.definitions.specs.Faults.{Outcome, answered, refused}
-use Rattle.definitions.specs.Tables.{Tables, noTables}
+use Rattle.definitions.specs.Tables.{Tables, lentOf, noTables}
 use Rattle.definitions.specs.Connecting.{Built}
-use Rattle.tables.specs.Lending.{lengthsOf}
 
 unfoldable pub tablesKept : Tables → Outcome Built → Tables
 tablesKept tables (answered built) = tables
-tablesKept tables (refused r) = noTables (lengthsOf (tables .nodes) (tables .classes) (tables .roots))
+tablesKept tables (refused r) = noTables (lentOf tables)

@@ -22,25 +22,29 @@ fn build_read(
     nodes: &mut [u32],
     classes: &mut [u64],
     roots: &mut [u32],
+    plains: &mut [u32],
     combinations: &mut [u64],
     metastates: &mut [u64],
     arcs: &mut [u32],
     limit: u32,
 ) -> Build
     ensures answer { λ r. ⌜
-        r ≡ buildAnswer header (lentTables (now (nodes .entry)) (now (classes .entry)) (now (roots .entry)))
+        r ≡ buildAnswer header
+        (lentTables (now (nodes .entry)) (now (classes .entry)) (now (roots .entry)) (now (plains .entry)))
         (lentSpace (now (combinations .entry)) (now (metastates .entry)) (now (arcs .entry))) limit
         ⌝ }
     ensures tables { λ r. ⌜
-        lentTables (now (nodes .exit)) (now (classes .exit)) (now (roots .exit))
-        ≡ tablesKept (lentTables (now (nodes .entry)) (now (classes .entry)) (now (roots .entry)))
+        lentTables (now (nodes .exit)) (now (classes .exit)) (now (roots .exit)) (now (plains .exit))
+        ≡ tablesKept
+        (lentTables (now (nodes .entry)) (now (classes .entry)) (now (roots .entry)) (now (plains .entry)))
         (build header
-        (lentTables (now (nodes .entry)) (now (classes .entry)) (now (roots .entry)))
+        (lentTables (now (nodes .entry)) (now (classes .entry)) (now (roots .entry)) (now (plains .entry)))
         (lentSpace (now (combinations .entry)) (now (metastates .entry)) (now (arcs .entry))) limit)
         ⌝ }
     ensures leaves { λ r. ⌜
         lentBuffers (now (combinations .exit)) (now (metastates .exit)) (now (arcs .exit))
-        ≡ buildLeft header (lentTables (now (nodes .entry)) (now (classes .entry)) (now (roots .entry)))
+        ≡ buildLeft header
+        (lentTables (now (nodes .entry)) (now (classes .entry)) (now (roots .entry)) (now (plains .entry)))
         (lentSpace (now (combinations .entry)) (now (metastates .entry)) (now (arcs .entry))) limit
         ⌝ }
 {
@@ -49,6 +53,7 @@ fn build_read(
         nodes,
         classes,
         roots,
+        plains,
         combinations,
         metastates,
         arcs,
@@ -65,6 +70,7 @@ fn build_read(
             clear_words(nodes);
             clear_wide_words(classes);
             clear_words(roots);
+            clear_words(plains);
             return Build::Refused(refusal);
         }
     }
@@ -76,6 +82,7 @@ pub fn build_book(
     nodes: &mut [u32],
     classes: &mut [u64],
     roots: &mut [u32],
+    plains: &mut [u32],
     combinations: &mut [u64],
     metastates: &mut [u64],
     arcs: &mut [u32],
@@ -83,32 +90,37 @@ pub fn build_book(
 ) -> Build
     ensures answer { λ r. ⌜
         buildSaid r ≡ saidOf bookProgress noProgress (buildBook
-        (lengthsOf (now (nodes .entry)) (now (classes .entry)) (now (roots .entry)))
+        (lengthsOf (now (nodes .entry)) (now (classes .entry)) (now (roots .entry)) (now (plains .entry)))
         (lentSpace (now (combinations .entry)) (now (metastates .entry)) (now (arcs .entry))) limit
         (now (text .entry)))
         ⌝ }
     ensures tables { λ r. ⌜
-        lentTables (now (nodes .exit)) (now (classes .exit)) (now (roots .exit))
-        ≡ tablesAfter (lengthsOf (now (nodes .entry)) (now (classes .entry)) (now (roots .entry)))
-        (buildBook (lengthsOf (now (nodes .entry)) (now (classes .entry)) (now (roots .entry)))
+        lentTables (now (nodes .exit)) (now (classes .exit)) (now (roots .exit)) (now (plains .exit))
+        ≡ tablesAfter
+        (lengthsOf (now (nodes .entry)) (now (classes .entry)) (now (roots .entry)) (now (plains .entry)))
+        (buildBook
+        (lengthsOf (now (nodes .entry)) (now (classes .entry)) (now (roots .entry)) (now (plains .entry)))
         (lentSpace (now (combinations .entry)) (now (metastates .entry)) (now (arcs .entry))) limit
         (now (text .entry)))
         ⌝ }
     ensures leaves { λ r. ⌜
         lentBuffers (now (combinations .exit)) (now (metastates .exit)) (now (arcs .exit))
-        ≡ buffersAfter (lengthsOf (now (nodes .entry)) (now (classes .entry)) (now (roots .entry)))
+        ≡ buffersAfter
+        (lengthsOf (now (nodes .entry)) (now (classes .entry)) (now (roots .entry)) (now (plains .entry)))
         (lentSpace (now (combinations .entry)) (now (metastates .entry)) (now (arcs .entry)))
-        (buildBook (lengthsOf (now (nodes .entry)) (now (classes .entry)) (now (roots .entry)))
+        (buildBook
+        (lengthsOf (now (nodes .entry)) (now (classes .entry)) (now (roots .entry)) (now (plains .entry)))
         (lentSpace (now (combinations .entry)) (now (metastates .entry)) (now (arcs .entry))) limit
         (now (text .entry)))
         ⌝ }
     ensures demand { λ r. ⌜
-        MeetsDemand3 (lengthsOf (now (nodes .entry)) (now (classes .entry)) (now (roots .entry)))
+        MeetsDemand3
+        (lengthsOf (now (nodes .entry)) (now (classes .entry)) (now (roots .entry)) (now (plains .entry)))
         (now (text .entry)) r (now (arcs .exit))
         ⌝ }
     ensures ending { λ r. ⌜ KeepsFinalLast r (now (arcs .exit)) ⌝ }
 {
-    let reading = read(text, nodes, classes, roots);
+    let reading = read(text, nodes, classes, roots, plains);
     match reading {
         Reading::Accepted(header) => {
             return build_read(
@@ -116,6 +128,7 @@ pub fn build_book(
                 nodes,
                 classes,
                 roots,
+                plains,
                 combinations,
                 metastates,
                 arcs,

@@ -15,6 +15,8 @@ use lines::clearing::clear_wide_words;
 use matrix::sets::all_phones;
 use matrix::sets::alone;
 use matrix::shaping::around;
+use tables::forcing::MOST_ROOTS;
+use tables::forcing::roots_in_force;
 use tables::foreign::tables_known;
 ghost use mathlib.Core.Path.{_≡_};
 ghost use lib.ListN.{length};
@@ -214,31 +216,38 @@ pub fn combine(
     nodes: &[u32],
     classes: &[u64],
     roots: &[u32],
+    plains: &[u32],
     space: &mut [u64],
 ) -> ByPhone
     ensures answer { λ r. ⌜
         combinedSaid (r .answer) ≡ saidOf length 0
-        (combine header (lentTables (now (nodes .entry)) (now (classes .entry)) (now (roots .entry)))
+        (combine header
+        (lentTables (now (nodes .entry)) (now (classes .entry)) (now (roots .entry)) (now (plains .entry)))
         (length (now (space .entry))))
         ⌝ }
     ensures ends { λ r. ⌜
         r .ends ≡ endsLeft
-        (tablesBook header (lentTables (now (nodes .entry)) (now (classes .entry)) (now (roots .entry))))
-        (combine header (lentTables (now (nodes .entry)) (now (classes .entry)) (now (roots .entry)))
+        (tablesBook header
+        (lentTables (now (nodes .entry)) (now (classes .entry)) (now (roots .entry)) (now (plains .entry))))
+        (combine header
+        (lentTables (now (nodes .entry)) (now (classes .entry)) (now (roots .entry)) (now (plains .entry)))
         (length (now (space .entry))))
         ⌝ }
     ensures leaves { λ r. ⌜
         now (space .exit) ≡ combinationSpace (header .half) (length (now (space .entry)))
-        (combine header (lentTables (now (nodes .entry)) (now (classes .entry)) (now (roots .entry)))
+        (combine header
+        (lentTables (now (nodes .entry)) (now (classes .entry)) (now (roots .entry)) (now (plains .entry)))
         (length (now (space .entry))))
         ⌝ }
 {
     clear_wide_words(space);
-    if !tables_known(header, nodes, classes, roots) {
+    if !tables_known(header, nodes, classes, roots, plains) {
         return no_combinations(Fault::Foreign);
     }
+    let mut forced = [0u32; MOST_ROOTS];
+    roots_in_force(header, roots, plains, &mut forced);
     let mut ends = [0u32; 65];
-    let adding = choose_all(header, nodes, classes, roots, space, &mut ends);
+    let adding = choose_all(header, nodes, classes, &forced, space, &mut ends);
     match adding {
         Adding::Count(count) => {
             let answer = Combined::Combinations(count);

@@ -26,13 +26,13 @@ fn print_totals(word: &[u8], totals: Totals) {
 }
 
 // The answer of a build in words, and whether a refusal left the tables cleared.
-fn print_build(answer: Build, nodes: &[u32], classes: &[u64], roots: &[u32]) {
+fn print_build(answer: Build, nodes: &[u32], classes: &[u64], roots: &[u32], plains: &[u32]) {
     match answer {
         Build::Finished(totals) => print_totals(b" finished after", totals),
         Build::Stopped(totals) => print_totals(b" stopped after", totals),
         Build::Refused(refusal) => {
             print_refusal(refusal);
-            print_cleared(nodes, classes, roots);
+            print_cleared(nodes, classes, roots, plains);
         }
     }
 }
@@ -88,6 +88,7 @@ fn show_build(
     let mut nodes = [7u32; 52];
     let mut classes = [7u64; 3];
     let mut roots = [7u32; 7];
+    let mut plains = [7u32; 5];
     print(b"  space for");
     print_number((combinations.len() / 11) as u64);
     print_number((metastates.len() / 8) as u64);
@@ -100,12 +101,13 @@ fn show_build(
         &mut nodes,
         &mut classes,
         &mut roots,
+        &mut plains,
         combinations,
         metastates,
         arcs,
         limit,
     );
-    print_build(answer, &nodes, &classes, &roots);
+    print_build(answer, &nodes, &classes, &roots, &plains);
     print_space(combinations, metastates, arcs);
     answer
 }

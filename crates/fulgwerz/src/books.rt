@@ -24,20 +24,22 @@ pub extern "C" fn fulgwerz_read(
     nodes: &mut [u32],
     classes: &mut [u64],
     roots: &mut [u32],
+    plains: &mut [u32],
 ) -> ReadAnswer
     ensures answer { λ r. ⌜
         r ≡ readAnswer (saidOf headerOf noHeader
-        (readBook (lengthsOf (now (nodes .entry)) (now (classes .entry)) (now (roots .entry)))
+        (readBook (lengthsOf (now (nodes .entry)) (now (classes .entry)) (now (roots .entry)) (now (plains .entry)))
         (now (text .entry))))
         ⌝ }
     ensures tables { λ r. ⌜
-        lentTables (now (nodes .exit)) (now (classes .exit)) (now (roots .exit))
-        ≡ tablesLeft (lengthsOf (now (nodes .entry)) (now (classes .entry)) (now (roots .entry)))
-        (readBook (lengthsOf (now (nodes .entry)) (now (classes .entry)) (now (roots .entry)))
+        lentTables (now (nodes .exit)) (now (classes .exit)) (now (roots .exit)) (now (plains .exit))
+        ≡ tablesLeft
+        (lengthsOf (now (nodes .entry)) (now (classes .entry)) (now (roots .entry)) (now (plains .entry)))
+        (readBook (lengthsOf (now (nodes .entry)) (now (classes .entry)) (now (roots .entry)) (now (plains .entry)))
         (now (text .entry)))
         ⌝ }
 {
-    read_answer(read(text, nodes, classes, roots))
+    read_answer(read(text, nodes, classes, roots, plains))
 }
 
 // Writes the plain form of lent tables, and counts its bytes.
@@ -47,17 +49,19 @@ pub extern "C" fn fulgwerz_write_book(
     nodes: &[u32],
     classes: &[u64],
     roots: &[u32],
+    plains: &[u32],
     text: &mut [u8],
 ) -> CountAnswer
     ensures answer { λ r. ⌜
         r ≡ countAnswer (saidOf length 0 (writePlain header
-        (lentTables (now (nodes .entry)) (now (classes .entry)) (now (roots .entry)))
+        (lentTables (now (nodes .entry)) (now (classes .entry)) (now (roots .entry)) (now (plains .entry)))
         (length (now (text .entry)))))
         ⌝ }
     ensures leaves { λ r. ⌜
         now (text .exit) ≡ answerLeft (length (now (text .entry))) (writePlain header
-        (lentTables (now (nodes .entry)) (now (classes .entry)) (now (roots .entry))) (length (now (text .entry))))
+        (lentTables (now (nodes .entry)) (now (classes .entry)) (now (roots .entry)) (now (plains .entry)))
+        (length (now (text .entry))))
         ⌝ }
 {
-    bytes_answer(write(header, nodes, classes, roots, text))
+    bytes_answer(write(header, nodes, classes, roots, plains, text))
 }

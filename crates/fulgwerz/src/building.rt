@@ -24,20 +24,23 @@ pub extern "C" fn fulgwerz_combine(
     nodes: &[u32],
     classes: &[u64],
     roots: &[u32],
+    plains: &[u32],
     combinations: &mut [u64],
 ) -> CountAnswer
     ensures answer { λ r. ⌜
         r ≡ countAnswer (saidOf length 0
-        (combine header (lentTables (now (nodes .entry)) (now (classes .entry)) (now (roots .entry)))
+        (combine header
+        (lentTables (now (nodes .entry)) (now (classes .entry)) (now (roots .entry)) (now (plains .entry)))
         (length (now (combinations .entry)))))
         ⌝ }
     ensures leaves { λ r. ⌜
         now (combinations .exit) ≡ combinationSpace (header .half) (length (now (combinations .entry)))
-        (combine header (lentTables (now (nodes .entry)) (now (classes .entry)) (now (roots .entry)))
+        (combine header
+        (lentTables (now (nodes .entry)) (now (classes .entry)) (now (roots .entry)) (now (plains .entry)))
         (length (now (combinations .entry))))
         ⌝ }
 {
-    let by_phone = combine(header, nodes, classes, roots, combinations);
+    let by_phone = combine(header, nodes, classes, roots, plains, combinations);
     let answer = by_phone.answer;
     combinations_answer(answer)
 }
@@ -49,6 +52,7 @@ pub extern "C" fn fulgwerz_build(
     nodes: &[u32],
     classes: &[u64],
     roots: &[u32],
+    plains: &[u32],
     combinations: &mut [u64],
     metastates: &mut [u64],
     arcs: &mut [u32],
@@ -56,12 +60,14 @@ pub extern "C" fn fulgwerz_build(
 ) -> BuildAnswer
     ensures answer { λ r. ⌜
         r ≡ buildAnswer (saidOf (progressOf (header .states)) noProgress
-        (build header (lentTables (now (nodes .entry)) (now (classes .entry)) (now (roots .entry)))
+        (build header
+        (lentTables (now (nodes .entry)) (now (classes .entry)) (now (roots .entry)) (now (plains .entry)))
         (lentSpace (now (combinations .entry)) (now (metastates .entry)) (now (arcs .entry))) limit))
         ⌝ }
     ensures leaves { λ r. ⌜
         lentBuffers (now (combinations .exit)) (now (metastates .exit)) (now (arcs .exit))
-        ≡ buildLeft header (lentTables (now (nodes .entry)) (now (classes .entry)) (now (roots .entry)))
+        ≡ buildLeft header
+        (lentTables (now (nodes .entry)) (now (classes .entry)) (now (roots .entry)) (now (plains .entry)))
         (lentSpace (now (combinations .entry)) (now (metastates .entry)) (now (arcs .entry))) limit
         ⌝ }
 {
@@ -70,6 +76,7 @@ pub extern "C" fn fulgwerz_build(
         nodes,
         classes,
         roots,
+        plains,
         combinations,
         metastates,
         arcs,
@@ -84,6 +91,7 @@ pub extern "C" fn fulgwerz_build_book(
     nodes: &mut [u32],
     classes: &mut [u64],
     roots: &mut [u32],
+    plains: &mut [u32],
     combinations: &mut [u64],
     metastates: &mut [u64],
     arcs: &mut [u32],
@@ -91,27 +99,32 @@ pub extern "C" fn fulgwerz_build_book(
 ) -> BuildAnswer
     ensures answer { λ r. ⌜
         r ≡ buildAnswer (saidOf bookProgress noProgress (buildBook
-        (lengthsOf (now (nodes .entry)) (now (classes .entry)) (now (roots .entry)))
+        (lengthsOf (now (nodes .entry)) (now (classes .entry)) (now (roots .entry)) (now (plains .entry)))
         (lentSpace (now (combinations .entry)) (now (metastates .entry)) (now (arcs .entry))) limit
         (now (text .entry))))
         ⌝ }
     ensures tables { λ r. ⌜
-        lentTables (now (nodes .exit)) (now (classes .exit)) (now (roots .exit))
-        ≡ tablesAfter (lengthsOf (now (nodes .entry)) (now (classes .entry)) (now (roots .entry)))
-        (buildBook (lengthsOf (now (nodes .entry)) (now (classes .entry)) (now (roots .entry)))
+        lentTables (now (nodes .exit)) (now (classes .exit)) (now (roots .exit)) (now (plains .exit))
+        ≡ tablesAfter
+        (lengthsOf (now (nodes .entry)) (now (classes .entry)) (now (roots .entry)) (now (plains .entry)))
+        (buildBook
+        (lengthsOf (now (nodes .entry)) (now (classes .entry)) (now (roots .entry)) (now (plains .entry)))
         (lentSpace (now (combinations .entry)) (now (metastates .entry)) (now (arcs .entry))) limit
         (now (text .entry)))
         ⌝ }
     ensures leaves { λ r. ⌜
         lentBuffers (now (combinations .exit)) (now (metastates .exit)) (now (arcs .exit))
-        ≡ buffersAfter (lengthsOf (now (nodes .entry)) (now (classes .entry)) (now (roots .entry)))
+        ≡ buffersAfter
+        (lengthsOf (now (nodes .entry)) (now (classes .entry)) (now (roots .entry)) (now (plains .entry)))
         (lentSpace (now (combinations .entry)) (now (metastates .entry)) (now (arcs .entry)))
-        (buildBook (lengthsOf (now (nodes .entry)) (now (classes .entry)) (now (roots .entry)))
+        (buildBook
+        (lengthsOf (now (nodes .entry)) (now (classes .entry)) (now (roots .entry)) (now (plains .entry)))
         (lentSpace (now (combinations .entry)) (now (metastates .entry)) (now (arcs .entry))) limit
         (now (text .entry)))
         ⌝ }
     ensures demand { λ r. ⌜
-        MeetsDemand3 (lengthsOf (now (nodes .entry)) (now (classes .entry)) (now (roots .entry)))
+        MeetsDemand3
+        (lengthsOf (now (nodes .entry)) (now (classes .entry)) (now (roots .entry)) (now (plains .entry)))
         (now (text .entry)) r (now (arcs .exit))
         ⌝ }
     ensures ending { λ r. ⌜ KeepsFinalLast r (now (arcs .exit)) ⌝ }
@@ -121,6 +134,7 @@ pub extern "C" fn fulgwerz_build_book(
         nodes,
         classes,
         roots,
+        plains,
         combinations,
         metastates,
         arcs,

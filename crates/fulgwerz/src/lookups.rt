@@ -58,19 +58,22 @@ pub extern "C" fn fulgwerz_transcribe(
     nodes: &[u32],
     classes: &[u64],
     roots: &[u32],
+    plains: &[u32],
     phones: &[u32],
     models: &mut [u32],
 ) -> CountAnswer
     ensures answer { λ r. ⌜
         r ≡ countAnswer (saidOf length 0 (transcribe header
-        (lentTables (now (nodes .entry)) (now (classes .entry)) (now (roots .entry))) (now (phones .entry))
+        (lentTables (now (nodes .entry)) (now (classes .entry)) (now (roots .entry)) (now (plains .entry)))
+        (now (phones .entry))
         (length (now (models .entry)))))
         ⌝ }
     ensures leaves { λ r. ⌜
         now (models .exit) ≡ answerLeft (length (now (models .entry))) (transcribe header
-        (lentTables (now (nodes .entry)) (now (classes .entry)) (now (roots .entry))) (now (phones .entry))
+        (lentTables (now (nodes .entry)) (now (classes .entry)) (now (roots .entry)) (now (plains .entry)))
+        (now (phones .entry))
         (length (now (models .entry))))
         ⌝ }
 {
-    models_answer(transcribe(header, nodes, classes, roots, phones, models))
+    models_answer(transcribe(header, nodes, classes, roots, plains, phones, models))
 }

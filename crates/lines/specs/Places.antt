@@ -14,7 +14,7 @@ allForms = bookForms ++ networkForms
 
 -- how many there are
 abbrev pub formCount : ℕ
-formCount = 7
+formCount = 8
 
 unfoldable pub formIn : List Form → (place : ℕ) → Option Form
 formIn [] place = none

@@ -1,6 +1,6 @@
-// Lent buffers set to 0: "every word of every output buffer 0".
+// Lent buffers set to 0, "every word of every output buffer 0"; or to one word.
 ghost use mathlib.Core.Path.{_≡_};
-ghost use lib.ListN.{length};
+ghost use lib.ListN.{length, replicate};
 ghost use Rattle.definitions.specs.Lists.{cleared};
 
 pub fn clear_bytes(bytes: &mut [u8])
@@ -16,9 +16,16 @@ pub fn clear_bytes(bytes: &mut [u8])
 pub fn clear_words(words: &mut [u32])
     ensures { λ r. ⌜ now (words .exit) ≡ cleared (length (now (words .entry))) ⌝ }
 {
+    fill_words(words, 0);
+}
+
+// All words set to one value.
+pub fn fill_words(words: &mut [u32], word: u32)
+    ensures { λ r. ⌜ now (words .exit) ≡ replicate (length (now (words .entry))) word ⌝ }
+{
     let mut i = 0;
     while i < words.len() {
-        words[i] = 0;
+        words[i] = word;
         i += 1;
     }
 }

@@ -13,7 +13,7 @@ ghost use Rattle.lines.specs.Rows.{formsOf};
 struct Range(u32, u32);
 
 // How many letters the table has.
-const FORM_COUNT: usize = 7;
+const FORM_COUNT: usize = 8;
 
 // The place of a letter that the table does not have.
 pub const NO_LETTER: usize = FORM_COUNT;
@@ -65,6 +65,12 @@ const FORMS: [Form; FORM_COUNT] = [
         used: 2,
         ranges: [Range(0, 4095), Range(1, 65535), UNUSED, UNUSED, UNUSED],
     },
+    // boundary phone, plain phone
+    Form {
+        letter: b'B',
+        used: 2,
+        ranges: [Range(2, 64), Range(1, 64), UNUSED, UNUSED, UNUSED],
+    },
     // phone, state, root node
     Form {
         letter: b'R',
@@ -107,9 +113,9 @@ fn block_of(letters: Letters) -> Block
     ensures { λ r. ⌜ Placed letters (r .from) (r .end) ⌝ }
 {
     match letters {
-        Letters::Book => Block { from: 0, end: 5 },
+        Letters::Book => Block { from: 0, end: 6 },
         Letters::Network => Block {
-            from: 5,
+            from: 6,
             end: FORM_COUNT,
         },
     }

@@ -1,6 +1,7 @@
-// The line of 32 bytes that tree books and network text share, read by the table of its letter; and the clearing of
-// lent buffers.
+// The line of 32 bytes that tree books and network text share, read by the table of its letter; the clearing of lent
+// buffers; and places of what is counted from 1.
 pub mod clearing;
+pub mod counting;
 mod fields;
 mod forms;
 pub mod parsing;

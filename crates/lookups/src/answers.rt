@@ -9,7 +9,7 @@ use trees::Lookup;
 use trees::Transcript;
 
 // Whether a refusal left the tables cleared.
-pub fn print_cleared(nodes: &[u32], classes: &[u64], roots: &[u32]) {
+pub fn print_cleared(nodes: &[u32], classes: &[u64], roots: &[u32], plains: &[u32]) {
     if used_words(nodes) == 0 {
         print(b", nodes");
     }
@@ -18,6 +18,9 @@ pub fn print_cleared(nodes: &[u32], classes: &[u64], roots: &[u32]) {
     }
     if used_words(roots) == 0 {
         print(b", roots");
+    }
+    if used_words(plains) == 0 {
+        print(b", plain phones");
     }
     print(b" cleared\n");
 }

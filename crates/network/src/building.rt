@@ -75,6 +75,7 @@ pub fn build(
     nodes: &[u32],
     classes: &[u64],
     roots: &[u32],
+    plains: &[u32],
     combinations: &mut [u64],
     metastates: &mut [u64],
     arcs: &mut [u32],
@@ -82,18 +83,20 @@ pub fn build(
 ) -> Build
     ensures answer { λ r. ⌜
         buildSaid r ≡ saidOf (progressOf (header .states)) noProgress
-        (build header (lentTables (now (nodes .entry)) (now (classes .entry)) (now (roots .entry)))
+        (build header
+        (lentTables (now (nodes .entry)) (now (classes .entry)) (now (roots .entry)) (now (plains .entry)))
         (lentSpace (now (combinations .entry)) (now (metastates .entry)) (now (arcs .entry))) limit)
         ⌝ }
     ensures leaves { λ r. ⌜
         lentBuffers (now (combinations .exit)) (now (metastates .exit)) (now (arcs .exit))
-        ≡ buildLeft header (lentTables (now (nodes .entry)) (now (classes .entry)) (now (roots .entry)))
+        ≡ buildLeft header
+        (lentTables (now (nodes .entry)) (now (classes .entry)) (now (roots .entry)) (now (plains .entry)))
         (lentSpace (now (combinations .entry)) (now (metastates .entry)) (now (arcs .entry))) limit
         ⌝ }
 {
     clear_wide_words(metastates);
     clear_words(arcs);
-    let by_phone = combine(header, nodes, classes, roots, combinations);
+    let by_phone = combine(header, nodes, classes, roots, plains, combinations);
     let answer = by_phone.answer;
     let ends = by_phone.ends;
     match answer {

@@ -1,15 +1,16 @@
 // The sets that trees ask for, each once, in the order of their first use.
 use crate::sets::place_of;
 use definitions::Header;
+use definitions::NO_ROOT;
 use tables::classes::set_of;
 use tables::records::node_at;
 ghost use mathlib.Core.List.{[], _∷_};
 ghost use Prim.Native.Nat.{_+_, _-_, _≤_, _<_};
 ghost use lib.ListN.{length};
-ghost use Rattle.definitions.specs.Lists.{_!_, concatMap};
+ghost use Rattle.definitions.specs.Lists.{_!_};
 ghost use Rattle.definitions.specs.PlainForm.{setsIn};
 ghost use Rattle.plainform.specs.Collecting.{Collected};
-ghost use Rattle.plainform.specs.LentTrees.{treeIn, treesIn, KnownNode, KnownRoots};
+ghost use Rattle.plainform.specs.LentTrees.{treeIn, usesIn, KnownNode, KnownRoots};
 
 // Notes the set of a class after those that were noted, unless it is one of them. Answers how many are noted.
 fn note_set(classes: &[u64], class: u32, sets: &mut [u64], used: usize) -> usize
@@ -54,6 +55,30 @@ fn collect(
     collect(header, nodes, classes, record.no, sets, left)
 }
 
+// Notes the sets that the tree at a root asks for, if there is one.
+fn collect_root(
+    header: Header,
+    nodes: &[u32],
+    classes: &[u64],
+    root: u32,
+    sets: &mut [u64],
+    used: usize,
+) -> usize
+    requires { ⌜
+        KnownRoots header (now nodes) (root ∷ [])
+        × (used + length (usesIn header (now nodes) (now classes) (root ∷ [])) ≤ length (now sets))
+        ⌝ }
+    ensures { λ r. ⌜
+        Collected (now (sets .entry)) used (usesIn header (now (nodes .entry)) (now (classes .entry)) (root ∷ [])) r
+        (now (sets .exit))
+        ⌝ }
+{
+    if root == NO_ROOT {
+        return used;
+    }
+    collect(header, nodes, classes, root, sets, used)
+}
+
 // Notes the sets that the trees at these roots ask for. Answers how many there are.
 pub fn collect_all(
     header: Header,
@@ -64,18 +89,17 @@ pub fn collect_all(
 ) -> usize
     requires { ⌜
         KnownRoots header (now nodes) (now roots)
-        × (length (concatMap setsIn (treesIn header (now nodes) (now classes) (now roots))) ≤ length (now sets))
+        × (length (usesIn header (now nodes) (now classes) (now roots)) ≤ length (now sets))
         ⌝ }
     ensures { λ r. ⌜
         Collected (now (sets .entry)) 0
-        (concatMap setsIn (treesIn header (now (nodes .entry)) (now (classes .entry)) (now (roots .entry))))
-        r (now (sets .exit))
+        (usesIn header (now (nodes .entry)) (now (classes .entry)) (now (roots .entry))) r (now (sets .exit))
         ⌝ }
 {
     let mut used = 0;
     let mut i = 0;
     while i < roots.len() {
-        used = collect(header, nodes, classes, roots[i], sets, used);
+        used = collect_root(header, nodes, classes, roots[i], sets, used);
         i += 1;
     }
     used

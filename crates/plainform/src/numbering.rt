@@ -1,17 +1,19 @@
 // Trees numbered anew, depth first and yes before no: their node records and roots, put into tables.
 use crate::sets::class_among;
 use definitions::Header;
+use definitions::NO_ROOT;
 use tables::records::leaf_node;
 use tables::records::node_at;
 use tables::records::put_node;
 use tables::records::question_node;
+ghost use mathlib.Core.List.{[], _∷_};
 ghost use mathlib.Core.Path.{_≡_};
 ghost use Prim.Native.Nat.{_≤_};
 ghost use lib.ListN.{length};
 ghost use Rattle.definitions.specs.PlainForm.{sizeOf, allNodes, rootsFrom};
 ghost use Rattle.lines.specs.Putting.{putAt};
-ghost use Rattle.plainform.specs.LentTrees.{treeIn, treesIn, KnownNode, KnownRoots};
-ghost use Rattle.plainform.specs.Numbering.{allWords, Numberable, Numbered};
+ghost use Rattle.plainform.specs.LentTrees.{treeIn, treesIn, thereIn, KnownNode, KnownRoots};
+ghost use Rattle.plainform.specs.Numbering.{allWords, startOf, Numberable, Numbered, NumberedTrees};
 
 // Puts the records of the tree at a node into a table, its root as number `at`, where the classes have these sets.
 // Answers the number after the last. Children are greater than their node, so the node count minus the node falls
@@ -49,6 +51,42 @@ fn number(
     number(header, nodes, classes, record.no, sets, table, middle)
 }
 
+// Puts the records of the tree at a root, if there is one, as `number` does.
+fn number_root(
+    header: Header,
+    nodes: &[u32],
+    classes: &[u64],
+    root: u32,
+    sets: &[u64],
+    table: &mut [u32],
+    at: u32,
+) -> u32
+    requires { ⌜
+        KnownRoots header (now nodes) (root ∷ [])
+        × Numberable (now sets) at
+        (length (allNodes (now sets) at (thereIn header (now nodes) (now classes) (root ∷ [])))) (now table)
+        ⌝ }
+    ensures { λ r. ⌜
+        NumberedTrees (now (sets .entry)) at (thereIn header (now (nodes .entry)) (now (classes .entry)) (root ∷ []))
+        (now (table .entry)) r (now (table .exit))
+        ⌝ }
+{
+    if root == NO_ROOT {
+        return at;
+    }
+    number(header, nodes, classes, root, sets, table, at)
+}
+
+// The new root for a root, where the next node has number `at`.
+fn start_of(root: u32, at: u32) -> u32
+    ensures { λ r. ⌜ r ≡ startOf root at ⌝ }
+{
+    if root == NO_ROOT {
+        return NO_ROOT;
+    }
+    at
+}
+
 // Puts the records of the trees at these roots into a table, one tree after the other, and their new roots into
 // another.
 pub fn number_all(
@@ -63,13 +101,13 @@ pub fn number_all(
     requires { ⌜
         KnownRoots header (now nodes) (now roots)
         × Numberable (now sets) 0
-        (length (allNodes (now sets) 0 (treesIn header (now nodes) (now classes) (now roots)))) (now table)
+        (length (allNodes (now sets) 0 (thereIn header (now nodes) (now classes) (now roots)))) (now table)
         × (length (now roots) ≤ length (now starts))
         ⌝ }
     ensures table { λ r. ⌜
         now (table .exit) ≡ putAt 0
         (allWords (now (sets .entry)) 0
-        (treesIn header (now (nodes .entry)) (now (classes .entry)) (now (roots .entry))))
+        (thereIn header (now (nodes .entry)) (now (classes .entry)) (now (roots .entry))))
         (now (table .entry))
         ⌝ }
     ensures starts { λ r. ⌜
@@ -81,8 +119,8 @@ pub fn number_all(
     let mut at = 0;
     let mut i = 0;
     while i < roots.len() {
-        starts[i] = at;
-        at = number(header, nodes, classes, roots[i], sets, table, at);
+        starts[i] = start_of(roots[i], at);
+        at = number_root(header, nodes, classes, roots[i], sets, table, at);
         i += 1;
     }
 }

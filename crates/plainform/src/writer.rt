@@ -36,30 +36,27 @@ fn put_plain(
     nodes: &[u32],
     classes: &[u64],
     roots: &[u32],
+    plains: &[u32],
     text: &mut [u8],
 ) -> usize
-    requires { ⌜ tablesKnown header (lentTables (now nodes) (now classes) (now roots)) ≡ true ⌝ }
+    requires { ⌜ tablesKnown header (lentTables (now nodes) (now classes) (now roots) (now plains)) ≡ true ⌝ }
     ensures { λ r. ⌜
         Put (map bookLineFor (plainLines (tablesContents header
-        (lentTables (now (nodes .entry)) (now (classes .entry)) (now (roots .entry))))))
+        (lentTables (now (nodes .entry)) (now (classes .entry)) (now (roots .entry)) (now (plains .entry))))))
         (now (text .entry)) 0 (now (text .exit)) r
         ⌝ }
 {
     let held = wide(header.classes);
-    let many = wide(header.phones) * wide(header.states);
+    let phones = wide(header.phones);
+    let many = phones * wide(header.states);
+    let kept = &classes[..held];
+    let given = &roots[..many];
     let mut sets = [0u64; MOST_NODES];
-    let used = collect_all(header, nodes, &classes[..held], &roots[..many], &mut sets);
+    let used = collect_all(header, nodes, kept, given, &mut sets);
+    let own = &sets[..used];
     let mut table = [0u32; NODE_WORDS];
     let mut starts = [0u32; ROOT_WORDS];
-    number_all(
-        header,
-        nodes,
-        &classes[..held],
-        &roots[..many],
-        &sets[..used],
-        &mut table,
-        &mut starts,
-    );
+    number_all(header, nodes, kept, given, own, &mut table, &mut starts);
     let plain = Header {
         half: header.half,
         states: header.states,
@@ -67,7 +64,7 @@ fn put_plain(
         classes: used as u32,
         nodes: header.nodes,
     };
-    put_book(plain, &table, &sets[..used], &starts[..many], text)
+    put_book(plain, &table, own, &starts[..many], &plains[..phones], text)
 }
 
 // Writes the plain form of lent tables, and 0 in the rest of the buffer.
@@ -76,22 +73,25 @@ pub fn write(
     nodes: &[u32],
     classes: &[u64],
     roots: &[u32],
+    plains: &[u32],
     text: &mut [u8],
 ) -> Written
     ensures answer { λ r. ⌜
         writtenSaid r ≡ saidOf length 0 (writePlain header
-        (lentTables (now (nodes .entry)) (now (classes .entry)) (now (roots .entry))) (length (now (text .entry))))
+        (lentTables (now (nodes .entry)) (now (classes .entry)) (now (roots .entry)) (now (plains .entry)))
+        (length (now (text .entry))))
         ⌝ }
     ensures leaves { λ r. ⌜
         now (text .exit) ≡ answerLeft (length (now (text .entry))) (writePlain header
-        (lentTables (now (nodes .entry)) (now (classes .entry)) (now (roots .entry))) (length (now (text .entry))))
+        (lentTables (now (nodes .entry)) (now (classes .entry)) (now (roots .entry)) (now (plains .entry)))
+        (length (now (text .entry))))
         ⌝ }
 {
     clear_bytes(text);
-    if !tables_known(header, nodes, classes, roots) {
+    if !tables_known(header, nodes, classes, roots, plains) {
         return not_written(Fault::Foreign);
     }
-    let count = put_plain(header, nodes, classes, roots, text);
+    let count = put_plain(header, nodes, classes, roots, plains, text);
     if text.len() / 32 < count {
         clear_bytes(text);
         return not_written(Fault::Short);

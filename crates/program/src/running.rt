@@ -68,6 +68,7 @@ fn print_built(text: &[u8], output: &mut [u8]) -> usize
     let mut nodes = [0u32; 1024 * NODE_SIZE];
     let mut classes = [0u64; 255];
     let mut roots = [0u32; 192];
+    let mut plains = [0u32; 64];
     let mut combinations = [0u64; 512 * (4 + MOST_COLUMNS)];
     let mut metastates = [0u64; 512 * (1 + MOST_COLUMNS)];
     let mut arcs = [0u32; 2000 * ARC_SIZE];
@@ -76,6 +77,7 @@ fn print_built(text: &[u8], output: &mut [u8]) -> usize
         &mut nodes,
         &mut classes,
         &mut roots,
+        &mut plains,
         &mut combinations,
         &mut metastates,
         &mut arcs,

@@ -41,17 +41,24 @@ fn print_size(count: usize, text: &[u8]) {
 }
 
 // The plain form, in a buffer where something stood before.
-fn show_plain(header: Header, nodes: &[u32], classes: &[u64], roots: &[u32], other: &[u8]) {
+fn show_plain(
+    header: Header,
+    nodes: &[u32],
+    classes: &[u64],
+    roots: &[u32],
+    plains: &[u32],
+    other: &[u8],
+) {
     let mut text = [7u8; 512];
-    match write(header, nodes, classes, roots, &mut text) {
+    match write(header, nodes, classes, roots, plains, &mut text) {
         Written::Bytes(count) => {
             if count <= 512 {
                 print(&text[0..count]);
                 print_size(count, &text);
                 compare(&text, other);
-                show_models(header, nodes, classes, roots);
+                show_models(header, nodes, classes, roots, plains);
                 show_again(&text[0..count]);
-                show_short(header, nodes, classes, roots, count);
+                show_short(header, nodes, classes, roots, plains, count);
             }
         }
         Written::Refused(refusal) => print_refusal(refusal),
@@ -64,28 +71,31 @@ fn show_other(
     nodes: &[u32],
     classes: &mut [u64],
     roots: &mut [u32],
+    plains: &mut [u32],
     other: &mut [u8],
 ) {
-    write(header, nodes, classes, roots, other);
-    show_plain(header, nodes, classes, roots, other);
-    show_foreign(header, nodes, classes, roots);
+    write(header, nodes, classes, roots, plains, other);
+    show_plain(header, nodes, classes, roots, plains, other);
+    show_foreign(header, nodes, classes, roots, plains);
 }
 
-// Reads a book into tables for twelve nodes and two words, nine classes and seven roots, where something stood before.
+// Reads a book into tables for twelve nodes and two words, nine classes, seven roots and five phones, where something
+// stood before.
 pub fn show_book(title: &[u8], text: &[u8], other: &mut [u8]) {
     let mut nodes = [7u32; 62];
     let mut classes = [7u64; 9];
     let mut roots = [7u32; 7];
+    let mut plains = [7u32; 5];
     print(b"=");
     print(title);
     print(b":");
-    match read(text, &mut nodes, &mut classes, &mut roots) {
+    match read(text, &mut nodes, &mut classes, &mut roots, &mut plains) {
         Reading::Accepted(header) => {
             print(b" accepted\n");
             if is_other(title) {
-                show_other(header, &nodes, &mut classes, &mut roots, other);
+                show_other(header, &nodes, &mut classes, &mut roots, &mut plains, other);
             } else {
-                show_plain(header, &nodes, &classes, &roots, other);
+                show_plain(header, &nodes, &classes, &roots, &plains, other);
             }
         }
         Reading::Refused(refusal) => {

@@ -1,7 +1,8 @@
 -- The book that a function walks the trees of, and what it asks of the words that it is lent: the header in its
 -- ranges, tables that are wide enough, nodes and roots in range, and no node a child twice. The roots are those
 -- in force, one for each phone and state: it is not asked that they were read from R lines, nor how often they
--- name a node. Known tables with their own roots are such (`tables-fit`, `own-book` in laws/KnownTables.antt).
+-- name a node. Known tables with their roots in force are such (`tables-fit`, `forced-book` in
+-- laws/KnownTables.antt).
 use mathlib.Core.List.{List, map}
 use Prim.Native.Nat.{ℕ, _-_, _*_, _≤_}
 use lib.Dec.{T, ltb}

@@ -1,5 +1,5 @@
 // The set of a class, out of the table of classes.
-use crate::roots::from_zero;
+use lines::counting::from_zero;
 ghost use mathlib.Core.Path.{_≡_};
 ghost use Prim.Native.Nat.{_-_};
 ghost use Rattle.definitions.specs.Lists.{_!_};

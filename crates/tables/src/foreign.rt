@@ -2,6 +2,7 @@
 use crate::known::class_table_known;
 use crate::known::header_known;
 use crate::known::node_table_known;
+use crate::known::plain_table_known;
 use crate::known::root_table_known;
 use crate::naming::first_misnamed;
 use crate::naming::name_node;
@@ -13,12 +14,13 @@ use definitions::wide;
 ghost use mathlib.Core.Bool.{_&&_};
 ghost use mathlib.Core.List.{[], map};
 ghost use mathlib.Core.Path.{_≡_};
-ghost use Prim.Native.Nat.{_*_};
+ghost use Prim.Native.Nat.{_*_, _≤_};
 ghost use lib.Dec.{T, ltb, eqb};
-ghost use Rattle.definitions.specs.BookLines.{childrenOf};
+ghost use lib.ListN.{length};
+ghost use Rattle.definitions.specs.BookLines.{childrenOf, rootCount};
 ghost use Rattle.definitions.specs.BookReading.{nodeSize};
 ghost use Rattle.definitions.specs.ForeignTables.{headerKnown, holdsOnly, nodeTableKnown, classTableKnown};
-ghost use Rattle.definitions.specs.ForeignTables.{rootTableKnown, namedOnce, tablesKnown};
+ghost use Rattle.definitions.specs.ForeignTables.{namedOnce, tablesKnown};
 ghost use Rattle.definitions.specs.Lists.{concatMap};
 ghost use Rattle.definitions.specs.Lookup.{lookupKnown};
 ghost use Rattle.definitions.specs.Tables.{nodeRecords, treeNode, tablesContents};
@@ -64,9 +66,9 @@ fn name_roots(counts: &mut [u32], roots: &[u32])
 
 // Whether every node is named exactly once, as a child or as a root.
 fn named_once(header: Header, nodes: &[u32], roots: &[u32]) -> bool
-    requires { ⌜ T (headerKnown header) × T (rootTableKnown header (now roots)) ⌝ }
+    requires { ⌜ T (headerKnown header) × (rootCount header ≤ length (now roots)) ⌝ }
     ensures { λ r. ⌜
-        r ≡ namedOnce (tablesContents header (lentTables (now (nodes .entry)) [] (now (roots .entry))))
+        r ≡ namedOnce (tablesContents header (lentTables (now (nodes .entry)) [] (now (roots .entry)) []))
         ⌝ }
 {
     let mut counts = [0u32; MOST_NODES];
@@ -94,15 +96,25 @@ fn records_known(header: Header, nodes: &[u32], classes: &[u64]) -> bool
 }
 
 // Whether reading leaves these tables with this header.
-pub fn tables_known(header: Header, nodes: &[u32], classes: &[u64], roots: &[u32]) -> bool
+pub fn tables_known(
+    header: Header,
+    nodes: &[u32],
+    classes: &[u64],
+    roots: &[u32],
+    plains: &[u32],
+) -> bool
     ensures { λ r. ⌜
-        r ≡ tablesKnown header (lentTables (now (nodes .entry)) (now (classes .entry)) (now (roots .entry)))
+        r ≡ tablesKnown header (lentTables (now (nodes .entry)) (now (classes .entry)) (now (roots .entry))
+        (now (plains .entry)))
         ⌝ }
 {
     if !records_known(header, nodes, classes) {
         return false;
     }
-    if !root_table_known(header, roots) {
+    if !plain_table_known(header, plains) {
+        return false;
+    }
+    if !root_table_known(header, plains, roots) {
         return false;
     }
     named_once(header, nodes, roots)

@@ -1,6 +1,9 @@
 // Each table by itself: whether its words are some that reading leaves under a header.
 use crate::nodes::record_known;
+use crate::phones::plain_known;
+use crate::phones::roots_given;
 use crate::records::node_at;
+use crate::records::word_at;
 use crate::words::holds_only;
 use crate::words::holds_only_sets;
 use definitions::Header;
@@ -12,8 +15,10 @@ use lines::ranges::in_fixed_ranges;
 ghost use mathlib.Core.Path.{_≡_};
 ghost use Prim.Native.Nat.{_≤_, _^_};
 ghost use lib.Dec.{T, ltb};
-ghost use Rattle.definitions.specs.ForeignTables.{headerKnown};
-ghost use Rattle.definitions.specs.ForeignTables.{nodeTableKnown, classTableKnown, rootTableKnown};
+ghost use lib.ListN.{length, take};
+ghost use Rattle.definitions.specs.BookLines.{rootCount};
+ghost use Rattle.definitions.specs.ForeignTables.{headerKnown, nodeTableKnown, classTableKnown, plainsKnown};
+ghost use Rattle.definitions.specs.ForeignTables.{plainTableKnown, rootsKnown, rootTableKnown};
 ghost use Rattle.definitions.specs.Lists.{every};
 
 // A header that an H line states.
@@ -83,13 +88,16 @@ pub fn class_table_known(header: Header, sets: &[u64]) -> bool
     sets_within(&sets[..classes], header.phones)
 }
 
-// Numbers below a bound.
-fn all_below(words: &[u32], bound: u32) -> bool
-    ensures { λ r. ⌜ r ≡ every (λ word. ltb word bound) (now (words .entry)) ⌝ }
+// Plain phones that are no boundary phones, and none for silence.
+fn plains_known(header: Header, plains: &[u32]) -> bool
+    ensures { λ r. ⌜ r ≡ plainsKnown header (now (plains .entry)) ⌝ }
 {
+    if word_at(plains, 0) != 0 {
+        return false;
+    }
     let mut i = 0;
-    while i < words.len() {
-        if bound <= words[i] {
+    while i < plains.len() {
+        if !plain_known(header, plains, plains[i]) {
             return false;
         }
         i += 1;
@@ -97,14 +105,48 @@ fn all_below(words: &[u32], bound: u32) -> bool
     true
 }
 
-// Roots that are nodes, and nothing beyond them.
-pub fn root_table_known(header: Header, words: &[u32]) -> bool
+// Plain phones that B lines name, and nothing beyond them.
+pub fn plain_table_known(header: Header, words: &[u32]) -> bool
+    ensures { λ r. ⌜ r ≡ plainTableKnown header (now (words .entry)) ⌝ }
+{
+    let phones = wide(header.phones);
+    if !holds_only(words, phones) {
+        return false;
+    }
+    plains_known(header, &words[..phones])
+}
+
+// The roots of all phones, each phone's as R lines leave them.
+fn roots_known(header: Header, plains: &[u32], roots: &[u32]) -> bool
+    requires { ⌜ rootCount header ≡ length (now roots) ⌝ }
+    ensures { λ r. ⌜
+        r ≡ rootsKnown header (take (header .phones) (now (plains .entry))) (now (roots .entry))
+        ⌝ }
+{
+    let phones = wide(header.phones);
+    let states = wide(header.states);
+    let mut i = 0;
+    while i < phones {
+        let from = i * states;
+        let end = from + states;
+        if !roots_given(&roots[from..end], word_at(plains, i), header.nodes) {
+            return false;
+        }
+        i += 1;
+    }
+    true
+}
+
+// Roots that R lines leave beside these plain phones, and nothing beyond them.
+pub fn root_table_known(header: Header, plains: &[u32], words: &[u32]) -> bool
     requires { ⌜ T (headerKnown header) ⌝ }
-    ensures { λ r. ⌜ r ≡ rootTableKnown header (now (words .entry)) ⌝ }
+    ensures { λ r. ⌜
+        r ≡ rootTableKnown header (take (header .phones) (now (plains .entry))) (now (words .entry))
+        ⌝ }
 {
     let roots = wide(header.phones) * wide(header.states);
     if !holds_only(words, roots) {
         return false;
     }
-    all_below(&words[..roots], header.nodes)
+    roots_known(header, plains, &words[..roots])
 }

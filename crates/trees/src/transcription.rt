@@ -8,6 +8,8 @@ use definitions::Header;
 use definitions::Refusal;
 use definitions::wide;
 use lines::clearing::clear_words;
+use tables::forcing::MOST_ROOTS;
+use tables::forcing::roots_in_force;
 use tables::foreign::tables_known;
 use tables::records::node_at;
 use tables::roots::root_of;
@@ -160,22 +162,23 @@ pub fn transcribe(
     nodes: &[u32],
     classes: &[u64],
     roots: &[u32],
+    plains: &[u32],
     sequence: &[u32],
     models: &mut [u32],
 ) -> Transcript
     ensures answer { λ r. ⌜
         transcriptSaid r ≡ saidOf length 0 (transcribe header
-        (lentTables (now (nodes .entry)) (now (classes .entry)) (now (roots .entry))) (now (sequence .entry))
-        (length (now (models .entry))))
+        (lentTables (now (nodes .entry)) (now (classes .entry)) (now (roots .entry)) (now (plains .entry)))
+        (now (sequence .entry)) (length (now (models .entry))))
         ⌝ }
     ensures leaves { λ r. ⌜
         now (models .exit) ≡ answerLeft (length (now (models .entry))) (transcribe header
-        (lentTables (now (nodes .entry)) (now (classes .entry)) (now (roots .entry))) (now (sequence .entry))
-        (length (now (models .entry))))
+        (lentTables (now (nodes .entry)) (now (classes .entry)) (now (roots .entry)) (now (plains .entry)))
+        (now (sequence .entry)) (length (now (models .entry))))
         ⌝ }
 {
     clear_words(models);
-    if !tables_known(header, nodes, classes, roots) {
+    if !tables_known(header, nodes, classes, roots, plains) {
         return no_models(Fault::Foreign);
     }
     if !is_utterance(header.phones, sequence) {
@@ -186,6 +189,8 @@ pub fn transcribe(
     if room < sequence.len() {
         return no_models(Fault::Short);
     }
-    all_models(header, nodes, classes, roots, sequence, models);
+    let mut forced = [0u32; MOST_ROOTS];
+    roots_in_force(header, roots, plains, &mut forced);
+    all_models(header, nodes, classes, &forced, sequence, models);
     Transcript::Models(sequence.len() * states)
 }

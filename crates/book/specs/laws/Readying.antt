@@ -10,7 +10,7 @@ use Rattle.definitions.specs.BookReading.{Lent}
 use Rattle.booklines.specs.States.{stateOf}
 use Rattle.book.specs.Steps.{bookTaken}
 use Rattle.book.specs.Taking.{Ready, Endable}
-use Rattle.book.specs.laws.Keeping.{Kept, kept-few, kept-room, kept-states}
+use Rattle.book.specs.laws.Keeping.{Kept, kept-few, kept-room, kept-states, fits-phones}
 use Rattle.book.specs.laws.Steps.{step-next}
 
 pub kept-ready : (lent : Lent) (before : List BookLine) (bytes : List ℕ) → Kept lent before
@@ -20,10 +20,10 @@ kept-ready lent before bytes k l =
     let (nodes, roots) = kept-few lent before k in
     record {
       states = kept-states lent before k;
-      counts = record { lines = l; nodes = omega arith; roots = omega arith };
+      counts = record { lines = l; nodes = omega arith };
       room = λ next e.
-          let t = step-next lent before bytes next e in
-          kept-room lent before (bookTaken bytes) k (t .unfinished) (t .fits);
+          kept-room lent before (bookTaken bytes) k (step-next lent before bytes next e .fits);
+      phones = λ next e. fits-phones lent before (bookTaken bytes) (step-next lent before bytes next e .fits);
     }
 
 pub kept-endable : (lent : Lent) (before : List BookLine) (counts : List ℕ) → Kept lent before
@@ -31,4 +31,4 @@ pub kept-endable : (lent : Lent) (before : List BookLine) (counts : List ℕ) �
 unfolding stateOf
 kept-endable lent before counts k l e =
     let (nodes, roots) = kept-few lent before k in
-    record { counted = omega arith; lines = l }
+    record { states = kept-states lent before k; counted = omega arith; lines = l }

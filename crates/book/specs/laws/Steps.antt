@@ -2,36 +2,33 @@
 -- that is taken fits and the state follows it, and a line that stops has that fault.
 use mathlib.Core.Path.{_≡_, sym, _∙_}
 use mathlib.Core.List.{List, [], _∷_, _++_}
-use mathlib.Core.Bool.{not}
 use Prim.Native.Nat.{ℕ}
 use native.Mathlib.Omega.{arith}
-use lib.Dec.{T}
 use Rattle.definitions.specs.declared.Fault.{Fault}
 use Rattle.definitions.specs.Forms.{bookForms}
 use Rattle.definitions.specs.BookLines.{BookLine}
-use Rattle.definitions.specs.BookReading.{Lent, bookKind, bookComplete}
-use Rattle.definitions.specs.laws.books.Books.{Fits, line-fits}
+use Rattle.definitions.specs.BookReading.{Lent, bookKind}
 use Rattle.lines.specs.declared.Verdict.{Verdict}
 use Rattle.lines.specs.declared.Verdict.the-variants.{Passed, Failed}
 use Rattle.lines.specs.Judging.{verdictBy, lineTaken, lineVerdict}
-use Rattle.lines.specs.laws.Judging as judging
-use Rattle.lines.specs.laws.Judging.{verdict-taken}
 use Rattle.booklines.specs.declared.State.{State}
 use Rattle.booklines.specs.States.{stateOf, nextState}
-use Rattle.booklines.specs.laws.States.{tests-state, complete-state, next-state}
 use Rattle.book.specs.declared.Step.the-variants.{Next, Stop}
 use Rattle.book.specs.Steps.{bookTaken, verdictIn, stepAfter, stepOf}
+use Rattle.definitions.specs.laws.books.Books.{Fits, line-fits}
+use Rattle.lines.specs.laws.Judging.{verdict-taken}
+use Rattle.booklines.specs.laws.States.{tests-state, full-state, next-state}
+use Rattle.lines.specs.laws.Judging as judging
 
 verdict-state : (lent : Lent) (before : List BookLine) (bytes : List ℕ)
     → verdictIn lent (stateOf before) bytes ≡ lineVerdict (bookKind lent) before bytes
 unfolding bookKind
 verdict-state lent before bytes =
-    λ i. verdictBy (complete-state before i) bookForms (λ line. tests-state lent before line i) bytes
+    λ i. verdictBy (full-state before i) bookForms (λ line. tests-state lent before line i) bytes
 
 -- a line that is taken passed its tests: it fits, and the state follows it
 pub record Taken (lent : Lent) (before : List BookLine) (bytes : List ℕ) (s : State) : Type 0 where
   pub passed : judging.Taken (bookKind lent) before bytes
-  pub unfinished : T (not (bookComplete before))
   pub fits : Fits lent before (bookTaken bytes)
   pub state : s ≡ stateOf (before ++ (bookTaken bytes ∷ []))
 
@@ -49,7 +46,6 @@ module _ (lent : Lent) (before : List BookLine) (bytes : List ℕ) where
       let same : s ≡ nextState (stateOf before) (bookTaken bytes) = cc in
       record {
         passed = passed;
-        unfinished = passed .passed .unfinished;
         fits = fits;
         state = same ∙ next-state before (bookTaken bytes) (fits .follows);
       }

@@ -8,15 +8,19 @@ use lib.Dec.{T, ltb, eqb, ltb→lt}
 use borrow.Author.Tests.{le-leb}
 use Rattle.definitions.specs.BookLines.{R, noHeader, rootCount}
 use Rattle.definitions.specs.BookReading.{Lent, wideEnough}
-use Rattle.definitions.specs.laws.lists.Tests.{T-and}
 use Rattle.booklines.specs.declared.State.{State}
 use Rattle.booklines.specs.States.{followsIn}
+use Rattle.definitions.specs.laws.lists.Tests.{T-and}
 
 pub no-header-fits : (lent : Lent) → wideEnough lent noHeader ≡ true
 unfolding wideEnough rootCount
 no-header-fits lent =
-    rw (le-leb 0 (lent .nodes) (omega arith), le-leb 0 (lent .classes) (omega arith))
-    (le-leb 0 (lent .roots) (omega arith))
+    rw (
+      le-leb 0 (lent .nodes) (omega arith),
+      le-leb 0 (lent .classes) (omega arith),
+      le-leb 0 (lent .roots) (omega arith),
+    )
+    (le-leb 0 (lent .plains) (omega arith))
 
 pub root-after-header : (s : State) (phone state root : ℕ) → T (followsIn s (R phone state root))
     → 0 < s .lines

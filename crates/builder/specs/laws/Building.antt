@@ -12,7 +12,7 @@ use Rattle.definitions.specs.Lists.{cleared}
 use Rattle.definitions.specs.Faults.{Outcome, answered, refused, andThen}
 use Rattle.definitions.specs.BookLines.{BookLine, noHeader, headerOf}
 use Rattle.definitions.specs.BookReading.{Lent, readBook}
-use Rattle.definitions.specs.Tables.{Tables, tablesLeft, noTables, tablesBook}
+use Rattle.definitions.specs.Tables.{Tables, lentOf, tablesLeft, noTables, tablesBook}
 use Rattle.definitions.specs.Building.{Space, build, Buffers, buffersLeft, noBuffers}
 use Rattle.definitions.specs.BookBuilding.{BookBuilt, buildRead, buildBook, tablesAfter, buffersAfter}
 use Rattle.definitions.specs.Said.{saidOf, noProgress, bookProgress}
@@ -20,7 +20,6 @@ use Rattle.definitions.specs.Growing.{finished}
 use Rattle.definitions.specs.Connecting.{Network, Built}
 use Rattle.definitions.specs.demand.Demand.{demand3}
 use Rattle.definitions.specs.demand.Endings.{finished-final}
-use Rattle.tables.specs.Lending.{lengthsOf}
 use Rattle.book.specs.declared.Reading.{Reading}
 use Rattle.book.specs.declared.Reading.the-variants as reading
 use Rattle.book.specs.Answers.{readingOf, readingSaid}
@@ -116,7 +115,7 @@ module _ (lent : Lent) (space : Space) (limit : ℕ) (text : List ℕ) (lines : 
         go (refused r) = refl
 
     pub built-tables : (tables : Tables)
-        → lent ≡ lengthsOf (tablesRead .nodes) (tablesRead .classes) (tablesRead .roots)
+        → lent ≡ lentOf tablesRead
         → tables ≡ tablesKept tablesRead outcome
         → tables ≡ tablesAfter lent (buildBook lent space limit text)
     unfolding tablesAfter tablesKept andThen
@@ -180,7 +179,7 @@ module _ (lent : Lent) (space : Space) (limit : ℕ) (text : List ℕ) where
   EndsFrom header tables =
       (answer : Build) (tables′ : Tables) (buffers : Buffers)
       → length (tables .nodes) ≡ lent .nodes → length (tables .classes) ≡ lent .classes
-      → length (tables .roots) ≡ lent .roots
+      → length (tables .roots) ≡ lent .roots → length (tables .plains) ≡ lent .plains
       → answer ≡ buildAnswer header tables space limit
       → tables′ ≡ tablesKept tables (build header tables space limit)
       → buffers ≡ buildLeft header tables space limit
@@ -188,11 +187,11 @@ module _ (lent : Lent) (space : Space) (limit : ℕ) (text : List ℕ) where
 
   ends-read : (lines : List BookLine) → readBook lent text ≡ answered lines
       → EndsFrom (headerOf lines) (tablesLeft lent (readBook lent text))
-  ends-read lines e answer tables′ buffers n c r a t b =
+  ends-read lines e answer tables′ buffers n c r p a t b =
       let left = ap (λ (x : Buffers). x .arcs) b in (
         book-said _ (built-answer lent space limit text lines e answer a),
         (
-          built-tables lent space limit text lines e tables′ (rw (n, c, r)) t,
+          built-tables lent space limit text lines e tables′ (rw (n, c, r, p)) t,
           (
             built-buffers lent space limit text lines e buffers b,
             (

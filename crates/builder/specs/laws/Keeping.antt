@@ -71,10 +71,10 @@ module _ (states : ℕ) (outcome : Outcome Built) (tables : Tables) where
         go (answered built) k = refl
         go (refused r) k = stopped-refused totals r k
 
-    pub refused-kept : (r : Refusal) → answer ≡ build.Refused r → (nodes classes roots : List ℕ)
+    pub refused-kept : (r : Refusal) → answer ≡ build.Refused r → (nodes classes roots plains : List ℕ)
         → nodes ≡ cleared (length (tables .nodes)) → classes ≡ cleared (length (tables .classes))
-        → roots ≡ cleared (length (tables .roots))
-        → Kept (build.Refused r) (lentTables nodes classes roots)
+        → roots ≡ cleared (length (tables .roots)) → plains ≡ cleared (length (tables .plains))
+        → Kept (build.Refused r) (lentTables nodes classes roots plains)
     unfolding tablesKept noTables
-    refused-kept r f nodes classes roots n c t =
-        (sym f ∙ e, rw (refused-inverted states outcome r (sym f ∙ e), n, c, t))
+    refused-kept r f nodes classes roots plains n c t p =
+        (sym f ∙ e, rw (refused-inverted states outcome r (sym f ∙ e), n, c, t, p))

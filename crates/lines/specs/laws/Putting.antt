@@ -6,14 +6,14 @@ use Prim.Native.Nat.{ℕ, suc, _+_, _-_, _≤_, _<_}
 use native.Mathlib.Nat.{add-zero}
 use native.Mathlib.Numerals.{add-one}
 use native.Mathlib.Omega.{arith}
-use lib.ListN.{length, take, drop, set, length-append, length-set, length-replicate, length-drop}
-use lib.ListN.{take-append-drop, replicate-append-replicate}
-use lib.Seq.{take-suc-set, drop-set-lt, take-append-seam, drop-append-add, append-snoc, set-split}
-use lib.Seq.{set-append-left, take-at, drop-at, drop-drop, length-take-le, take-append-le, take-take}
+use lib.ListN.{length, take, drop, set, length-append, length-set, length-replicate, length-drop, take-append-drop}
+use lib.ListN.{replicate-append-replicate}
+use lib.Seq.{take-suc-set, drop-set-lt, take-append-seam, drop-append-add, set-append-left, take-at, drop-at}
+use lib.Seq.{drop-drop, length-take-le, take-append-le, take-take}
 use borrow.Rule.Slice.PartMut.{putMid}
 use Rattle.definitions.specs.Lists.{cleared, padded}
-use Rattle.definitions.specs.laws.lists.Lists.{drop-cleared, padded-length}
 use Rattle.lines.specs.Putting.{putAt}
+use Rattle.definitions.specs.laws.lists.Lists.{drop-cleared}
 
 -- ---- words put one by one
 
@@ -100,16 +100,6 @@ put-after size used words =
     let rest : List ℕ = cleared (size - length used) in
     let fewer : (size - length used) - length words ≡ size - (length used + length words) = omega arith in
     rw (take-append-seam used rest, drop-append-add used rest, drop-cleared, length-append, fewer)
-
-pub set-after : (size : ℕ) (used : List ℕ) (x : ℕ) → length used < size
-    → set (padded size used) (length used) x ≡ padded size (used ++ (x ∷ []))
-unfolding putAt
-set-after size used x h =
-    let table : List ℕ = padded size used in
-    let room : length used < length table = omega (arith, padded-length size used (omega arith)) in
-    let rest : List ℕ = drop (suc (length used)) table in
-    rw (set-split table (length used) x room, ← append-snoc (take (length used) table) x rest, ← add-one)
-    (put-after size used (x ∷ []))
 
 -- a used word changed
 pub padded-set : (size : ℕ) (used : List ℕ) (i x : ℕ) → i < length used

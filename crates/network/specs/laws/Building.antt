@@ -125,9 +125,9 @@ module _ {header : Header} {metastates arcs : List ℕ} {outcome : Outcome Built
 
 -- ---- the build
 
-module _ (header : Header) (nodes classes roots space : List ℕ) where
+module _ (header : Header) (nodes classes roots plains space : List ℕ) where
   abbrev tables : Tables
-  tables = lentTables nodes classes roots
+  tables = lentTables nodes classes roots plains
 
   abbrev book : Book
   book = tablesBook header tables
@@ -218,7 +218,7 @@ module _ (header : Header) (nodes classes roots space : List ℕ) where
 
         words-length : length words ≡ combinationSize (header .half) * count
         words-length =
-            combinations-length header nodes classes roots (c .known)
+            combinations-length header nodes classes roots plains (c .known)
             ∙ ap (λ (n : ℕ). combinationSize (header .half) * n) (sym (c .count-is))
 
         within : length words ≤ length space
@@ -228,7 +228,7 @@ module _ (header : Header) (nodes classes roots space : List ℕ) where
               arith,
               records-within (combinationSize (header .half)) (length found) {space = length space}
                   (omega (arith, c .room)),
-              combinations-length header nodes classes roots (c .known),
+              combinations-length header nodes classes roots plains (c .known),
             )
 
         few : length found ≤ 65535
@@ -258,12 +258,12 @@ module _ (header : Header) (nodes classes roots space : List ℕ) where
           omega (arith, space-length, words-length, within),
           record {
             connectable = record {
-              usable = rw used (combinations-usable header nodes classes roots (c .known) few);
+              usable = rw used (combinations-usable header nodes classes roots plains (c .known) few);
               modelled =
                   subst (Modelled header nodes) (sym used)
-                  (combinations-modelled header nodes classes roots (c .known));
+                  (combinations-modelled header nodes classes roots plains (c .known));
             };
-            ending = rw (used, ends-are) (combinations-ending header nodes classes roots (c .known));
+            ending = rw (used, ends-are) (combinations-ending header nodes classes roots plains (c .known));
             metastates-clear = clear-itself metastates metastates₁ m;
             arcs-clear = clear-itself arcs arcs₁ a;
           },
@@ -275,7 +275,7 @@ module _ (header : Header) (nodes classes roots space : List ℕ) where
 
         found-back : combinationsIn header (take (combinationSize (header .half) * count) space₁) ≡ found
         found-back =
-            ap (combinationsIn header) used ∙ combinations-back header nodes classes roots (c .known)
+            ap (combinationsIn header) used ∙ combinations-back header nodes classes roots plains (c .known)
 
         -- and the build is what it connects
         module _ (limit : ℕ) where
@@ -287,7 +287,7 @@ module _ (header : Header) (nodes classes roots space : List ℕ) where
           unfolding build andThen
           built-is =
               ap (λ o. andThen o (λ cs. connect (rulesOf book cs) (roomIn (header .half) lent) limit)) (c .found-is)
-              ∙ connect-nodes header nodes classes roots found (roomIn (header .half) lent) limit
+              ∙ connect-nodes header nodes classes roots plains found (roomIn (header .half) lent) limit
               ∙ sym
               (ap₂ (λ cs room. connect (rulesOf (nodesBook header nodes) cs) room limit) found-back room-is)
 

@@ -12,13 +12,13 @@ use Rattle.tables.specs.Lending.{lentTables}
 use Rattle.tables.specs.Usable.{bookWith}
 use Rattle.index.specs.Combinations.{nodesBook}
 
-module _ (header : Header) (nodes classes roots : List ℕ) (cs : List Combination) where
-  rules-nodes : rulesOf (tablesBook header (lentTables nodes classes roots)) cs
+module _ (header : Header) (nodes classes roots plains : List ℕ) (cs : List Combination) where
+  rules-nodes : rulesOf (tablesBook header (lentTables nodes classes roots plains)) cs
       ≡ rulesOf (nodesBook header nodes) cs
   unfolding starts followers modelsOf mayEnd tablesBook bookIn tablesContents bookWith
   rules-nodes = refl
 
   pub connect-nodes : (room : Room) (limit : ℕ)
-      → connect (rulesOf (tablesBook header (lentTables nodes classes roots)) cs) room limit
+      → connect (rulesOf (tablesBook header (lentTables nodes classes roots plains)) cs) room limit
       ≡ connect (rulesOf (nodesBook header nodes) cs) room limit
   connect-nodes room limit = ap (λ (rules : Rules). connect rules room limit) rules-nodes

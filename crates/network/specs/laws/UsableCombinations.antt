@@ -100,10 +100,10 @@ module _ (header : Header) (ranged : InRange header) where
 
 -- ---- the combinations of a book
 
-module _ (header : Header) (nodes classes roots : List ℕ)
-    (known : T (tablesKnown header (lentTables nodes classes roots))) where
+module _ (header : Header) (nodes classes roots plains : List ℕ)
+    (known : T (tablesKnown header (lentTables nodes classes roots plains))) where
   abbrev book : Book
-  book = tablesBook header (lentTables nodes classes roots)
+  book = tablesBook header (lentTables nodes classes roots plains)
 
   abbrev found : List Combination
   found = combinations book
@@ -112,7 +112,7 @@ module _ (header : Header) (nodes classes roots : List ℕ)
   words = concatMap (combinationWords (header .half)) found
 
   chosen : (number : ℕ) → number < length found → Chosen book (numbered found number)
-  chosen number h = chosen-at book (known-sound header nodes classes roots known) number h
+  chosen number h = chosen-at book (known-sound header nodes classes roots plains known) number h
 
   is-choice : (number : ℕ) → number < length found → IsCombination header (numbered found number)
   unfolding tablesBook bookIn tablesContents
@@ -133,7 +133,7 @@ module _ (header : Header) (nodes classes roots : List ℕ)
       }
 
   abbrev ranged : InRange header
-  ranged = header-ranges header (known-header header nodes classes roots known)
+  ranged = header-ranges header (known-header header nodes classes roots plains known)
 
   pub combinations-length : length words ≡ combinationSize (header .half) * length found
   combinations-length = choices-length header ranged found is-choice
@@ -147,7 +147,7 @@ module _ (header : Header) (nodes classes roots : List ℕ)
 
   pub combinations-usable : length found ≤ 65535 → Usable header words
   combinations-usable few = record {
-    header-known = known-header header nodes classes roots known;
+    header-known = known-header header nodes classes roots plains known;
     few = back (λ cs. length cs ≤ 65535) few;
     flat = ap (concatMap (combinationWords (header .half))) (sym combinations-back);
     each = back (λ cs. (number : ℕ) → number < length cs → IsCombination header (numbered cs number))
@@ -179,7 +179,7 @@ module _ (header : Header) (nodes classes roots : List ℕ)
   pub combinations-ending : Ending header words (padded 65 (endsOf book))
   unfolding tablesBook bookIn tablesContents
   combinations-ending =
-      let sound = known-sound header nodes classes roots known in
+      let sound = known-sound header nodes classes roots plains known in
       record {
         sized = ends-sized book sound (ranged .phones-range .high);
         ends-at =

@@ -1,6 +1,7 @@
 -- Laws about sets noted in lent words: one more set, the sets of a tree, and those of all trees.
 use mathlib.Core.Path.{_≡_, refl, sym, ap, _∙_}
-use mathlib.Core.List.{List, [], _∷_, _++_, map}
+use mathlib.Core.Logic.{_≢_}
+use mathlib.Core.List.{List, [], _∷_, _++_, map, append-nil}
 use Prim.Native.Nat.{ℕ, _+_, _-_, _*_, _≤_, _<_}
 use native.Mathlib.Numerals.{add-one}
 use native.Mathlib.Omega.{arith}
@@ -12,11 +13,14 @@ use lib.Dec.{eqb}
 use Rattle.definitions.specs.Lists.{_!_, concatMap, placeOf}
 use Rattle.definitions.specs.BookReading.{nodeSize}
 use Rattle.definitions.specs.Tables.{nodeOf}
-use Rattle.definitions.specs.PlainForm.{Tree, setsIn, firstUses}
-use Rattle.plainform.specs.LentTrees.{treeIn, KnownNode}
+use Rattle.definitions.specs.BookLines.{noRoot}
+use Rattle.definitions.specs.PlainForm.{Tree, setsIn, firstUses, treesThere}
+use Rattle.definitions.specs.laws.lists.Lists.{concatMap-append}
+use Rattle.plainform.specs.LentTrees.{treeIn, usesIn, KnownNode}
 use Rattle.plainform.specs.Collecting.{Collected}
 use Rattle.plainform.specs.laws.Sets.{among, not-among}
-use Rattle.plainform.specs.laws.LentTrees.{asks-here, gives-here, trees-next, trees-end}
+use Rattle.plainform.specs.laws.LentTrees.{asks-here, gives-here, found, not-there, is-there, there-next}
+use Rattle.plainform.specs.laws.LentTrees.{trees-end}
 
 -- ---- one set
 
@@ -82,10 +86,22 @@ module _ {header : Header} {nodes : List ℕ} {node : ℕ} (k : KnownNode header
   collected-question kind p q r =
       rw (asks-here k own kind classes) (collected-more (collected-more p q) r)
 
+-- ---- the sets of the tree at a root, if it is given
+
+module _ (header : Header) (nodes classes : List ℕ) (root : ℕ) where
+  pub collected-absent : (sets : List ℕ) (used : ℕ) → root ≡ noRoot
+      → Collected sets used (usesIn header nodes classes (root ∷ [])) used sets
+  unfolding concatMap
+  collected-absent sets used e = rw (not-there (treeIn header nodes classes) root e) (collected-none sets used)
+
+  pub root-uses : root ≢ noRoot → usesIn header nodes classes (root ∷ []) ≡ setsIn (treeIn header nodes classes root)
+  unfolding concatMap
+  root-uses there = rw (is-there (treeIn header nodes classes) root there) (append-nil _)
+
 -- ---- the sets of all trees: those from root `i` on are left
 
 abbrev left : (tree : ℕ → Tree) → (roots : List ℕ) → (i : ℕ) → List ℕ
-left tree roots i = concatMap setsIn (map tree (drop i roots))
+left tree roots i = concatMap setsIn (treesThere (map (found tree) (drop i roots)))
 
 pub record Gathered (tree : ℕ → Tree) (roots before : List ℕ) (i : ℕ) (sets : List ℕ) (used : ℕ) : Type 0 where
   pub within : i ≤ length roots
@@ -101,19 +117,21 @@ module _ {tree : ℕ → Tree} {roots before : List ℕ} {i used : ℕ} {sets : 
     (g : Gathered tree roots before i sets used) where
   module _ (h : i < length roots) where
     abbrev own : List ℕ
-    own = setsIn (tree (roots ! i))
+    own = concatMap setsIn (treesThere (map (found tree) ((roots ! i) ∷ [])))
 
     abbrev others : List ℕ
     others = left tree roots (i + 1)
 
     parts : left tree roots i ≡ own ++ others
-    unfolding concatMap
-    parts = ap (concatMap setsIn) (trees-next tree roots i h)
+    parts =
+        ap (concatMap setsIn) (there-next tree roots i h)
+        ∙ concatMap-append setsIn (treesThere (map (found tree) ((roots ! i) ∷ [])))
+        (treesThere (map (found tree) (drop (i + 1) roots)))
 
     many : length (left tree roots i) ≡ length own + length others
     many = ap length parts ∙ length-append own others
 
-    pub gathered-room : length (concatMap setsIn (map tree roots)) ≤ length before
+    pub gathered-room : length (left tree roots 0) ≤ length before
         → used + length own ≤ length sets
     gathered-room room = omega (arith, g .few, g .sized, many)
 
@@ -131,8 +149,8 @@ module _ {tree : ℕ → Tree} {roots before : List ℕ} {i used : ℕ} {sets : 
               ∙ g .rest;
         }
 
-  pub gathered-end : length roots ≤ i → Collected before 0 (concatMap setsIn (map tree roots)) used sets
-  unfolding concatMap firstUses
+  pub gathered-end : length roots ≤ i → Collected before 0 (left tree roots 0) used sets
+  unfolding concatMap firstUses treesThere
   gathered-end h =
       record {
         sized = g .sized;

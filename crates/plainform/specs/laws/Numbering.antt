@@ -1,29 +1,34 @@
 -- Laws about trees numbered anew, as their records are put into a table: a leaf's record is its tree's; a
 -- question's stands before those of its sides, though it is put between them, when the no side's number is known.
-use mathlib.Core.Path.{_≡_, refl, sym, ap, _∙_, subst}
-use mathlib.Core.List.{List, [], _∷_, _++_, map, append-assoc}
+use mathlib.Core.Path.{_≡_, refl, sym, ap, ap₂, _∙_, subst}
+use mathlib.Core.Logic.{_≢_}
+use mathlib.Core.List.{List, [], _∷_, _++_, map, append-assoc, append-nil}
+use mathlib.Core.Option.{Option}
 use Prim.Native.Nat.{ℕ, suc, _+_, _-_, _*_, _≤_, _<_}
 use native.Mathlib.Numerals.{add-one}
 use native.Mathlib.Omega.{arith}
+use lib.Dec.{eqb}
 use lib.ListN.{length, drop, set, length-set, length-append, length-drop, length-map}
 use Rattle.definitions.specs.declared.Header.{Header}
 use Rattle.definitions.specs.declared.Node.{Node}
 use Rattle.definitions.specs.Lists.{_!_, concatMap}
-use Rattle.definitions.specs.BookLines.{TreeNode, question, leaf, asks}
+use Rattle.definitions.specs.BookLines.{TreeNode, question, leaf, asks, noRoot}
 use Rattle.definitions.specs.BookReading.{nodeSize}
 use Rattle.definitions.specs.Tables.{nodeWords, nodeOf, askedOf}
 use Rattle.definitions.specs.PlainForm.{Question, Tree, asking, questionOf, classAmong, askedAmong, sizeOf}
-use Rattle.definitions.specs.PlainForm.{nodesFrom, allNodes, rootsFrom}
-use Rattle.definitions.specs.laws.lists.Sums.{sumOf}
+use Rattle.definitions.specs.PlainForm.{nodesFrom, allNodes, rootsFrom, treesThere}
+use Rattle.definitions.specs.laws.lists.Tests.{by-test}
+use Rattle.definitions.specs.laws.lists.Sums.{sumOf, sum-append}
 use Rattle.definitions.specs.laws.lists.Lists.{concatMap-append}
 use Rattle.definitions.specs.laws.lists.Records.{flat-length}
 use Rattle.definitions.specs.laws.books.Tables.{node-sized}
 use Rattle.definitions.specs.spelling.PlainTrees.{nodes-size, sizes, all-size, roots-length}
 use Rattle.lines.specs.Putting.{putAt}
 use Rattle.lines.specs.laws.Putting.{put-none, put-each, put-both, put-before}
-use Rattle.plainform.specs.LentTrees.{treeIn, KnownNode}
-use Rattle.plainform.specs.Numbering.{wordsOf, allWords, Numberable, Numbered}
-use Rattle.plainform.specs.laws.LentTrees.{asks-here, gives-here, trees-next, trees-end}
+use Rattle.plainform.specs.LentTrees.{treeIn, thereIn, KnownNode}
+use Rattle.plainform.specs.Numbering.{wordsOf, allWords, startOf, Numberable, Numbered, NumberedTrees}
+use Rattle.plainform.specs.laws.LentTrees.{asks-here, gives-here, found, not-there, is-there, trees-next}
+use Rattle.plainform.specs.laws.LentTrees.{there-next, trees-end}
 
 -- five words for each node, of a tree and of all trees
 words-size : (nodes : List TreeNode) {size : ℕ} → length nodes ≡ size → length (wordsOf nodes) ≡ nodeSize * size
@@ -105,23 +110,68 @@ module _ {header : Header} {nodes : List ℕ} {node : ℕ} (k : KnownNode header
         put = n .put ∙ rw (put, e, y .put, c, there, add-one) whole;
       })
 
+-- ---- the tree at a root, if it is given
+
+nodes-append : (sets : List ℕ) (at : ℕ) (k l : List Tree)
+    → allNodes sets at (k ++ l) ≡ allNodes sets at k ++ allNodes sets (at + sizes k) l
+unfolding allNodes sumOf
+nodes-append sets at [] l = ap (λ (n : ℕ). allNodes sets n l) {x = at} {y = at + 0} (omega arith)
+nodes-append sets at (t ∷ k) l =
+    let own : List TreeNode = nodesFrom sets at t in
+    ap (λ (m : List TreeNode). own ++ m) (nodes-append sets (at + sizeOf t) k l)
+    ∙ sym (append-assoc own (allNodes sets (at + sizeOf t) k) (allNodes sets (at + sizeOf t + sizes k) l))
+    ∙ ap (λ (n : ℕ). (own ++ allNodes sets (at + sizeOf t) k) ++ allNodes sets n l) {x = at + sizeOf t + sizes k}
+    {y = at + (sizeOf t + sizes k)} (omega arith)
+
+module _ (header : Header) (nodes classes sets : List ℕ) (root at : ℕ) where
+  abbrev here : List Tree
+  here = thereIn header nodes classes (root ∷ [])
+
+  pub numbered-absent : (table : List ℕ) → root ≡ noRoot → NumberedTrees sets at here table at table
+  unfolding allNodes concatMap
+  numbered-absent table e =
+      rw (not-there (treeIn header nodes classes) root e)
+      (record { counted = omega arith; put = sym (put-none (nodeSize * at) table) })
+
+  module _ (there : root ≢ noRoot) where
+    own-nodes : allNodes sets at here ≡ nodesFrom sets at (treeIn header nodes classes root)
+    unfolding allNodes
+    own-nodes = rw (is-there (treeIn header nodes classes) root there) (append-nil _)
+
+    own-size : length (allNodes sets at here) ≡ sizeOf (treeIn header nodes classes root)
+    own-size = ap length own-nodes ∙ nodes-size sets at (treeIn header nodes classes root)
+
+    pub root-numberable : {table : List ℕ} → Numberable sets at (length (allNodes sets at here)) table
+        → Numberable sets at (sizeOf (treeIn header nodes classes root)) table
+    root-numberable {table} n = subst (λ (size : ℕ). Numberable sets at size table) own-size n
+
+    pub numbered-root : {before after : List ℕ} {next : ℕ}
+        → Numbered sets at (treeIn header nodes classes root) before next after
+        → NumberedTrees sets at here before next after
+    numbered-root {before} n =
+        record {
+          counted = omega (arith, n .counted, own-size);
+          put =
+              n .put ∙ ap (λ (l : List TreeNode). putAt (nodeSize * at) (wordsOf l) before) (sym own-nodes);
+        }
+
 -- ---- all trees: those from root `i` on are left, the first of them from number `at` on
 
-abbrev from : (tree : ℕ → Tree) → (roots : List ℕ) → (i : ℕ) → List Tree
-from tree roots i = map tree (drop i roots)
+abbrev from : (tree : ℕ → Tree) → (roots : List ℕ) → (i : ℕ) → List (Option Tree)
+from tree roots i = map (found tree) (drop i roots)
 
 -- the tables before, and as they are
 pub record AllNumbered (tree : ℕ → Tree) (sets roots table starts : List ℕ) (i at : ℕ) (table′ starts′ : List ℕ)
     : Type 0
   where
     pub within : i ≤ length roots
-    pub counted : at + sizes (from tree roots i) ≡ sizes (map tree roots)
+    pub counted : at + sizes (treesThere (from tree roots i)) ≡ sizes (treesThere (from tree roots 0))
     pub table-sized : length table′ ≡ length table
     pub starts-sized : length starts′ ≡ length starts
-    pub table-left : putAt (nodeSize * at) (allWords sets at (from tree roots i)) table′
-        ≡ putAt 0 (allWords sets 0 (map tree roots)) table
+    pub table-left : putAt (nodeSize * at) (allWords sets at (treesThere (from tree roots i))) table′
+        ≡ putAt 0 (allWords sets 0 (treesThere (from tree roots 0))) table
     pub starts-left : putAt i (rootsFrom at (from tree roots i)) starts′
-        ≡ putAt 0 (rootsFrom 0 (map tree roots)) starts
+        ≡ putAt 0 (rootsFrom 0 (from tree roots 0)) starts
 
 pub all-start : (tree : ℕ → Tree) (sets roots table starts : List ℕ)
     → AllNumbered tree sets roots table starts 0 0 table starts
@@ -135,72 +185,103 @@ all-start tree sets roots table starts =
       starts-left = refl;
     }
 
+-- the first new root, and the number after its tree
+starts-first : (tree : ℕ → Tree) (root at : ℕ) (l : List (Option Tree))
+    → rootsFrom at (found tree root ∷ l)
+    ≡ startOf root at ∷ rootsFrom (at + sizes (treesThere (map (found tree) (root ∷ [])))) l
+unfolding rootsFrom treesThere sumOf
+starts-first tree root at l =
+    by-test (eqb root noRoot) (λ e. rw e (ap (λ (n : ℕ). noRoot ∷ rootsFrom n l) {x = at} {y = at + 0} (omega arith)))
+    (λ e. rw e (ap (λ (n : ℕ). at ∷ rootsFrom n l) {x = at + sizeOf (tree root)} {y = at + (sizeOf (tree root) + 0)}
+    (omega arith)))
+
 module _ {tree : ℕ → Tree} {sets roots table starts : List ℕ} {i at : ℕ} {table′ starts′ : List ℕ}
     (a : AllNumbered tree sets roots table starts i at table′ starts′) where
+  abbrev whole : List Tree
+  whole = treesThere (from tree roots 0)
+
   -- room for all nodes, counted tree by tree
-  pub counted-room : Numberable sets 0 (length (allNodes sets 0 (map tree roots))) table
-      → Numberable sets 0 (sizes (map tree roots)) table
-  counted-room n = subst (λ (size : ℕ). Numberable sets 0 size table) (all-size sets 0 (map tree roots)) n
+  pub counted-room : Numberable sets 0 (length (allNodes sets 0 whole)) table → Numberable sets 0 (sizes whole) table
+  counted-room n = subst (λ (size : ℕ). Numberable sets 0 size table) (all-size sets 0 whole) n
 
   module _ (h : i < length roots) where
-    abbrev t : Tree
-    t = tree (roots ! i)
+    abbrev own : List Tree
+    own = treesThere (map (found tree) ((roots ! i) ∷ []))
 
     abbrev others : List Tree
-    others = from tree roots (i + 1)
+    others = treesThere (from tree roots (i + 1))
 
-    next : from tree roots i ≡ t ∷ others
-    next = trees-next tree roots i h
+    next : treesThere (from tree roots i) ≡ own ++ others
+    next = there-next tree roots i h
 
-    pub all-counted : at + sizeOf t + sizes others ≡ sizes (map tree roots)
-    unfolding sumOf
-    all-counted = omega (arith, a .counted, ap sizes next)
+    all-counted : at + sizes own + sizes others ≡ sizes whole
+    all-counted = omega (arith, a .counted, ap sizes next, sum-append sizeOf own others)
 
-    module _ {table″ : List ℕ} {at′ : ℕ} (n : Numbered sets at t table′ at′ table″) where
-      table-more : nodeSize * sizes (map tree roots) ≤ length table
-          → putAt (nodeSize * at′) (allWords sets at′ others) table″
-          ≡ putAt 0 (allWords sets 0 (map tree roots)) table
-      unfolding allNodes
+    -- so there is room for its own
+    pub own-room : Numberable sets 0 (length (allNodes sets 0 whole)) table
+        → Numberable sets at (length (allNodes sets at own)) table′
+    own-room n =
+        let all = counted-room n in
+        let many = all-size sets at own in
+        record {
+          few-sets = all .few-sets;
+          few-nodes = omega (arith, many, all-counted, all .few-nodes);
+          room = omega (arith, many, all-counted, all .room, a .table-sized);
+        }
+
+    module _ {table″ : List ℕ} {at′ : ℕ} (n : NumberedTrees sets at own table′ at′ table″) where
+      further : at′ ≡ at + sizes own
+      further = omega (arith, n .counted, all-size sets at own)
+
+      table-more : nodeSize * sizes whole ≤ length table
+          → putAt (nodeSize * at′) (allWords sets at′ others) table″ ≡ putAt 0 (allWords sets 0 whole) table
       table-more room =
-          let own : List TreeNode = nodesFrom sets at t in
-          let own-size = tree-words sets at t in
+          let own-size = trees-words sets at own in
           let others-size = trees-words sets at′ others in
-          let both = put-both (nodeSize * at) (wordsOf own) (allWords sets at′ others) table′ (nodeSize * at′)
-          (omega (arith, n .counted)) (omega (arith, all-counted, n .counted, a .table-sized)) in
-          let parts : wordsOf own ++ allWords sets at′ others ≡ allWords sets at (t ∷ others) =
-          rw (n .counted) (sym (concatMap-append nodeWords own (allNodes sets (at + sizeOf t) others))) in
+          let both = put-both (nodeSize * at) (allWords sets at own) (allWords sets at′ others) table′
+          (nodeSize * at′) (omega (arith, further)) (omega (arith, all-counted, further, a .table-sized)) in
+          let parts : allWords sets at own ++ allWords sets at′ others ≡ allWords sets at (own ++ others) =
+          rw further
+          (sym (concatMap-append nodeWords (allNodes sets at own) (allNodes sets (at + sizes own) others))
+          ∙ ap wordsOf (sym (nodes-append sets at own others))) in
           rw (n .put) (both ∙ ap (λ (l : List ℕ). putAt (nodeSize * at) l table′) parts)
           ∙ (rw next at (a .table-left))
 
-      starts-more : length roots ≤ length starts
-          → putAt (i + 1) (rootsFrom at′ others) (set starts′ i at) ≡ putAt 0 (rootsFrom 0 (map tree roots)) starts
-      unfolding rootsFrom
-      starts-more few =
-          let many : length (rootsFrom at′ others) ≡ length roots - (i + 1) =
-          roots-length at′ others ∙ length-map (drop (i + 1) roots) tree ∙ length-drop (i + 1) roots in
-          let one : set starts′ i at ≡ putAt i (at ∷ []) starts′ =
-          put-each i at [] starts′ (omega (arith, a .starts-sized)) in
-          let both = put-both i (at ∷ []) (rootsFrom at′ others) starts′ (i + 1) refl
-          (omega (arith, a .starts-sized)) in
-          rw one (both ∙ rw (n .counted)) ∙ (rw next at (a .starts-left))
+      starts-more : (start : ℕ) → start ≡ startOf (roots ! i) at → length roots ≤ length starts
+          → putAt (i + 1) (rootsFrom at′ (from tree roots (i + 1))) (set starts′ i start)
+          ≡ putAt 0 (rootsFrom 0 (from tree roots 0)) starts
+      starts-more start is few =
+          let later : List ℕ = rootsFrom at′ (from tree roots (i + 1)) in
+          let many : length later ≡ length roots - (i + 1) =
+          roots-length at′ (from tree roots (i + 1)) ∙ length-map (drop (i + 1) roots) (found tree)
+          ∙ length-drop (i + 1) roots in
+          let one : set starts′ i start ≡ putAt i (start ∷ []) starts′ =
+          put-each i start [] starts′ (omega (arith, a .starts-sized)) in
+          let both = put-both i (start ∷ []) later starts′ (i + 1) refl (omega (arith, a .starts-sized)) in
+          let first : start ∷ later ≡ rootsFrom at (from tree roots i) =
+          ap₂ (λ (x at : ℕ). x ∷ rootsFrom at (from tree roots (i + 1))) is further
+          ∙ sym (starts-first tree (roots ! i) at (from tree roots (i + 1)))
+          ∙ ap (rootsFrom at) (sym (trees-next tree roots i h)) in
+          rw one (both ∙ ap (λ (l : List ℕ). putAt i l starts′) first) ∙ a .starts-left
 
-      pub all-more : nodeSize * sizes (map tree roots) ≤ length table → length roots ≤ length starts
+      pub all-more : (start : ℕ) → start ≡ startOf (roots ! i) at
+          → Numberable sets 0 (length (allNodes sets 0 whole)) table → length roots ≤ length starts
           → length table″ ≡ length table′
-          → AllNumbered tree sets roots table starts (i + 1) at′ table″ (set starts′ i at)
-      all-more room few kept =
+          → AllNumbered tree sets roots table starts (i + 1) at′ table″ (set starts′ i start)
+      all-more start is room few kept =
           record {
             within = omega arith;
-            counted = omega (arith, all-counted, n .counted);
+            counted = omega (arith, all-counted, further);
             table-sized = kept ∙ a .table-sized;
-            starts-sized = length-set starts′ i at ∙ a .starts-sized;
-            table-left = table-more room;
-            starts-left = starts-more few;
+            starts-sized = length-set starts′ i start ∙ a .starts-sized;
+            table-left = table-more (omega (arith, counted-room room .room));
+            starts-left = starts-more start is few;
           }
 
   pub all-end : length roots ≤ i
-      → (table′ ≡ putAt 0 (allWords sets 0 (map tree roots)) table)
-      × (starts′ ≡ putAt 0 (rootsFrom 0 (map tree roots)) starts)
-  unfolding allNodes rootsFrom concatMap
+      → (table′ ≡ putAt 0 (allWords sets 0 whole) table)
+      × (starts′ ≡ putAt 0 (rootsFrom 0 (from tree roots 0)) starts)
+  unfolding allNodes rootsFrom treesThere concatMap
   all-end h =
       let none = trees-end tree roots i h in (
         sym (put-none (nodeSize * at) table′) ∙ (rw none at (a .table-left)),

@@ -1,7 +1,7 @@
 -- One spelling of a book, of the entries: a text is read, and what was read is written. "Two accepted books give the
 -- same bytes exactly when they have the same half-width, states, phones and, tree by tree, the same shape, positions,
--- member sets and models." And what was written is read with these trees. The premises are what the contracts of `read`
--- and `write` ensure of their answers and buffers.
+-- member sets and models"; the form "keeps and compares the B lines". And what was written is read with these trees and
+-- plain phones. The premises are what the contracts of `read` and `write` ensure of their answers and buffers.
 use mathlib.Core.Path.{_≡_, refl, sym, ap, _∙_, subst}
 use mathlib.Core.Logic.{_↔_}
 use mathlib.Core.List.{List}
@@ -152,7 +152,7 @@ read-then-write {lent} {text} {header} {tables} read {size} {answer} {after} roo
 pub record ReadAgain (header : Header) (tables : Tables) (answer : Reading) (tables′ : Tables) : Type 0 where
   pub header′ : Header
   pub accepted : answer ≡ reading.Accepted header′
-  -- the same trees,
+  -- the same trees and plain phones,
   pub same : SameBook (tablesContents header′ tables′) (tablesContents header tables)
   -- so every phone sequence is transcribed as it was
   pub transcribes : (S : List ℕ) (size : ℕ) → transcribe header′ tables′ S size ≡ transcribe header tables S size

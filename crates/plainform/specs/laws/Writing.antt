@@ -2,11 +2,13 @@
 -- the book that was lent, so the lines that are written are its lines, and the answer and the text are those that the
 -- definition says.
 use mathlib.Core.Path.{_≡_, sym, ap, _∙_, subst}
+use mathlib.Core.Logic.{inl, inr}
 use mathlib.Core.List.{List, [], _∷_, map}
-use mathlib.Core.Bool.{true, false}
+use mathlib.Core.Bool.{true, false, not}
+use mathlib.Core.Option.{Option}
 use Prim.Native.Nat.{ℕ, _*_, _/_, _≤_, _<_}
 use native.Mathlib.Omega.{arith}
-use lib.Dec.{T, lt→ltb}
+use lib.Dec.{T, ltb, eqb, lt→ltb}
 use lib.ListN.{length, take, length-append, length-map}
 use lib.Seq.{length-take-le}
 use borrow.Author.Tests.{le-leb, lt-leb}
@@ -16,13 +18,16 @@ use Rattle.definitions.specs.Forms.{mostNodes}
 use Rattle.definitions.specs.Lists.{concatMap, cleared, padded}
 use Rattle.definitions.specs.Faults.{judge}
 use Rattle.definitions.specs.Lines.{Line}
-use Rattle.definitions.specs.BookLines.{rootCount}
+use Rattle.definitions.specs.BookLines.{rootCount, noRoot}
 use Rattle.definitions.specs.BookReading.{Lent, nodeSize, wideEnough}
 use Rattle.definitions.specs.Tables.{Contents, Tables, lentOf, nodeWords, nodeRecords, tablesOf, tablesContents}
 use Rattle.definitions.specs.ForeignTables.{nodesKnown, tablesKnown}
 use Rattle.definitions.specs.BookText.{bookLineFor, linesOfBook}
-use Rattle.definitions.specs.PlainForm.{Tree, asking, giving, treesOf, setsIn, setsOf, sizeOf, allNodes, rootsFrom}
+use Rattle.definitions.specs.PlainForm.{Tree, asking, giving, treeFor, treesOf, setsIn, setsOf, sizeOf, allNodes}
+use Rattle.definitions.specs.PlainForm.{rootsFrom}
 use Rattle.definitions.specs.PlainForm.{numbered, plainContents, headerFor, plainLines, plainText, writePlain}
+use Rattle.definitions.specs.laws.lists.Tests.{T-or, by-test}
+use Rattle.definitions.specs.laws.lists.Selected.{in-select}
 use Rattle.definitions.specs.laws.lists.Sums.{sumOf}
 use Rattle.definitions.specs.laws.lists.Lists.{padded-none, padded-take}
 use Rattle.definitions.specs.laws.lists.Members.{every-in}
@@ -34,7 +39,7 @@ use Rattle.definitions.specs.spelling.PlainStated.{stated-root, stated-size, pl
 use Rattle.lines.specs.Putting.{putAt}
 use Rattle.lines.specs.laws.Putting.{put-after}
 use Rattle.tables.specs.Usable.{treeNodes}
-use Rattle.tables.specs.laws.KnownTables.{tables-fit}
+use Rattle.tables.specs.laws.KnownTables.{known-records}
 use Rattle.writing.specs.Answers.{TextLeft}
 use Rattle.writing.specs.declared.Written.{Written}
 use Rattle.writing.specs.declared.Written.the-variants.{Bytes}
@@ -42,7 +47,7 @@ use Rattle.writing.specs.laws.Answering.{refusal, refused-left, answered-left}
 use Rattle.booktext.specs.Parts.{contentsWith, bookLines}
 use Rattle.booktext.specs.Putting.{Put}
 use Rattle.booktext.specs.laws.Texts.{text-counted, text-put}
-use Rattle.plainform.specs.LentTrees.{treeIn, treesIn, KnownRoots}
+use Rattle.plainform.specs.LentTrees.{treesIn, thereIn, KnownRoots}
 use Rattle.plainform.specs.Collecting.{Collected}
 use Rattle.plainform.specs.Numbering.{allWords, Numberable}
 
@@ -73,19 +78,23 @@ abbrev pub rootRoom : ℕ
 rootRoom = 192
 
 abbrev room : Lent
-room = record { nodes = nodeRoom; classes = mostNodes; roots = rootRoom }
+room = record { nodes = nodeRoom; classes = mostNodes; roots = rootRoom; plains = 64 }
 
--- known records, and a book that lines can state, with all of these classes and roots
-pub record LentBook (header : Header) (nodes classes roots : List ℕ) : Type 0 where
+-- known records, and a book that lines can state, with all of these classes, roots and plain phones
+pub record LentBook (header : Header) (nodes classes roots plains : List ℕ) : Type 0 where
   pub known : T (nodesKnown header 0 (nodeRecords header nodes))
-  pub stated : Stated header (contentsWith header nodes classes roots)
+  pub stated : Stated header (contentsWith header nodes classes roots plains)
 
-module _ {header : Header} {nodes classes roots : List ℕ} (lent : LentBook header nodes classes roots) where
+module _ {header : Header} {nodes classes roots plains : List ℕ}
+    (lent : LentBook header nodes classes roots plains) where
   abbrev contents : Contents
-  contents = contentsWith header nodes classes roots
+  contents = contentsWith header nodes classes roots plains
 
-  abbrev trees : List Tree
+  abbrev trees : List (Option Tree)
   trees = treesIn header nodes classes roots
+
+  abbrev there : List Tree
+  there = thereIn header nodes classes roots
 
   s : Stated header contents
   s = lent .stated
@@ -94,42 +103,48 @@ module _ {header : Header} {nodes classes roots : List ℕ} (lent : LentBook hea
   roots-known =
       record {
         known = lent .known;
-        listed =
-            every-in _ roots (λ root i.
-            lt→ltb root (header .nodes) (omega (arith, stated-root header contents s root i, s .heads .nodes)));
+        listed = every-in _ roots (λ root i. T-or (eqb root noRoot) (ltb root (header .nodes)) .1
+            (by-test (eqb root noRoot) (λ e. inl (rw e tt))
+            (λ e.
+            let given = in-select (λ root. not (eqb root noRoot)) root roots i (rw e tt) in
+            inr (lt→ltb root (header .nodes)
+            (omega (arith, stated-root header contents s root given, s .heads .nodes))))));
       }
 
-  -- how much is put down: nodes, uses of sets, and roots
-  nodes-are : sizes trees ≡ header .nodes
+  -- how much is put down: nodes, uses of sets, roots and plain phones
+  nodes-are : sizes there ≡ header .nodes
   unfolding treesOf
   nodes-are = stated-size header contents s
 
-  pub nodes-fit : sizes trees ≤ mostNodes
+  nodes-fit : sizes there ≤ mostNodes
   nodes-fit = omega (arith, nodes-are, s .in-range .nodes-range .high)
 
-  pub uses-fit : length (concatMap setsIn trees) ≤ mostNodes
-  uses-fit = omega (arith, uses-few trees, nodes-fit)
+  pub uses-fit : length (concatMap setsIn there) ≤ mostNodes
+  uses-fit = omega (arith, uses-few there, nodes-fit)
 
   pub roots-fit : length roots ≤ rootRoom
   roots-fit = omega (arith, roots-few header (s .in-range), s .heads .roots)
 
+  pub plains-fit : length plains ≤ mostNodes
+  plains-fit = omega (arith, s .in-range .phones-range .high, s .heads .plains)
+
   -- the sets that were collected
   module _ {before sets : List ℕ} {used : ℕ} (sized : length before ≡ mostNodes)
-      (c : Collected before 0 (concatMap setsIn trees) used sets) where
+      (c : Collected before 0 (concatMap setsIn there) used sets) where
     pub used-few : used ≤ mostNodes
     used-few = omega (arith, c .few, uses-fit)
 
     pub used-many : length (take used sets) ≡ used
     used-many = length-take-le used sets (omega (arith, c .sized, used-few))
 
-    used-sets : take used sets ≡ setsOf trees
+    used-sets : take used sets ≡ setsOf there
     unfolding setsOf
     used-sets = c .holds
 
     pub trees-numberable : {table : List ℕ} → length table ≡ nodeRoom
-        → Numberable (take used sets) 0 (length (allNodes (take used sets) 0 trees)) table
+        → Numberable (take used sets) 0 (length (allNodes (take used sets) 0 there)) table
     trees-numberable e =
-        let many = all-size (take used sets) 0 trees in
+        let many = all-size (take used sets) 0 there in
         record {
           few-sets = omega (arith, used-many, used-few);
           few-nodes = omega (arith, many, nodes-fit);
@@ -150,7 +165,7 @@ module _ {header : Header} {nodes classes roots : List ℕ} (lent : LentBook hea
     plain-header : plain ≡ headerFor (plainContents contents)
     unfolding headerFor plainContents numbered treesOf
     plain-header =
-        let count : used ≡ length (setsOf trees) = sym used-many ∙ ap length used-sets in
+        let count : used ≡ length (setsOf there) = sym used-many ∙ ap length used-sets in
         let many : header .nodes ≡ headerFor (plainContents contents) .nodes =
         sym (plain-nodes header contents s) in
         λ i. record {
@@ -162,23 +177,23 @@ module _ {header : Header} {nodes classes roots : List ℕ} (lent : LentBook hea
         }
 
     pub plain-written : (table starts : List ℕ) (count : ℕ) → count ≡ length roots
-        → table ≡ putAt 0 (allWords (take used sets) 0 trees) (cleared nodeRoom)
+        → table ≡ putAt 0 (allWords (take used sets) 0 there) (cleared nodeRoom)
         → starts ≡ putAt 0 (rootsFrom 0 trees) (cleared rootRoom)
-        → bookLines plain table (take used sets) (take count starts) ≡ map bookLineFor (plainLines contents)
+        → bookLines plain table (take used sets) (take count starts) plains ≡ map bookLineFor (plainLines contents)
     unfolding plainLines plainContents numbered headerFor treesOf tablesContents tablesOf
     plain-written table starts count own-count t r =
         let new : Contents = plainContents contents in
         let stated = plain-stated header contents s in
         let table-is : table ≡ padded nodeRoom (concatMap nodeWords (new .nodes)) =
-        t ∙ put-first nodeRoom (allWords (take used sets) 0 trees)
-        ∙ ap (λ (l : List ℕ). padded nodeRoom (allWords l 0 trees)) used-sets in
+        t ∙ put-first nodeRoom (allWords (take used sets) 0 there)
+        ∙ ap (λ (l : List ℕ). padded nodeRoom (allWords l 0 there)) used-sets in
         let many : count ≡ length (rootsFrom 0 trees) =
-        own-count ∙ sym (roots-length 0 trees ∙ length-map roots (treeIn header nodes classes)) in
+        own-count ∙ sym (roots-length 0 trees ∙ length-map roots (treeFor (treeNodes header nodes) classes)) in
         let roots-there : take count starts ≡ new .roots =
         rw (r, put-first rootRoom (rootsFrom 0 trees)) (padded-take rootRoom count (rootsFrom 0 trees) many) in
         let nodes-there : treeNodes (headerFor new) table ≡ new .nodes =
         rw table-is (ap (λ (c : Contents). c .nodes) (tables-contents (headerFor new) room new (stated .heads))) in
-        ap (λ (h : Header). bookLines h table (take used sets) (take count starts)) plain-header
+        ap (λ (h : Header). bookLines h table (take used sets) (take count starts) plains) plain-header
         ∙ ap (λ (c : Contents). map bookLineFor (linesOfBook (headerFor new) c))
         (λ i. record {
           half = header .half;
@@ -187,6 +202,7 @@ module _ {header : Header} {nodes classes roots : List ℕ} (lent : LentBook hea
           nodes = nodes-there i;
           classes = used-sets i;
           roots = roots-there i;
+          plains = plains;
         })
 
 -- ---- known tables
@@ -213,28 +229,33 @@ module _ (header : Header) (tables : Tables) (known : tablesKnown header tables 
   unfolding rootCount
   roots-narrow = roots-few header (own-stated .in-range)
 
-  module _ {classes roots : ℕ} (c : classes ≡ header .classes) (r : roots ≡ header .phones * header .states) where
+  module _ {classes roots phones : ℕ} (c : classes ≡ header .classes) (r : roots ≡ header .phones * header .states)
+      (p : phones ≡ header .phones) where
     -- what is lent on: the tables cut to what the header says
     abbrev cut : Contents
-    cut = contentsWith header (tables .nodes) (take classes (tables .classes)) (take roots (tables .roots))
+    cut =
+        contentsWith header (tables .nodes) (take classes (tables .classes)) (take roots (tables .roots))
+        (take phones (tables .plains))
 
     own-cut : cut ≡ own
     unfolding tablesContents rootCount
-    own-cut = rw (c, r)
+    own-cut = rw (c, r, p)
 
     pub own-lent : LentBook header (tables .nodes) (take classes (tables .classes)) (take roots (tables .roots))
+        (take phones (tables .plains))
     own-lent =
         record {
-          known = tables-fit header tables held .nodes-known;
+          known =
+              known-records header (tables .nodes) (tables .classes) (tables .roots) (tables .plains) held;
           stated = subst (Stated header) (sym own-cut) own-stated;
         }
 
     -- so its lines are those that are put
     pub own-put : {lines : List Line} {text after : List ℕ} {count : ℕ} → lines ≡ map bookLineFor (plainLines cut)
         → Put lines text 0 after count → Put (map bookLineFor (plainLines own)) text 0 after count
-    own-put {text = text} {after} {count} e p =
+    own-put {text = text} {after} {count} e put =
         subst (λ (l : List Line). Put l text 0 after count)
-        (e ∙ ap (λ (b : Contents). map bookLineFor (plainLines b)) own-cut) p
+        (e ∙ ap (λ (b : Contents). map bookLineFor (plainLines b)) own-cut) put
 
   plain-header-stated : Stated (headerFor (plainContents own)) (plainContents own)
   plain-header-stated = plain-stated header own own-stated

@@ -10,7 +10,7 @@ use Rattle.definitions.specs.declared.Header.{Header}
 use Rattle.definitions.specs.Faults.{answered}
 use Rattle.definitions.specs.Forms.{_‥_}
 use Rattle.definitions.specs.BookLines.{leaf}
-use Rattle.definitions.specs.Tables.{Tables, nodeRecords, tablesBook, bookIn, tablesContents}
+use Rattle.definitions.specs.Tables.{Tables, tablesBook, bookIn, tablesContents}
 use Rattle.definitions.specs.ForeignTables.{tablesKnown}
 use Rattle.definitions.specs.Lookup.{nodeAt}
 use Rattle.definitions.specs.Arcs.{arcsIn}
@@ -21,8 +21,7 @@ use Rattle.definitions.specs.Ranges.{Within}
 use Rattle.definitions.specs.laws.books.Accepted.{leaf-fitting}
 use Rattle.definitions.specs.demand.Assembly.{built-tables-known, build-connects, arcs-decoded}
 use Rattle.definitions.specs.demand.BuiltKnown.{connected-known}
-use Rattle.definitions.specs.laws.books.KnownBooks.{known-nodes}
-use Rattle.tables.specs.laws.KnownTables.{tables-fit, known-sound}
+use Rattle.definitions.specs.laws.books.KnownBooks.{known-stated, stated-sound}
 
 -- the leaves of known tables have models in range
 known-leaf : (header : Header) (tables : Tables) → T (tablesKnown header tables)
@@ -31,7 +30,7 @@ known-leaf : (header : Header) (tables : Tables) → T (tablesKnown header table
 unfolding tablesBook bookIn tablesContents
 known-leaf header tables known =
     leaf-fitting header (tablesBook header tables .nodes)
-    (known-nodes header 0 (nodeRecords header (tables .nodes)) (tables-fit header tables known .nodes-known))
+    (known-stated header tables known .nodes)
 
 module _ (header : Header) (tables : Tables) (space : Space) (limit : ℕ) (built : Built)
     (answers : build header tables space limit ≡ answered built)
@@ -42,11 +41,11 @@ module _ (header : Header) (tables : Tables) (space : Space) (limit : ℕ) (buil
     unfolding tablesBook bookIn tablesContents buffersLeft
     built-known =
         let known = built-tables-known header tables space limit built answers in
-        let fit = tables-fit header tables known in
+        let s = known-stated header tables known in
         rw answers
         (connected-known (tablesBook header tables)
-        (known-sound header (tables .nodes) (tables .classes) (tables .roots) known)
-        (fit .ranges .states-range .high) (fit .ranges .phones-range .high)
+        (stated-sound header (tablesContents header tables) s)
+        (s .in-range .states-range .high) (s .in-range .phones-range .high)
         (λ node model h e. known-leaf header tables known node model h e .high) space limit built
         (build-connects header tables space limit built answers))
 

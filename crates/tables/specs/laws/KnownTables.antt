@@ -1,13 +1,15 @@
 -- What known tables say of themselves, for every entry that is lent tables: the header's ranges, tables wide
--- enough, roots that are nodes. The record at a node's words is the node of the tree, and it fits the header:
+-- enough, roots in force that are nodes. The record at a node's words is the node of the tree, and it fits the header:
 -- a question has its class, its position and its children in range, so children are greater nodes of the book;
 -- and no node is a child twice. So they hold a sound book, and what is shown of sound books holds of every book
 -- that an entry is lent, whatever left its tables.
-use mathlib.Core.Path.{_≡_, refl, sym, ap, _∙_}
-use mathlib.Core.List.{List, [], map}
+use mathlib.Core.Path.{_≡_, sym, ap, _∙_}
+use mathlib.Core.List.{List, [], _++_, map}
 use Prim.Native.Nat.{ℕ, _*_, _≤_, _<_}
+use native.Mathlib.Omega.{arith}
 use lib.Dec.{T}
-use lib.ListN.{length, drop, getD, List·getD-map}
+use lib.ListN.{length, take, drop, getD, List·getD-map, length-append}
+use lib.Seq.{take-at}
 use borrow.Author.Tests.{eq-eqb, ne-eqb}
 use Rattle.definitions.specs.declared.Header.{Header}
 use Rattle.definitions.specs.declared.Node.{Node}
@@ -15,21 +17,25 @@ use Rattle.definitions.specs.Lists.{records}
 use Rattle.definitions.specs.BookLines.{question, leaf, rootCount}
 use Rattle.definitions.specs.BookReading.{nodeSize, ChildOnce}
 use Rattle.definitions.specs.Tables.{Tables, nodeOf, treeNode, nodeRecords, tablesBook, askedOf, Contents}
-use Rattle.definitions.specs.Tables.{tablesContents, bookIn}
-use Rattle.definitions.specs.ForeignTables.{headerKnown, nodesKnown, classTableKnown, rootTableKnown, namedOnce}
+use Rattle.definitions.specs.Tables.{tablesContents, bookIn, rootsInForce}
+use Rattle.definitions.specs.ForeignTables.{headerKnown, nodesKnown, classTableKnown, namedOnce}
 use Rattle.definitions.specs.ForeignTables.{tablesKnown}
 use Rattle.definitions.specs.Lookup.{nodeAt}
 use Rattle.definitions.specs.laws.lists.Records.{record-at}
 use Rattle.definitions.specs.laws.books.Tables.{node-of-first, tree-nodes-length}
 use Rattle.definitions.specs.laws.books.Accepted.{allFrom, NodeFits, QuestionFits, question-fitting}
-use Rattle.definitions.specs.laws.books.Accepted.{fitting-forward, fitting-sound}
+use Rattle.definitions.specs.laws.books.Accepted.{fitting-forward}
 use Rattle.definitions.specs.laws.trees.Walks.{Forward}
-use Rattle.definitions.specs.laws.books.AcceptedKnown.{header-ranges, tables-parts, holds-padded}
+use Rattle.definitions.specs.laws.books.AcceptedKnown.{header-ranges, tables-parts, holds-padded, KnownParts}
 use Rattle.definitions.specs.laws.books.KnownBooks.{known-nodes, node-table-parts, class-table-parts}
-use Rattle.definitions.specs.laws.books.KnownBooks.{root-table-parts, none-orphaned, known-stated}
+use Rattle.definitions.specs.laws.books.KnownBooks.{none-orphaned, Stated, known-stated, stated-force}
+use Rattle.definitions.specs.laws.books.KnownBooks.{stated-sound}
+use Rattle.definitions.specs.laws.books.Books.{roots-few}
 use Rattle.definitions.specs.laws.books.Sound.{Sound}
 use Rattle.definitions.specs.laws.books.NamedOnce.{child-once}
 use Rattle.tables.specs.Lending.{lentTables}
+use Rattle.tables.specs.Forcing.{forcedRoots, Forceable}
+use Rattle.tables.specs.laws.Forcing.{forced-length}
 use Rattle.tables.specs.Usable.{treeNodes, bookWith, RootsListed, Fit}
 
 -- ---- the record of a node
@@ -95,11 +101,6 @@ module _ (header : Header) where
   classes-wide : (words : List ℕ) → T (classTableKnown header words) → header .classes ≤ length words
   classes-wide words h = holds-padded (header .classes) words (class-table-parts header words h .0) .0
 
-  roots-listed : (words : List ℕ) → T (rootTableKnown header words) → RootsListed header words
-  roots-listed words h =
-      let (words-held, below-nodes) = root-table-parts header words h in
-      record { enough = holds-padded (rootCount header) words words-held .0; listed = below-nodes }
-
   children-once : (tables : Tables) → T (nodesKnown header 0 (nodeRecords header (tables .nodes)))
       → T (namedOnce (tablesContents header tables)) → ChildOnce (treeNodes header (tables .nodes))
   unfolding tablesContents
@@ -108,39 +109,74 @@ module _ (header : Header) where
       child-once (contents .nodes) (contents .roots) (known-forward header (tables .nodes) known)
       (none-orphaned contents h)
 
--- all of it, from the test for foreign tables
-pub tables-fit : (header : Header) (tables : Tables) → T (tablesKnown header tables)
-    → Fit header (tables .nodes) (tables .classes) (tables .roots)
-tables-fit header tables h =
-    let parts = tables-parts header tables .0 h in
-    let (_, known) = node-table-parts header (tables .nodes) (parts .nodes) in
-    record {
-      header-known = parts .own;
-      ranges = header-ranges header (parts .own);
-      nodes-known = known;
-      classes-wide = classes-wide header (tables .classes) (parts .classes);
-      roots-listed = roots-listed header (tables .roots) (parts .roots);
-      once = children-once header tables known (parts .once);
-    }
+module _ (header : Header) (nodes classes roots plains : List ℕ)
+    (known : T (tablesKnown header (lentTables nodes classes roots plains)))
+  where
+    abbrev tables : Tables
+    tables = lentTables nodes classes roots plains
 
--- ---- the book
+    parts : KnownParts header tables
+    parts = tables-parts header tables .0 known
 
--- the roots in force are those of the table
-pub own-book : (header : Header) (tables : Tables)
-    → tablesBook header tables ≡ bookWith header (tables .nodes) (tables .classes) (tables .roots)
-unfolding tablesBook bookIn tablesContents bookWith
-own-book header tables = refl
+    stated : Stated header (tablesContents header tables)
+    stated = known-stated header tables known
 
-module _ (header : Header) (nodes classes roots : List ℕ)
-    (known : T (tablesKnown header (lentTables nodes classes roots))) where
-  abbrev tables : Tables
-  tables = lentTables nodes classes roots
+    pub known-header : T (headerKnown header)
+    known-header = parts .own
 
-  pub known-header : T (headerKnown header)
-  known-header = tables-parts header tables .0 known .own
+    pub known-records : T (nodesKnown header 0 (nodeRecords header nodes))
+    known-records = node-table-parts header nodes (parts .nodes) .1
 
-  pub known-sound : Sound (tablesBook header tables)
-  unfolding tablesBook
-  known-sound =
-      let s = known-stated header tables known in
-      fitting-sound header (tablesContents header tables) (s .in-range) (s .heads) (s .nodes) (s .roots)
+    pub known-sound : Sound (tablesBook header tables)
+    unfolding tablesBook
+    known-sound = stated-sound header (tablesContents header tables) stated
+
+    -- the roots in force can be found, and have room where there is room for the most
+    pub known-forceable : Forceable header roots plains × (rootCount header ≤ 192)
+    known-forceable = (
+      record { header-known = parts .own; plains-known = parts .plains; roots-known = parts .roots },
+      roots-few header (header-ranges header (parts .own)),
+    )
+
+    -- ---- with the roots in force
+
+    module _ (rest : List ℕ) {forced : List ℕ} (e : forced ≡ forcedRoots header roots plains ++ rest) where
+      -- the words that count
+      own-forced : take (rootCount header) forced ≡ rootsInForce (tablesContents header tables)
+      unfolding rootsInForce tablesContents
+      own-forced =
+          rw e (take-at (forcedRoots header roots plains) rest (rootCount header)
+          (forced-length header roots plains))
+
+      forced-listed : RootsListed header forced
+      forced-listed =
+          record {
+            enough =
+                rw (e, length-append (forcedRoots header roots plains) rest)
+                (omega (arith, forced-length header roots plains));
+            listed = rw own-forced (stated-force header (tablesContents header tables) stated);
+          }
+
+      -- all of it, from the test for foreign tables
+      pub tables-fit : Fit header nodes classes forced
+      tables-fit =
+          record {
+            header-known = parts .own;
+            ranges = header-ranges header (parts .own);
+            nodes-known = known-records;
+            classes-wide = classes-wide header classes (parts .classes);
+            roots-listed = forced-listed;
+            once = children-once header tables known-records (parts .once);
+          }
+
+      -- and the book
+      pub forced-book : tablesBook header tables ≡ bookWith header nodes classes forced
+      unfolding tablesBook bookIn tablesContents bookWith
+      forced-book = λ i. record {
+        half = header .half;
+        states = header .states;
+        phones = header .phones;
+        nodes = treeNodes header nodes;
+        classes = take (header .classes) classes;
+        roots = sym own-forced i;
+      }

@@ -134,7 +134,7 @@ module _ (header : Header) (words roots : List ℕ) (known : T (headerKnown head
   pub once-counted : {used count first : ℕ} {children all : List ℕ} → used ≡ rootCount header
       → count ≡ header .nodes → children ≡ namedAll (replicate 4096 0) (childrenIn header words)
       → all ≡ namedAll children (take used roots) → first ≡ firstMisnamed (take count all)
-      → eqb first count ≡ namedOnce (tablesContents header (lentTables words [] roots))
+      → eqb first count ≡ namedOnce (tablesContents header (lentTables words [] roots []))
   unfolding namedOnce tablesContents
   once-counted {used} {count} {first} {children} {all} a b c d e =
       let counted : all ≡ countsOf 4096 (allNames bookNodes bookRoots) = rw (d, c, a) counts-both in

@@ -15,7 +15,7 @@ use Rattle.definitions.specs.BookLines.{rootCount}
 use Rattle.definitions.specs.laws.lists.Tests.{every-at}
 use Rattle.tables.specs.Usable.{RootsListed}
 
-tree-place : (header : Header) (phone state : ℕ) → 1 ≤ phone → phone ≤ header .phones → 1 ≤ state
+pub tree-place : (header : Header) (phone state : ℕ) → 1 ≤ phone → phone ≤ header .phones → 1 ≤ state
     → state ≤ header .states → (phone - 1) * header .states + (state - 1) < rootCount header
 unfolding rootCount
 tree-place header phone state a b c d =

@@ -6,7 +6,7 @@ use mathlib.Core.Bool.{Bool, true, false, _||_}
 use Prim.Native.Nat.{ℕ, _+_, _*_, _≤_, _<_}
 use native.Mathlib.Numerals.{add-one}
 use native.Mathlib.Omega.{arith}
-use lib.Dec.{T, eqb}
+use lib.Dec.{eqb}
 use lib.ListN.{length, take, drop}
 use lib.Seq.{length-take-le}
 use borrow.Author.Tests.{le-leb, lt-leb}
@@ -16,9 +16,7 @@ use Rattle.definitions.specs.BookLines.{rootCount}
 use Rattle.definitions.specs.BookReading.{nodeSize}
 use Rattle.definitions.specs.Tables.{nodeOf}
 use Rattle.definitions.specs.ForeignTables.{questionKnown, leafKnown, nodesKnown, holdsOnly, nodeTableKnown}
-use Rattle.definitions.specs.ForeignTables.{rootTableKnown}
 use Rattle.definitions.specs.laws.books.AcceptedKnown.{holds-padded}
-use Rattle.definitions.specs.laws.books.KnownBooks.{root-table-parts}
 use Rattle.lines.specs.laws.Passing.{Passed}
 use Rattle.tables.specs.Usable.{recordsFrom}
 use Rattle.tables.specs.laws.Records.{records-start, records-next, records-end}
@@ -50,10 +48,8 @@ unfolding rootCount
 root-count header e f = rw (e, f)
 
 pub roots-taken : (header : Header) (words : List ℕ) {count : ℕ} → count ≡ rootCount header
-    → T (rootTableKnown header words) → count ≡ length (take count words)
-roots-taken header words {count} e h =
-    let (words-held, _) = root-table-parts header words h in
-    sym (length-take-le count words (omega (arith, holds-padded (rootCount header) words words-held .0)))
+    → rootCount header ≤ length words → count ≡ length (take count words)
+roots-taken header words {count} e h = sym (length-take-le count words (omega arith))
 
 -- ---- nodes
 

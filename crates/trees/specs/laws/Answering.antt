@@ -25,8 +25,9 @@ use Rattle.definitions.specs.TreesGive.{silentEnds}
 use Rattle.definitions.specs.Transcription.{transcription, isUtterance, transcribe}
 use Rattle.definitions.specs.laws.lists.Tests.{T-three, by-test}
 use Rattle.definitions.specs.laws.lists.Lists.{drop-cleared}
+use Rattle.definitions.specs.laws.books.AcceptedKnown.{header-ranges}
 use Rattle.tables.specs.Usable.{treeNodes}
-use Rattle.tables.specs.laws.KnownTables.{tables-fit}
+use Rattle.tables.specs.laws.KnownTables.{known-header}
 use Rattle.trees.specs.declared.Lookup.{Lookup}
 use Rattle.trees.specs.declared.Lookup.the-variants as lookup
 use Rattle.trees.specs.declared.Transcript.{Transcript}
@@ -133,7 +134,9 @@ utterance-phones phones S u =
     T-three (ltb 0 (length S)) (every (isPhone phones) S) (silentEnds S) .0 u .1
 
 pub some-state : (header : Header) (tables : Tables) → tablesKnown header tables ≡ true → 0 < header .states
-some-state header tables h = tables-fit header tables (rw h tt) .ranges .states-range .low
+some-state header tables h =
+    let known = known-header header (tables .nodes) (tables .classes) (tables .roots) (tables .plains) (rw h tt) in
+    header-ranges header known .states-range .low
 
 module _ (header : Header) (tables : Tables) (S : List ℕ) (size : ℕ) (answer : Transcript) (left : List ℕ)
   where

@@ -29,6 +29,9 @@ enum-told-2 c = search needs
 enum-told-3 : tie.Need-enum-told-3
 enum-told-3 c = search needs
 
+enum-told-4 : tie.Need-enum-told-4
+enum-told-4 c = search needs
+
 returns : tie.Need-returns
 unfolding entryLine isLineOf nodeLineIn atLeastOne
 returns c = rw (c .before .before .entry .given .1, c .wide .ensures, or-false)
@@ -49,6 +52,10 @@ returns-5 : tie.Need-returns-5
 unfolding entryLine isLineOf nodeLineIn atLeastOne
 returns-5 c = rw (c .enum-told3 .given .1)
 
+returns-6 : tie.Need-returns-6
+unfolding entryLine isLineOf nodeLineIn atLeastOne
+returns-6 c = rw (c .enum-told4 .given .1)
+
 pub is-line-of-spec : {M : Type 1} → statement M
 is-line-of-spec =
     tie.close
@@ -60,8 +67,10 @@ is-line-of-spec =
     enum-told
     enum-told-2
     enum-told-3
+    enum-told-4
     returns
     returns-2
     returns-3
     returns-4
-    returns-5)
+    returns-5
+    returns-6)

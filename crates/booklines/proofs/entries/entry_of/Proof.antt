@@ -2,9 +2,9 @@
 use borrow.Author.Needs.{needs}
 use Rattle.definitions.specs.BookLines.{bookLine}
 use Rattle.booklines.specs.Entries.{entryLine}
+use Rattle.booklines.proofs.entries.entry_of.Statement.{statement}
 use Rattle.booklines.specs.laws.Rows.{row-says}
 use Rattle.booklines.specs.laws.Numbers.{other-number}
-use Rattle.booklines.proofs.entries.entry_of.Statement.{statement}
 use Rattle.booklines.proofs.entries.entry_of.Tie as tie
 
 array-read-t8 : tie.Need-array-read-t8
@@ -71,17 +71,28 @@ array-read-t50 c = search needs
 array-read-t53 : tie.Need-array-read-t53
 array-read-t53 c = search needs
 
+returns-5 : tie.Need-returns-5
+unfolding entryLine bookLine
+returns-5 c = rw (row-says _ (c .before .before .before .before .before .before .pre), c .if5 .taken)
+
 array-read-t56 : tie.Need-array-read-t56
 array-read-t56 c = search needs
 
-returns-5 : tie.Need-returns-5
+array-read-t59 : tie.Need-array-read-t59
+array-read-t59 c = search needs
+
+array-read-t62 : tie.Need-array-read-t62
+array-read-t62 c = search needs
+
+returns-6 : tie.Need-returns-6
 unfolding entryLine bookLine
-returns-5 c =
-    let no-H = other-number 72 _ (c .before .before .before .if1 .left) in
-    let no-Q = other-number 81 _ (c .before .before .if2 .left) in
-    let no-N = other-number 78 _ (c .before .if3 .left) in
-    let no-L = other-number 76 _ (c .if4 .left) in
-    rw (row-says _ (c .before .before .before .before .before .pre), no-H, no-Q, no-N, no-L)
+returns-6 c =
+    let no-H = other-number 72 _ (c .before .before .before .before .if1 .left) in
+    let no-Q = other-number 81 _ (c .before .before .before .if2 .left) in
+    let no-N = other-number 78 _ (c .before .before .if3 .left) in
+    let no-L = other-number 76 _ (c .before .if4 .left) in
+    let no-B = other-number 66 _ (c .if5 .left) in
+    rw (row-says _ (c .before .before .before .before .before .before .pre), no-H, no-Q, no-N, no-L, no-B)
 
 pub entry-of-spec : {M : Type 1} → statement M
 entry-of-spec =
@@ -107,5 +118,8 @@ entry-of-spec =
     returns-4
     array-read-t50
     array-read-t53
+    returns-5
     array-read-t56
-    returns-5)
+    array-read-t59
+    array-read-t62
+    returns-6)

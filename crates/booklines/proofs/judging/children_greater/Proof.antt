@@ -25,6 +25,9 @@ enum-told-3 c = search needs
 enum-told-4 : tie.Need-enum-told-4
 enum-told-4 c = search needs
 
+enum-told-5 : tie.Need-enum-told-5
+enum-told-5 c = search needs
+
 returns-2 : tie.Need-returns-2
 unfolding entryLine childrenGreater
 returns-2 c = rw (c .before .before .entry .given .1, lt-ltb _ _ (c .if1 .left))
@@ -45,6 +48,10 @@ returns-6 : tie.Need-returns-6
 unfolding entryLine childrenGreater
 returns-6 c = rw (c .enum-told4 .given .1)
 
+returns-7 : tie.Need-returns-7
+unfolding entryLine childrenGreater
+returns-7 c = rw (c .enum-told5 .given .1)
+
 pub children-greater-spec : {M : Type 1} → statement M
 children-greater-spec =
     tie.close
@@ -55,8 +62,10 @@ children-greater-spec =
     enum-told-2
     enum-told-3
     enum-told-4
+    enum-told-5
     returns-2
     returns-3
     returns-4
     returns-5
-    returns-6)
+    returns-6
+    returns-7)

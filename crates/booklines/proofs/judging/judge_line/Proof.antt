@@ -8,13 +8,13 @@ use lib.ListN.{drop}
 use borrow.Author.Needs.{needs}
 use Rattle.definitions.specs.Faults.{Test}
 use Rattle.definitions.specs.BookReading.{bookTests}
-use Rattle.definitions.specs.laws.lists.Tests.{held}
 use Rattle.lines.specs.Judging.{verdictOf}
 use Rattle.lines.specs.Rows.{lineIn}
-use Rattle.lines.specs.laws.Judging.{LeftTo, test-held, test-failed, none-failed}
 use Rattle.booklines.specs.Entries.{entryLine, lentOf}
 use Rattle.booklines.specs.States.{testsIn}
 use Rattle.booklines.proofs.judging.judge_line.Statement.{statement}
+use Rattle.definitions.specs.laws.lists.Tests.{held}
+use Rattle.lines.specs.laws.Judging.{LeftTo, test-held, test-failed, none-failed}
 use Rattle.booklines.proofs.judging.judge_line.Tie as tie
 
 -- the tests of the line, and that the verdict is left to those from the n-th on
@@ -72,7 +72,7 @@ in-order-requires : tie.Need-in-order-requires
 in-order-requires c κs =
     let at1 = c .before .before .before .before .before in
     let follows = held (at1 .before .follows .ensures) (at1 .if1 .left) in
-    (start1 at1 .pre .0, start1 at1 .pre .1, subst T (sym follows) tt)
+    (start1 at1 .pre, subst T (sym follows) tt)
 
 returns-4 : tie.Need-returns-4
 unfolding testsIn bookTests

@@ -3,8 +3,8 @@ use mathlib.Core.Path.{sym}
 use borrow.Author.Needs.{needs}
 use Rattle.definitions.specs.BookLines.{headerIn}
 use Rattle.booklines.specs.Entries.{entryLine}
-use Rattle.booklines.specs.laws.Judged.{no-header-fits}
 use Rattle.booklines.proofs.judging.tables_fit.Statement.{statement}
+use Rattle.booklines.specs.laws.Judged.{no-header-fits}
 use Rattle.booklines.proofs.judging.tables_fit.Tie as tie
 
 enum-known-entry : tie.Need-enum-known-entry
@@ -24,6 +24,9 @@ enum-told-3 c = search needs
 
 enum-told-4 : tie.Need-enum-told-4
 enum-told-4 c = search needs
+
+enum-told-5 : tie.Need-enum-told-5
+enum-told-5 c = search needs
 
 returns : tie.Need-returns
 unfolding entryLine headerIn
@@ -45,6 +48,10 @@ returns-5 : tie.Need-returns-5
 unfolding entryLine headerIn
 returns-5 c = rw (c .enum-told4 .given .1) (sym (no-header-fits _))
 
+returns-6 : tie.Need-returns-6
+unfolding entryLine headerIn
+returns-6 c = rw (c .enum-told5 .given .1) (sym (no-header-fits _))
+
 pub tables-fit-spec : {M : Type 1} → statement M
 tables-fit-spec =
     tie.close
@@ -55,8 +62,10 @@ tables-fit-spec =
     enum-told-2
     enum-told-3
     enum-told-4
+    enum-told-5
     returns
     returns-2
     returns-3
     returns-4
-    returns-5)
+    returns-5
+    returns-6)

@@ -5,8 +5,8 @@ use borrow.Author.Tests.{le-leb, lt-leb}
 use borrow.Author.Needs.{needs}
 use Rattle.definitions.specs.BookLines.{rootCount}
 use Rattle.definitions.specs.BookReading.{wideEnough}
-use Rattle.definitions.specs.laws.lists.Products.{product-fits}
 use Rattle.booklines.proofs.judging.wide_enough.Statement.{statement}
+use Rattle.definitions.specs.laws.lists.Products.{product-fits}
 use Rattle.booklines.proofs.judging.wide_enough.Tie as tie
 
 wide-requires : tie.Need-wide-requires
@@ -37,16 +37,32 @@ wide-requires-3 c κs = search needs
 wide-requires-4 : tie.Need-wide-requires-4
 wide-requires-4 c κs = search needs
 
-mul-result : tie.Need-mul-result
-mul-result c = record { fits = product-fits (omega arith) (omega arith) }
+mul-if3 : tie.Need-mul-if3
+mul-if3 c = record { fits = product-fits (omega arith) (omega arith) }
 
 returns-3 : tie.Need-returns-3
 unfolding wideEnough rootCount
 returns-3 c =
-    let a = c .before .before .before .before .before .before .before .before .before .args in
+    let product = c .before .before in
+    let a = product .before .before .before .before .before .before .before .before .args in
     let first = le-leb (5 * a .header .nodes) (a .lengths .nodes) (omega arith) in
     let second = le-leb (a .header .classes) (a .lengths .classes) (omega arith) in
-    rw (c .before .before .wide3 .ensures, c .before .wide4 .ensures, first, second)
+    let third = rw (product .before .wide3 .ensures, product .wide4 .ensures) at (c .if3 .taken) in
+    rw (first, second, lt-leb _ _ third)
+
+wide-requires-5 : tie.Need-wide-requires-5
+wide-requires-5 c κs = search needs
+
+returns-4 : tie.Need-returns-4
+unfolding wideEnough rootCount
+returns-4 c =
+    let whole = c .before .before in
+    let product = whole .before .before in
+    let a = product .before .before .before .before .before .before .before .before .args in
+    let first = le-leb (5 * a .header .nodes) (a .lengths .nodes) (omega arith) in
+    let second = le-leb (a .header .classes) (a .lengths .classes) (omega arith) in
+    let third = rw (product .before .wide3 .ensures, product .wide4 .ensures) at (whole .if3 .left) in
+    rw (c .before .wide5 .ensures, first, second, le-leb _ _ third)
 
 pub wide-enough-spec : {M : Type 1} → statement M
 wide-enough-spec =
@@ -59,5 +75,7 @@ wide-enough-spec =
     returns-2
     wide-requires-3
     wide-requires-4
-    mul-result
-    returns-3)
+    mul-if3
+    returns-3
+    wide-requires-5
+    returns-4)

@@ -28,6 +28,12 @@ enum-known-entry-3 c = search needs
 enum-known-entry-4 : tie.Need-enum-known-entry-4
 enum-known-entry-4 c = search needs
 
+boundary-within-requires : tie.Need-boundary-within-requires
+boundary-within-requires c κs = search needs
+
+enum-known-entry-5 : tie.Need-enum-known-entry-5
+enum-known-entry-5 c = search needs
+
 root-within-requires : tie.Need-root-within-requires
 root-within-requires c κs = search needs
 
@@ -49,7 +55,11 @@ returns-5 c = rw (c .before .before .entry3 .given .1)
 
 returns-6 : tie.Need-returns-6
 unfolding entryLine withinHeader
-returns-6 c = rw (c .before .before .entry4 .given .1) (c .root-within .ensures)
+returns-6 c = rw (c .before .before .entry4 .given .1) (c .boundary-within .ensures)
+
+returns-7 : tie.Need-returns-7
+unfolding entryLine withinHeader
+returns-7 c = rw (c .before .before .entry5 .given .1) (c .root-within .ensures)
 
 pub within-header-spec : {M : Type 1} → statement M
 within-header-spec =
@@ -62,9 +72,12 @@ within-header-spec =
     question-within-requires
     enum-known-entry-3
     enum-known-entry-4
+    boundary-within-requires
+    enum-known-entry-5
     root-within-requires
     returns-2
     returns-3
     returns-4
     returns-5
-    returns-6)
+    returns-6
+    returns-7)

@@ -15,15 +15,19 @@ on-header c = c .before .before .before .before
 abbrev on-classes : tie.After-put-nodes → tie.After-put-classes
 on-classes c = c .before .before .before .before
 
+abbrev on-nodes : tie.After-put-boundaries → tie.After-put-nodes
+on-nodes c = c .before .before .before .before
+
 abbrev entry : tie.After-put-line → tie.Start
-entry c = c .before .before .before .before .before .before
+entry c = c .before .before .before .before .before .before .before
 
 -- the lines of all parts can be counted
-few : (c : tie.Start) → let a = c .args in PartsFew (a .header) (a .nodes .now) (a .sets .now) (a .roots .now)
+few : (c : tie.Start) → let a = c .args in
+    PartsFew (a .header) (a .nodes .now) (a .sets .now) (a .roots .now) (a .plains .now)
 few c =
     let a = c .args in
-    parts-few (a .header) (a .nodes .now) (a .sets .now) (a .roots .now) (search needs) (search needs) (c .pre .1)
-    (c .pre .2)
+    parts-few (a .header) (a .nodes .now) (a .sets .now) (a .roots .now) (a .plains .now) (search needs) (search needs)
+    (c .pre .1) (c .pre .2) (c .pre .3)
 
 put-line-requires : tie.Need-put-line-requires
 put-line-requires c κs = search needs
@@ -39,9 +43,26 @@ put-nodes-requires c κs =
     let first = on-header classes in
     omega (arith, first .put-line .ensures .counts, classes .put-classes .ensures .counts, few (entry first))
 
+put-boundaries-requires : tie.Need-put-boundaries-requires
+put-boundaries-requires c κs =
+    let nodes = c .before .before .before in
+    let classes = on-classes nodes in
+    let first = on-header classes in
+    let start = entry first in (
+      omega (arith, start .pre .3),
+      omega (
+        arith,
+        first .put-line .ensures .counts,
+        classes .put-classes .ensures .counts,
+        nodes .put-nodes .ensures .counts,
+        few start,
+      ),
+    )
+
 put-roots-requires : tie.Need-put-roots-requires
 put-roots-requires c κs =
-    let nodes = c .before .before .before in
+    let boundaries = c .before .before .before in
+    let nodes = on-nodes boundaries in
     let classes = on-classes nodes in
     let first = on-header classes in
     let start = entry first in (
@@ -52,6 +73,7 @@ put-roots-requires c κs =
         first .put-line .ensures .counts,
         classes .put-classes .ensures .counts,
         nodes .put-nodes .ensures .counts,
+        boundaries .put-boundaries .ensures .counts,
         few start,
       ),
     )
@@ -63,13 +85,14 @@ returns : tie.Need-returns
 unfolding bookLineFor lineIn
 returns c =
     let roots = c .before .before in
-    let nodes = roots .before .before .before .before in
+    let boundaries = roots .before .before .before .before in
+    let nodes = on-nodes boundaries in
     let classes = on-classes nodes in
     let first = on-header classes in
     let a = entry first .args in
-    put-same (book-parts (a .header) (a .nodes .now) (a .sets .now) (a .roots .now))
-    (put-then (put-then (put-then (first .put-line .ensures) (classes .put-classes .ensures))
-    (nodes .put-nodes .ensures)) (roots .put-roots .ensures))
+    put-same (book-parts (a .header) (a .nodes .now) (a .sets .now) (a .roots .now) (a .plains .now))
+    (put-then (put-then (put-then (put-then (first .put-line .ensures) (classes .put-classes .ensures))
+    (nodes .put-nodes .ensures)) (boundaries .put-boundaries .ensures)) (roots .put-roots .ensures))
 
 pub put-book-spec : {M : Type 1} → statement M
 put-book-spec =
@@ -78,6 +101,7 @@ put-book-spec =
     put-line-requires
     put-classes-requires
     put-nodes-requires
+    put-boundaries-requires
     put-roots-requires
     same-length
     returns)

@@ -10,10 +10,14 @@ use Rattle.builder.proofs.building.build_book.Tie as tie
 
 -- where the code began, and what it was lent
 abbrev start : tie.After-read → tie.Start
-start c = c .before .before .before .before .before .before .before .before .before .before .before
+start c =
+    let sliced = c .before .before .before .before in
+    sliced .before .before .before .before .before .before .before .before .before
 
 abbrev lent : tie.Start → Lent
-lent c = lengthsOf (c .args .nodes .now) (c .args .classes .now) (c .args .roots .now)
+lent c =
+    let a = c .args in
+    lengthsOf (a .nodes .now) (a .classes .now) (a .roots .now) (a .plains .now)
 
 abbrev space : tie.Start → Space
 space c = lentSpace (c .args .combinations .now) (c .args .metastates .now) (c .args .arcs .now)
@@ -45,15 +49,19 @@ same-length-5 c = search needs
 same-length-6 : tie.Need-same-length-6
 same-length-6 c = search needs
 
+same-length-7 : tie.Need-same-length-7
+same-length-7 c = search needs
+
 returns : tie.Need-returns
 returns c =
-    let built = c .before .before .before .before .before .before .before .before .before .before .before .before in
-    let accepted = built .before .before .before .before .before .before .before .before in
-    let read = accepted .before .before .before .before .before .before .before .before in
+    let left = c .before .before .before .before .before .before .before in
+    let built = left .before .before .before .before .before .before .before in
+    let accepted = built .before .before .before .before .before .before .before .before .before in
+    let read = accepted .before .before .before .before .before .before .before .before .before .before in
     let s = start read in
     accepted-returns (lent s) (space s) (s .args .limit) (s .args .text .now)
     (read .read .ensures .0) (read .read .ensures .1) _ (accepted .reading .given .1) _ _ _
-    (search needs) (search needs) (search needs)
+    (search needs) (search needs) (search needs) (search needs)
     (built .build-read .ensures .0) (built .build-read .ensures .1 .0) (built .build-read .ensures .1 .1)
 
 enum-known-reading-2 : tie.Need-enum-known-reading-2
@@ -67,9 +75,6 @@ clear-wide-words-requires-2 c κs = search needs
 
 clear-words-requires : tie.Need-clear-words-requires
 clear-words-requires c κs = search needs
-
-same-length-7 : tie.Need-same-length-7
-same-length-7 c = search needs
 
 same-length-8 : tie.Need-same-length-8
 same-length-8 c = search needs
@@ -86,13 +91,19 @@ same-length-11 c = search needs
 same-length-12 : tie.Need-same-length-12
 same-length-12 c = search needs
 
+same-length-13 : tie.Need-same-length-13
+same-length-13 c = search needs
+
+same-length-14 : tie.Need-same-length-14
+same-length-14 c = search needs
+
 returns-2 : tie.Need-returns-2
 returns-2 c =
     let third = c .before .before in
     let second = third .before .before .before .before in
     let first = second .before .before .before .before in
     let refused = first .before .before .before in
-    let read = refused .before .before .before .before .before .before .before .before in
+    let read = refused .before .before .before .before .before .before .before .before .before .before in
     let s = start read in
     refused-returns (lent s) (space s) (s .args .limit) (s .args .text .now)
     (read .read .ensures .0) (read .read .ensures .1) _ (refused .reading2 .given .1) _ _ _
@@ -111,15 +122,17 @@ build-book-spec =
     same-length-4
     same-length-5
     same-length-6
+    same-length-7
     returns
     enum-known-reading-2
     clear-wide-words-requires
     clear-wide-words-requires-2
     clear-words-requires
-    same-length-7
     same-length-8
     same-length-9
     same-length-10
     same-length-11
     same-length-12
+    same-length-13
+    same-length-14
     returns-2)

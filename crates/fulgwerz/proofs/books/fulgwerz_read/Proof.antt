@@ -21,9 +21,12 @@ same-length-2 c = search needs
 same-length-3 : tie.Need-same-length-3
 same-length-3 c = search needs
 
+same-length-4 : tie.Need-same-length-4
+same-length-4 c = search needs
+
 returns : tie.Need-returns
 returns c =
-    let called = c .before .before .before .before .before .before .before in (
+    let called = c .before .before .before .before .before .before .before .before .before in (
       c .read-answer .ensures ∙ ap readAnswer (called .read .ensures .0),
       called .read .ensures .1,
     )
@@ -31,4 +34,4 @@ returns c =
 pub fulgwerz-read-spec : {M : Type 1} → statement M
 fulgwerz-read-spec =
     tie.close
-    (tie.spec read-requires read-answer-requires same-length same-length-2 same-length-3 returns)
+    (tie.spec read-requires read-answer-requires same-length same-length-2 same-length-3 same-length-4 returns)

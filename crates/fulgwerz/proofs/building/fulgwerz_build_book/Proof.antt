@@ -31,10 +31,13 @@ same-length-5 c = search needs
 same-length-6 : tie.Need-same-length-6
 same-length-6 c = search needs
 
+same-length-7 : tie.Need-same-length-7
+same-length-7 c = search needs
+
 returns : tie.Need-returns
 returns c =
-    let tables = c .before .before .before .before .before .before in
-    let called = tables .before .before .before .before .before .before .before in
+    let tables = c .before .before .before .before .before .before .before in
+    let called = tables .before .before .before .before .before .before .before .before in
     let left = called .build-book .ensures .1 in (
       c .build-answer .ensures ∙ ap buildAnswer (called .build-book .ensures .0),
       (
@@ -61,4 +64,5 @@ fulgwerz-build-book-spec =
     same-length-4
     same-length-5
     same-length-6
+    same-length-7
     returns)

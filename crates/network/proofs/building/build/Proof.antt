@@ -25,9 +25,10 @@ connect-in-requires c κs =
     let after = chosen .before .before .before .before .before in
     let words = after .before .before .before .before in
     let sets = words .before .before .before .before in
-    let a = sets .before .before .before .before .before .before .before .before .args in
-    connect-ready (a .header) (a .nodes .now) (a .classes .now) (a .roots .now) (a .combinations .now)
-    (a .metastates .now) (a .arcs .now) (sets .clear-wide-words .ensures) (words .clear-words .ensures)
+    let a = sets .before .before .before .before .before .before .before .before .before .args in
+    connect-ready (a .header) (a .nodes .now) (a .classes .now) (a .roots .now) (a .plains .now)
+    (a .combinations .now) (a .metastates .now) (a .arcs .now) (sets .clear-wide-words .ensures)
+    (words .clear-words .ensures)
     (after .combine .ensures .0) (after .combine .ensures .1 .0) (after .combine .ensures .1 .1)
     _ (chosen .answer .given .1)
 
@@ -47,9 +48,10 @@ returns c =
     let after = chosen .before .before .before .before .before in
     let words = after .before .before .before .before in
     let sets = words .before .before .before .before in
-    let a = sets .before .before .before .before .before .before .before .before .args in
-    connect-returns (a .header) (a .nodes .now) (a .classes .now) (a .roots .now) (a .combinations .now)
-    (a .metastates .now) (a .arcs .now) (sets .clear-wide-words .ensures) (words .clear-words .ensures)
+    let a = sets .before .before .before .before .before .before .before .before .before .args in
+    connect-returns (a .header) (a .nodes .now) (a .classes .now) (a .roots .now) (a .plains .now)
+    (a .combinations .now) (a .metastates .now) (a .arcs .now) (sets .clear-wide-words .ensures)
+    (words .clear-words .ensures)
     (after .combine .ensures .0) (after .combine .ensures .1 .0) (after .combine .ensures .1 .1)
     _ (chosen .answer .given .1) (a .limit) (connected .connect-in .ensures)
 
@@ -71,9 +73,10 @@ returns-2 c =
     let after = refused .before .before .before .before .before in
     let words = after .before .before .before .before in
     let sets = words .before .before .before .before in
-    let a = sets .before .before .before .before .before .before .before .before .args in
-    combine-returns (a .header) (a .nodes .now) (a .classes .now) (a .roots .now) (a .combinations .now)
-    (a .metastates .now) (a .arcs .now) (sets .clear-wide-words .ensures) (words .clear-words .ensures)
+    let a = sets .before .before .before .before .before .before .before .before .before .args in
+    combine-returns (a .header) (a .nodes .now) (a .classes .now) (a .roots .now) (a .plains .now)
+    (a .combinations .now) (a .metastates .now) (a .arcs .now) (sets .clear-wide-words .ensures)
+    (words .clear-words .ensures)
     (after .combine .ensures .0) (after .combine .ensures .1 .0) (after .combine .ensures .1 .1)
     (a .limit) _ (refused .answer2 .given .1)
 

@@ -22,14 +22,14 @@ loop-holds : tie.Need-loop-holds Inv-loop μ-loop
 loop-holds c = let a = c .before .before .before .before .args in
     gathered-start (treeIn (a .header) (a .nodes .now) (a .classes .now)) (a .roots .now) (a .sets .now)
 
-mul-collect : tie.Need-mul-collect Inv-loop μ-loop
-mul-collect c = search needs
+mul-collect-root : tie.Need-mul-collect-root Inv-loop μ-loop
+mul-collect-root c = search needs
 
-shared-slice-read-collect : tie.Need-shared-slice-read-collect Inv-loop μ-loop
-shared-slice-read-collect c = search needs
+shared-slice-read-collect-root : tie.Need-shared-slice-read-collect-root Inv-loop μ-loop
+shared-slice-read-collect-root c = search needs
 
-collect-requires : tie.Need-collect-requires Inv-loop μ-loop
-collect-requires c κs = let turn = c .before .before .before in
+collect-root-requires : tie.Need-collect-root-requires Inv-loop μ-loop
+collect-root-requires c κs = let turn = c .before .before .before in
     let (known, room) = turn .before .before .before .before .before .pre in
     (root-known known (turn .loop .i) (omega arith), gathered-room (turn .loop .inv) (omega arith) room)
 
@@ -41,7 +41,7 @@ loop-less c = search needs
 
 loop-again : tie.Need-loop-again Inv-loop μ-loop
 loop-again c = let turn = c .before .before .before .before .before .before in
-    gathered-more (turn .loop .inv) (omega arith) (c .before .before .collect .ensures)
+    gathered-more (turn .loop .inv) (omega arith) (c .before .before .collect-root .ensures)
 
 same-length : tie.Need-same-length Inv-loop μ-loop
 same-length c = search needs
@@ -56,9 +56,9 @@ collect-all-spec =
     Inv-loop
     μ-loop
     loop-holds
-    mul-collect
-    shared-slice-read-collect
-    collect-requires
+    mul-collect-root
+    shared-slice-read-collect-root
+    collect-root-requires
     add-i
     loop-less
     loop-again

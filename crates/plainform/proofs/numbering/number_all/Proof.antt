@@ -6,8 +6,7 @@ use lib.ListN.{length}
 use borrow.Author.Needs.{needs}
 use Rattle.plainform.specs.LentTrees.{treeIn}
 use Rattle.plainform.specs.laws.LentTrees.{root-known}
-use Rattle.plainform.specs.laws.Numbering.{AllNumbered, counted-room, all-start, all-counted, all-more}
-use Rattle.plainform.specs.laws.Numbering.{all-end}
+use Rattle.plainform.specs.laws.Numbering.{AllNumbered, all-start, own-room, all-more, all-end}
 use Rattle.plainform.proofs.numbering.number_all.Statement.{statement}
 use Rattle.plainform.proofs.numbering.number_all.Tie as tie
 
@@ -23,31 +22,38 @@ loop-holds c = let a = c .before .before .before .before .before .before .args i
     all-start (treeIn (a .header) (a .nodes .now) (a .classes .now)) (a .sets .now) (a .roots .now) (a .table .now)
     (a .starts .now)
 
+mul-start-of : tie.Need-mul-start-of Inv-loop μ-loop
+mul-start-of c = search needs
+
+shared-slice-read-start-of : tie.Need-shared-slice-read-start-of Inv-loop μ-loop
+shared-slice-read-start-of c = search needs
+
+start-of-requires : tie.Need-start-of-requires Inv-loop μ-loop
+start-of-requires c κs = search needs
+
 mul-starts : tie.Need-mul-starts Inv-loop μ-loop
 mul-starts c = search needs
 
 slice-write-starts : tie.Need-slice-write-starts Inv-loop μ-loop
-slice-write-starts c = let at = c .before .loop .inv in
-    omega (arith, at .starts-sized, c .before .before .before .before .before .before .before .before .pre .2)
-
-mul-number : tie.Need-mul-number Inv-loop μ-loop
-mul-number c = search needs
-
-shared-slice-read-number : tie.Need-shared-slice-read-number Inv-loop μ-loop
-shared-slice-read-number c = search needs
-
-number-requires : tie.Need-number-requires Inv-loop μ-loop
-number-requires c κs = let turn = c .before .before .before in
-    let (known, nodes-room, _) = turn .before .before .before .before .before .before .before .pre in
-    let given = counted-room (turn .loop .inv) nodes-room in
-    let counted = all-counted (turn .loop .inv) (omega arith) in (
-      root-known known (turn .loop .i) (omega arith),
-      record {
-        few-sets = given .few-sets;
-        few-nodes = omega (arith, counted, given .few-nodes);
-        room = omega (arith, counted, given .room, turn .loop .inv .table-sized);
-      },
+slice-write-starts c =
+    let turn = c .before .before .before in
+    omega (
+      arith,
+      turn .loop .inv .starts-sized,
+      turn .before .before .before .before .before .before .before .pre .2,
     )
+
+mul-number-root : tie.Need-mul-number-root Inv-loop μ-loop
+mul-number-root c = search needs
+
+shared-slice-read-number-root : tie.Need-shared-slice-read-number-root Inv-loop μ-loop
+shared-slice-read-number-root c = search needs
+
+number-root-requires : tie.Need-number-root-requires Inv-loop μ-loop
+number-root-requires c κs =
+    let turn = c .before .before .before .before .before in
+    let (known, room, _) = turn .before .before .before .before .before .before .before .pre in
+    (root-known known (turn .loop .i) (omega arith), own-room (turn .loop .inv) (omega arith) room)
 
 add-i : tie.Need-add-i Inv-loop μ-loop
 add-i c = search needs
@@ -56,11 +62,12 @@ loop-less : tie.Need-loop-less Inv-loop μ-loop
 loop-less c = search needs
 
 loop-again : tie.Need-loop-again Inv-loop μ-loop
-loop-again c = let done = c .before .before .number in
-    let turn = c .before .before .before .before .before .before in
-    let (_, nodes-room, few) = turn .before .before .before .before .before .before .before .pre in
-    let given = counted-room (turn .loop .inv) nodes-room in
-    all-more (turn .loop .inv) (omega arith) (done .ensures) (omega (arith, given .room)) few
+loop-again c =
+    let done = c .before .before .number-root in
+    let started = c .before .before .before .before .before .start-of in
+    let turn = c .before .before .before .before .before .before .before .before in
+    let (_, room, few) = turn .before .before .before .before .before .before .before .pre in
+    all-more (turn .loop .inv) (omega arith) (done .ensures) (started .result) (started .ensures) room few
     (done .kept .1 .1 .1 .1 .1 .0)
 
 same-length : tie.Need-same-length Inv-loop μ-loop
@@ -79,11 +86,14 @@ number-all-spec =
     Inv-loop
     μ-loop
     loop-holds
+    mul-start-of
+    shared-slice-read-start-of
+    start-of-requires
     mul-starts
     slice-write-starts
-    mul-number
-    shared-slice-read-number
-    number-requires
+    mul-number-root
+    shared-slice-read-number-root
+    number-root-requires
     add-i
     loop-less
     loop-again

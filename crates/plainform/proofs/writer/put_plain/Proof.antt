@@ -9,18 +9,18 @@ use borrow.Author.Needs.{needs}
 use Rattle.definitions.specs.Forms.{mostNodes}
 use Rattle.definitions.specs.Tables.{Tables}
 use Rattle.tables.specs.Lending.{lentTables}
-use Rattle.plainform.specs.laws.Writing.{LentBook, rootRoom, roots-known, uses-fit, roots-fit, used-few}
-use Rattle.plainform.specs.laws.Writing.{used-many, trees-numberable, plain-written}
+use Rattle.plainform.specs.laws.Writing.{LentBook, rootRoom, roots-known, uses-fit, roots-fit, plains-fit}
+use Rattle.plainform.specs.laws.Writing.{used-few, used-many, trees-numberable, plain-written}
 use Rattle.plainform.specs.laws.Writing.{own-room, roots-lent, roots-narrow, own-lent, own-put}
 use Rattle.plainform.proofs.writer.put_plain.Statement.{statement}
 use Rattle.plainform.proofs.writer.put_plain.Tie as tie
 
 -- the entry, and the tables that it is lent
 abbrev entry : tie.After-wide3 → tie.Start
-entry c = c .before .before .before .before .before .before .before
+entry c = c .before .before .before .before .before .before .before .before
 
 abbrev tables : tie.After-wide3 → Tables
-tables c = let a = entry c .args in lentTables (a .nodes .now) (a .classes .now) (a .roots .now)
+tables c = let a = entry c .args in lentTables (a .nodes .now) (a .classes .now) (a .roots .now) (a .plains .now)
 
 wide-requires : tie.Need-wide-requires
 wide-requires c κs = search needs
@@ -44,29 +44,33 @@ mul-many c = omega (arith, roots-many c, roots-narrow (entry c .args .header) (t
 record Cut (c : tie.After-wide3) : Type 0 where
   classes : c .before .before .wide .result ≤ length (entry c .args .classes .now)
   roots : c .before .wide2 .result * c .wide3 .result ≤ length (entry c .args .roots .now)
+  plains : c .before .wide2 .result ≤ length (entry c .args .plains .now)
   lent :
       LentBook (entry c .args .header) (entry c .args .nodes .now)
       (take (c .before .before .wide .result) (entry c .args .classes .now))
       (take (c .before .wide2 .result * c .wide3 .result) (entry c .args .roots .now))
+      (take (c .before .wide2 .result) (entry c .args .plains .now))
 
 cut : (c : tie.After-wide3) → Cut c
 cut c =
     let header = entry c .args .header in
     let held = c .before .before .wide .ensures in
+    let phones = c .before .wide2 .ensures in
     record {
       classes = omega (arith, own-room header (tables c) (entry c .pre) .classes, held);
       roots = omega (arith, roots-many c, roots-lent header (tables c) (entry c .pre));
-      lent = own-lent header (tables c) (entry c .pre) held (roots-many c);
+      plains = omega (arith, own-room header (tables c) (entry c .pre) .plains, phones);
+      lent = own-lent header (tables c) (entry c .pre) held (roots-many c) phones;
     }
 
+slice-aggregate-kept : tie.Need-slice-aggregate-kept
+slice-aggregate-kept c = sym (length-take-le _ _ (cut (c .before) .classes))
+
+slice-aggregate-given : tie.Need-slice-aggregate-given
+slice-aggregate-given c = sym (length-take-le _ _ (cut (c .before .before) .roots))
+
 slice-aggregate-collect-all : tie.Need-slice-aggregate-collect-all
-slice-aggregate-collect-all c = sym (length-take-le _ _ (cut (c .before) .classes))
-
-slice-aggregate-collect-all-2 : tie.Need-slice-aggregate-collect-all-2
-slice-aggregate-collect-all-2 c = sym (length-take-le _ _ (cut (c .before .before) .roots))
-
-slice-aggregate-collect-all-3 : tie.Need-slice-aggregate-collect-all-3
-slice-aggregate-collect-all-3 c = search needs
+slice-aggregate-collect-all c = search needs
 
 collect-all-requires : tie.Need-collect-all-requires
 collect-all-requires c κs =
@@ -92,27 +96,21 @@ many c =
       sized = done .sized;
     }
 
+array-share-prefix-sets : tie.Need-array-share-prefix-sets
+array-share-prefix-sets c = let m = many (c .before) in omega (arith, m .few, m .sized)
+
+slice-aggregate-own : tie.Need-slice-aggregate-own
+slice-aggregate-own c = sym (many (c .before .before) .taken)
+
 slice-aggregate-number-all : tie.Need-slice-aggregate-number-all
-slice-aggregate-number-all c = sym (length-take-le _ _ (cut (counted (c .before .before)) .classes))
+slice-aggregate-number-all c = search needs
 
 slice-aggregate-number-all-2 : tie.Need-slice-aggregate-number-all-2
-slice-aggregate-number-all-2 c = sym (length-take-le _ _ (cut (counted (c .before .before .before)) .roots))
-
-array-share-prefix-sets : tie.Need-array-share-prefix-sets
-array-share-prefix-sets c = let m = many (c .before .before .before) in omega (arith, m .few, m .sized)
-
-slice-aggregate-number-all-3 : tie.Need-slice-aggregate-number-all-3
-slice-aggregate-number-all-3 c = sym (many (c .before .before .before .before) .taken)
-
-slice-aggregate-number-all-4 : tie.Need-slice-aggregate-number-all-4
-slice-aggregate-number-all-4 c = search needs
-
-slice-aggregate-number-all-5 : tie.Need-slice-aggregate-number-all-5
-slice-aggregate-number-all-5 c = search needs
+slice-aggregate-number-all-2 c = search needs
 
 number-all-requires : tie.Need-number-all-requires
 number-all-requires c κs =
-    let collected = c .before .before .before .before .before .before in
+    let collected = c .before .before .before .before in
     let lent = cut (counted collected) .lent in (
       roots-known lent,
       trees-numberable lent refl (collected .collect-all .ensures) refl,
@@ -120,7 +118,7 @@ number-all-requires c κs =
     )
 
 abbrev collected : tie.After-number-all → tie.After-collect-all
-collected c = c .before .before .before .before .before .before .before
+collected c = c .before .before .before .before .before
 
 -- the roots that were put
 record Roots (c : tie.After-number-all) : Type 0 where
@@ -136,24 +134,21 @@ roots-put c =
     let all = c .number-all .kept .1 .1 .1 .1 .1 .1 .0 in
     record { sized = all; few = omega (arith, all, roots-many w, narrow) }
 
-cast-t32 : tie.Need-cast-t32
-cast-t32 c = omega (arith, many (collected (c .before .before)) .few)
+cast-t29 : tie.Need-cast-t29
+cast-t29 c = omega (arith, many (collected (c .before .before)) .few)
 
 slice-aggregate-put-book : tie.Need-slice-aggregate-put-book
 slice-aggregate-put-book c = search needs
 
-array-share-prefix-sets-2 : tie.Need-array-share-prefix-sets-2
-array-share-prefix-sets-2 c =
-    let m = many (collected (c .before .before .before)) in omega (arith, m .few, m .sized)
+array-share-prefix-starts : tie.Need-array-share-prefix-starts
+array-share-prefix-starts c = roots-put (c .before .before .before) .few
 
 slice-aggregate-put-book-2 : tie.Need-slice-aggregate-put-book-2
-slice-aggregate-put-book-2 c = sym (many (collected (c .before .before .before .before)) .taken)
-
-array-share-prefix-starts : tie.Need-array-share-prefix-starts
-array-share-prefix-starts c = roots-put (c .before .before .before .before) .few
+slice-aggregate-put-book-2 c = sym (length-take-le _ _ (roots-put (c .before .before .before .before) .few))
 
 slice-aggregate-put-book-3 : tie.Need-slice-aggregate-put-book-3
-slice-aggregate-put-book-3 c = sym (length-take-le _ _ (roots-put (c .before .before .before .before .before) .few))
+slice-aggregate-put-book-3 c =
+    sym (length-take-le _ _ (cut (counted (collected (c .before .before .before .before .before))) .plains))
 
 put-book-requires : tie.Need-put-book-requires
 put-book-requires c κs =
@@ -165,6 +160,7 @@ put-book-requires c κs =
       cut w .lent .stated .in-range .states-range .low,
       omega (arith, m .few, m .taken),
       omega (arith, r .sized, r .few, length-take-le (w .before .wide2 .result * w .wide3 .result) starts (r .few)),
+      plains-fit (cut w .lent),
     )
 
 same-length : tie.Need-same-length
@@ -179,8 +175,8 @@ returns c =
     let same =
     plain-written (cut w .lent) refl (collected numbered .collect-all .ensures) _ _ _
     (sym (length-take-le _ _ (cut w .roots))) (done .0) (done .1) in
-    own-put (entry w .args .header) (tables w) (entry w .pre) (w .before .before .wide .ensures) (roots-many w) same
-    (put .put-book .ensures)
+    own-put (entry w .args .header) (tables w) (entry w .pre) (w .before .before .wide .ensures) (roots-many w)
+    (w .before .wide2 .ensures) same (put .put-book .ensures)
 
 pub put-plain-spec : {M : Type 1} → statement M
 put-plain-spec =
@@ -190,22 +186,19 @@ put-plain-spec =
     wide-requires-2
     wide-requires-3
     mul-many
+    slice-aggregate-kept
+    slice-aggregate-given
     slice-aggregate-collect-all
-    slice-aggregate-collect-all-2
-    slice-aggregate-collect-all-3
     collect-all-requires
+    array-share-prefix-sets
+    slice-aggregate-own
     slice-aggregate-number-all
     slice-aggregate-number-all-2
-    array-share-prefix-sets
-    slice-aggregate-number-all-3
-    slice-aggregate-number-all-4
-    slice-aggregate-number-all-5
     number-all-requires
-    cast-t32
+    cast-t29
     slice-aggregate-put-book
-    array-share-prefix-sets-2
-    slice-aggregate-put-book-2
     array-share-prefix-starts
+    slice-aggregate-put-book-2
     slice-aggregate-put-book-3
     put-book-requires
     same-length

@@ -20,10 +20,10 @@ abbrev clearing : tie.After-tables-known → tie.After-clear-bytes
 clearing c = c .before .before .before
 
 abbrev entry : tie.After-tables-known → tie.Start
-entry c = clearing c .before .before .before .before .before .before
+entry c = clearing c .before .before .before .before .before .before .before
 
 abbrev lent : tie.After-tables-known → Tables
-lent c = let a = entry c .args in lentTables (a .nodes .now) (a .classes .now) (a .roots .now)
+lent c = let a = entry c .args in lentTables (a .nodes .now) (a .classes .now) (a .roots .now) (a .plains .now)
 
 -- the tables are known where the test did not refuse them
 known : (c : tie.Else1) → tablesKnown (entry (c .before) .args .header) (lent (c .before)) ≡ true
@@ -62,8 +62,8 @@ same-length-2 c = search needs
 
 -- the text that lines were put into is as long as it was
 sized : (c : tie.After-put-plain)
-    → length (c .put-plain .last .1 .1 .1 .1 .0) ≡ length (entry (c .before .before .before) .args .text .now)
-sized c = c .put-plain .kept .1 .1 .1 .1 .0 ∙ clearing (c .before .before .before) .clear-bytes .kept .0
+    → length (c .put-plain .last .1 .1 .1 .1 .1 .0) ≡ length (entry (c .before .before .before) .args .text .now)
+sized c = c .put-plain .kept .1 .1 .1 .1 .1 .0 ∙ clearing (c .before .before .before) .clear-bytes .kept .0
 
 returns-2 : tie.Need-returns-2
 returns-2 c = let cleared-again = c .before .before .before in
@@ -75,8 +75,8 @@ returns-2 c = let cleared-again = c .before .before .before in
     (omega (arith, sized done, cleared-again .before .before .if2 .taken)) (c .not-written2 .ensures)
     (cleared-again .clear-bytes2 .ensures ∙ ap (λ (n : ℕ). cleared n) (sized done))
 
-mul-t15 : tie.Need-mul-t15
-mul-t15 c = search needs
+mul-t16 : tie.Need-mul-t16
+mul-t16 c = search needs
 
 same-length-3 : tie.Need-same-length-3
 same-length-3 c = search needs
@@ -103,6 +103,6 @@ write-spec =
     not-written-requires-2
     same-length-2
     returns-2
-    mul-t15
+    mul-t16
     same-length-3
     returns-3)

@@ -15,10 +15,10 @@ use Rattle.program.proofs.running.print_built.Tie as tie
 
 -- where the code began, and the words that the build left in the arc buffer
 abbrev start : tie.After-build-book → tie.Start
-start c = c .before .before .before .before .before .before .before .before .before
+start c = c .before .before .before .before .before .before .before .before .before .before
 
 abbrev words : tie.After-build-book → List ℕ
-words c = c .build-book .last .1 .1 .1 .1 .1 .1 .0
+words c = c .build-book .last .1 .1 .1 .1 .1 .1 .1 .0
 
 -- the answer can be printed,
 printable : (c : tie.After-build-book) (answer : Build) → c .build-book .result ≡ answer
@@ -40,7 +40,7 @@ prints c answer output count f =
 
 -- the build has ended
 abbrev ended : tie.After-arcs2 → tie.After-build-book
-ended c = c .before .before .before .before .before .before
+ended c = c .before .before .before .before .before .before .before
 
 slice-aggregate-build-book : tie.Need-slice-aggregate-build-book
 slice-aggregate-build-book c = search needs
@@ -59,6 +59,9 @@ slice-aggregate-build-book-5 c = search needs
 
 slice-aggregate-build-book-6 : tie.Need-slice-aggregate-build-book-6
 slice-aggregate-build-book-6 c = search needs
+
+slice-aggregate-build-book-7 : tie.Need-slice-aggregate-build-book-7
+slice-aggregate-build-book-7 c = search needs
 
 build-book-requires : tie.Need-build-book-requires
 build-book-requires c κs = search needs
@@ -133,6 +136,7 @@ print-built-spec =
     slice-aggregate-build-book-4
     slice-aggregate-build-book-5
     slice-aggregate-build-book-6
+    slice-aggregate-build-book-7
     build-book-requires
     enum-known-answer
     slice-aggregate-print-network

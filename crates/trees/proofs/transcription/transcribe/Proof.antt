@@ -4,6 +4,7 @@ use mathlib.Core.List.{List}
 use mathlib.Core.Bool.{true}
 use Prim.Native.Nat.{ℕ, _*_, _≤_, _<_}
 use native.Mathlib.Omega.{arith}
+use lib.Dec.{T}
 use lib.ListN.{length}
 use borrow.Author.Needs.{needs}
 use Rattle.definitions.specs.Tables.{Tables}
@@ -11,7 +12,7 @@ use Rattle.definitions.specs.ForeignTables.{tablesKnown}
 use Rattle.definitions.specs.Transcription.{isUtterance}
 use Rattle.definitions.specs.laws.lists.Tests.{held, failed}
 use Rattle.tables.specs.Lending.{lentTables}
-use Rattle.tables.specs.laws.KnownTables.{tables-fit, own-book}
+use Rattle.tables.specs.laws.KnownTables.{tables-fit, forced-book, known-forceable}
 use Rattle.trees.specs.laws.Answering.{ends-foreign, ends-utterance, ends-short, ends-given, some-state}
 use Rattle.trees.specs.laws.Answering.{no-room, has-room, utterance-phones}
 use Rattle.trees.proofs.transcription.transcribe.Statement.{statement}
@@ -19,17 +20,22 @@ use Rattle.trees.proofs.transcription.transcribe.Tie as tie
 
 -- where the code stands: its entry, and the buffer that was cleared
 abbrev entry : tie.After-tables-known → tie.Start
-entry c = c .before .before .before .before .before .before .before .before .before .before
+entry c = c .before .before .before .before .before .before .before .before .before .before .before
 
 abbrev buffer : tie.After-tables-known → List ℕ
 buffer c = c .before .before .before .clear-words .last .0
 
 abbrev tables : tie.Start → Tables
-tables c = lentTables (c .args .nodes .now) (c .args .classes .now) (c .args .roots .now)
+tables c =
+    let a = c .args in
+    lentTables (a .nodes .now) (a .classes .now) (a .roots .now) (a .plains .now)
 
 -- the tables are known, and the sequence is an utterance
 known : (c : tie.Else1) → tablesKnown (entry (c .before) .args .header) (tables (entry (c .before))) ≡ true
 known c = held (c .before .tables-known .ensures) (c .if1 .left)
+
+known-fact : (c : tie.Else1) → T (tablesKnown (entry (c .before) .args .header) (tables (entry (c .before))))
+known-fact c = rw (known c) tt
 
 abbrev judged : tie.Else2 → tie.After-tables-known
 judged c = c .before .before .before
@@ -107,22 +113,37 @@ returns-3 c =
     let n : ℕ = length (words .last .0) in
     ends-short (a .header) (tables (entry (judged u))) (a .sequence .now) (length (a .models .now))
     (c .no-models3 .result) (words .last .0) (known (u .before .before)) (spoken u) _ n
-    (c .before .before .wide .ensures) (words .kept .0) _ (own-book _ _)
+    (c .before .before .wide .ensures) (words .kept .0) _ refl
     (no-room (length (a .sequence .now)) n _ (some (c .before .before)) (c .before .if3 .taken))
     (c .no-models3 .ensures) (words .ensures)
 
+slice-aggregate-roots-in-force : tie.Need-slice-aggregate-roots-in-force
+slice-aggregate-roots-in-force c = search needs
+
+roots-in-force-requires : tie.Need-roots-in-force-requires
+roots-in-force-requires c κs =
+    known-forceable _ _ _ _ _ (known-fact (c .before .before .before .before .before))
+
+slice-aggregate-all-models : tie.Need-slice-aggregate-all-models
+slice-aggregate-all-models c = search needs
+
 all-models-requires : tie.Need-all-models-requires
 all-models-requires c κs =
-    let u = c .before .before .before in
+    let left = c .before .before .before .before .before in
+    let u = left .before .before in
     let a = entry (judged u) .args in
     let fits = subst (λ (n : ℕ). length (a .sequence .now) * n ≤ length (buffer (judged u)))
-    (c .before .before .wide .ensures) (room (c .before)) in
-    (tables-fit _ _ (rw (known (u .before .before)) tt), utterance-phones _ _ (rw (spoken u) tt), fits)
+    (left .before .wide .ensures) (room left) in (
+      tables-fit _ _ _ _ _ (known-fact (u .before .before)) _ (c .before .before .before .roots-in-force .ensures),
+      utterance-phones _ _ (rw (spoken u) tt),
+      fits,
+    )
 
-mul-t20 : tie.Need-mul-t20
-mul-t20 c =
-    let q = judged (c .before .before .before .before .before .before) in
-    let fits = room (c .before .before .before .before) in
+mul-t26 : tie.Need-mul-t26
+mul-t26 c =
+    let left = c .before .before .before .before .before .before .before .before in
+    let q = judged (left .before .before) in
+    let fits = room left in
     omega (arith, fits, q .before .before .before .clear-words .kept, entry q .good)
 
 same-length-4 : tie.Need-same-length-4
@@ -130,14 +151,17 @@ same-length-4 c = search needs
 
 returns-4 : tie.Need-returns-4
 returns-4 c =
-    let u = c .before .before .before .before .before .before in
+    let left = c .before .before .before .before .before .before .before .before in
+    let u = left .before .before in
     let a = entry (judged u) .args in
     let words = judged u .before .before .before .clear-words in
     let all = c .before .before .all-models in
+    let force = c .before .before .before .before .before .before .roots-in-force in
     ends-given (a .header) (tables (entry (judged u))) (a .sequence .now) (length (a .models .now)) _
     (all .last .1 .1 .1 .1 .1 .0) (known (u .before .before)) (spoken u) _ (length (words .last .0))
-    (c .before .before .before .before .before .wide .ensures) (words .kept .0) _ (own-book _ _)
-    (room (c .before .before .before .before)) refl (words .last .0) (words .ensures) (all .ensures)
+    (left .before .wide .ensures) (words .kept .0) _
+    (forced-book _ _ _ _ _ (known-fact (u .before .before)) _ (force .ensures))
+    (room left) refl (words .last .0) (words .ensures) (all .ensures)
 
 pub transcribe-spec : {M : Type 1} → statement M
 transcribe-spec =
@@ -157,7 +181,10 @@ transcribe-spec =
     no-models-requires-3
     same-length-3
     returns-3
+    slice-aggregate-roots-in-force
+    roots-in-force-requires
+    slice-aggregate-all-models
     all-models-requires
-    mul-t20
+    mul-t26
     same-length-4
     returns-4)

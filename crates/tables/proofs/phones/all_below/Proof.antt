@@ -1,4 +1,4 @@
--- `known::all_below` meets its contract. The loop's invariant: the words before `i` are below the bound.
+-- `phones::all_below` meets its contract. The loop's invariant: the words before `i` are below the bound.
 use mathlib.Core.Bool.{Bool}
 use Prim.Native.Nat.{ℕ, _-_}
 use lib.Dec.{ltb}
@@ -7,8 +7,8 @@ use borrow.Author.Tests.{lt-ltb, le-ltb}
 use borrow.Author.Needs.{needs}
 use Rattle.definitions.specs.Lists.{every}
 use Rattle.lines.specs.laws.Passing.{Passed, passed-start, passed-more, passed-stop, passed-end}
-use Rattle.tables.proofs.known.all_below.Statement.{statement}
-use Rattle.tables.proofs.known.all_below.Tie as tie
+use Rattle.tables.proofs.phones.all_below.Statement.{statement}
+use Rattle.tables.proofs.phones.all_below.Tie as tie
 
 abbrev Inv-loop : tie.InvT-loop
 Inv-loop words bound i₀ i =

@@ -1,40 +1,39 @@
--- `finding::line_of_node` meets its contract. The loop's invariant: none of the first `i` lines is the node's.
+-- `finding::line_where` meets its contract. The loop's invariant: none of the first `i` lines is sought.
 use mathlib.Core.Path.{_≡_, sym, ap, _∙_}
 use Prim.Native.Nat.{_-_, _/_, _≤_}
 use native.Mathlib.Omega.{arith}
 use lib.ListN.{length}
 use borrow.Author.Needs.{needs}
 use Rattle.definitions.specs.BookLines.{bookLine}
-use Rattle.definitions.specs.BookReading.{isLineOf}
 use Rattle.lines.specs.Judging.{lineBytes}
 use Rattle.lines.specs.Rows.{lineIn}
 use Rattle.lines.specs.declared.Parsed.{Parsed}
+use Rattle.book.specs.Steps.{bookTaken, soughtIn}
+use Rattle.book.proofs.finding.line_where.Statement.{statement}
 use Rattle.lines.specs.laws.Judging.{next-bytes}
 use Rattle.lines.specs.laws.Rows.{whole-row}
-use Rattle.book.specs.Steps.{bookTaken}
 use Rattle.book.specs.laws.Finding.{Passed, passed-none, passed-more, found-here, found-end}
-use Rattle.book.proofs.finding.line_of_node.Statement.{statement}
-use Rattle.book.proofs.finding.line_of_node.Tie as tie
+use Rattle.book.proofs.finding.line_where.Tie as tie
 
 abbrev Inv-loop : tie.InvT-loop
-Inv-loop text node i₀ i = Passed text node i × (i ≤ length text / 32)
+Inv-loop text sought i₀ i = Passed text sought i × (i ≤ length text / 32)
 
 abbrev μ-loop : tie.MeasureT-loop
-μ-loop text node i₀ i = length text / 32 - i
+μ-loop text sought i₀ i = length text / 32 - i
 
 -- the turn that a line was looked at in, and what was answered of it
-abbrev inside : tie.After-is-line-of Inv-loop μ-loop → tie.In-loop Inv-loop μ-loop
+abbrev inside : tie.After-is-sought Inv-loop μ-loop → tie.In-loop Inv-loop μ-loop
 inside c = c .before .before .before .before .before
 
-answered : (c : tie.After-is-line-of Inv-loop μ-loop) → let start = inside c .before .before .before in
-    isLineOf (start .args .node) (bookTaken (lineBytes (start .args .text .now) (inside c .before .loop .i)))
-    ≡ c .is-line-of .result
+answered : (c : tie.After-is-sought Inv-loop μ-loop) → let start = inside c .before .before .before in
+    soughtIn (start .args .sought) (bookTaken (lineBytes (start .args .text .now) (inside c .before .loop .i)))
+    ≡ c .is-sought .result
 answered c =
     let parse = c .before .before .before .parse in
     let start = inside c .before .before .before in
     let bytes = next-bytes (start .args .text .now) (inside c .before .loop .i) in
-    sym (c .is-line-of .ensures
-    ∙ ap (isLineOf (start .args .node)) (c .before .entry-of .ensures
+    sym (c .is-sought .ensures
+    ∙ ap (soughtIn (start .args .sought)) (c .before .entry-of .ensures
     ∙ ap (λ (p : Parsed). bookLine (lineIn (p .row))) (parse .ensures) ∙ ap bookTaken bytes))
 
 loop-holds : tie.Need-loop-holds Inv-loop μ-loop
@@ -61,8 +60,8 @@ parse-requires c κs = search needs
 entry-of-requires : tie.Need-entry-of-requires Inv-loop μ-loop
 entry-of-requires c κs = whole-row _ (c .before .parse .ensures)
 
-is-line-of-requires : tie.Need-is-line-of-requires Inv-loop μ-loop
-is-line-of-requires c κs = search needs
+is-sought-requires : tie.Need-is-sought-requires Inv-loop μ-loop
+is-sought-requires c κs = search needs
 
 add-result : tie.Need-add-result Inv-loop μ-loop
 add-result c = search needs
@@ -91,8 +90,8 @@ add-result-2 c = search needs
 returns-2 : tie.Need-returns-2 Inv-loop μ-loop
 returns-2 c = found-end _ _ _ (c .before .loop .inv .0) (c .loop-test .left)
 
-pub line-of-node-spec : {M : Type 1} → statement M
-line-of-node-spec =
+pub line-where-spec : {M : Type 1} → statement M
+line-where-spec =
     tie.close
     (tie.spec
     Inv-loop
@@ -105,7 +104,7 @@ line-of-node-spec =
     part-parse-end
     parse-requires
     entry-of-requires
-    is-line-of-requires
+    is-sought-requires
     add-result
     returns
     add-i
