@@ -3,8 +3,9 @@
  *
  * These are the entries of libfulgwerz.a, which `rt staticlib fulgwerz` proves and writes. Each calls one proved
  * function and is proved to answer what that function answers. What a book, a network and their numbers mean is
- * said in docs/document-01.md, what a book's plain form is in docs/document-02.md (P1). The archive is for Linux on
- * x86-64; it needs memcpy and its like (memset, memmove, memcmp), which every C library has, and nothing else.
+ * said in docs/document-01.md, what a book's plain form and its boundary phones are in docs/document-02.md (P1, P2).
+ * The archive is for Linux on x86-64; it needs memcpy and its like (memset, memmove, memcmp), which every C library
+ * has, and nothing else.
  *
  * Lent buffers
  *   Every buffer is a pointer and a length. The length counts elements of the pointer's type, never bytes and
@@ -49,7 +50,7 @@
 extern "C" {
 #endif
 
-/* The faults, by the words of document 01. (22 is given by the build program alone.) */
+/* The faults, by the words of document 01; 21 is document 02's. (22 is given by the build program alone.) */
 enum {
     FULGWERZ_RAGGED = 11,    /* length 0 or not a multiple of 32, or a 32nd byte that is no line feed */
     FULGWERZ_MISPRINT = 12,  /* a letter that this kind of text never has, or a malformed field */
@@ -60,6 +61,7 @@ enum {
     FULGWERZ_COUNT = 17,     /* the lines end too early, or go on */
     FULGWERZ_FOREIGN = 18,   /* lent tables or arcs, with their header or counts, that the readers never leave */
     FULGWERZ_NARROW = 20,    /* a table too short for the header */
+    FULGWERZ_CHAINED = 21,   /* a plain phone that is itself a boundary phone in the book */
     FULGWERZ_CHOICES = 30,   /* more combinations than the lent space or 65535 */
     FULGWERZ_CROWD = 31,     /* a new metastate beyond the lent space or 65535 */
     FULGWERZ_TANGLE = 32,    /* an arc beyond the lent space or 999999 */
@@ -77,15 +79,22 @@ enum {
     FULGWERZ_LINE = 32         /* bytes of a line of text */
 };
 
-/* The most that there can be. Tables of 4096 nodes, 255 classes and 192 roots are never too short for a book. */
+/*
+ * The most that there can be. Tables of 4096 nodes, 255 classes, 192 roots and 64 plain phones are never too short for
+ * a book.
+ */
 enum {
     FULGWERZ_MAX_NODES = 4096,
     FULGWERZ_MAX_CLASSES = 255,
     FULGWERZ_MAX_ROOTS = 192, /* 64 phones of 3 states */
+    FULGWERZ_MAX_PLAINS = 64, /* one for each phone */
     FULGWERZ_MAX_COMBINATIONS = 65535,
     FULGWERZ_MAX_METASTATES = 65535, /* so there are never more turns than this */
     FULGWERZ_MAX_ARCS = 999999
 };
+
+/* What the table of roots holds where no R line gives a root; no node has this number. */
+enum { FULGWERZ_NO_ROOT = 4096 };
 
 /* The numbers of a book's H line. */
 typedef struct {
@@ -152,22 +161,26 @@ typedef struct {
 } fulgwerz_part_answer;
 
 /*
- * Reads a tree book. Fills nodes (5 words each), classes (a word each, phone p being the bit worth 2^(p-1)) and
- * roots (a word each, by phone, then by state).
- * Faults: 11 to 17, 20.
+ * Reads a tree book. Fills nodes (5 words each), classes (a word each, phone p being the bit worth 2^(p-1)), roots
+ * (a word each, by phone, then by state; 4096 where no R line gives the root) and plains (a word for each phone: the
+ * plain phone that its B line names, or 0). A phone with a plain phone is a boundary phone; wherever trees are used,
+ * it takes those of its plain phone, also where the roots have trees of its own.
+ * Faults: 11 to 17, 20, 21.
  */
 fulgwerz_read_answer fulgwerz_read(
     const uint8_t *text, size_t text_length,
     uint32_t *nodes, size_t nodes_length,
     uint64_t *classes, size_t classes_length,
-    uint32_t *roots, size_t roots_length);
+    uint32_t *roots, size_t roots_length,
+    uint32_t *plains, size_t plains_length);
 
 /*
  * Writes the plain form of the book in the tables: its trees in the order of the roots, each numbered depth first, yes
- * before no; classes with the same members made one, unused ones left out, numbered by first use in that order. Two
- * books have the same bytes exactly when their half-width, states, phones and, tree by tree, shape, positions, members
- * and models are the same. Fills text; count is how many bytes it has, 32 for each line. A buffer as long as the text
- * that the tables were read from is long enough.
+ * before no; classes with the same members made one, unused ones left out, numbered by first use in that order. B
+ * lines stay as they are, R lines that are left out stay left out. Two books have the same bytes exactly when their
+ * half-width, states, phones, plain phones and, tree by tree, shape, positions, members and models are the same. Fills
+ * text; count is how many bytes it has, 32 for each line. A buffer as long as the text that the tables were read from
+ * is long enough.
  * Faults: 18, 33.
  */
 fulgwerz_count_answer fulgwerz_write_book(
@@ -175,10 +188,12 @@ fulgwerz_count_answer fulgwerz_write_book(
     const uint32_t *nodes, size_t nodes_length,
     const uint64_t *classes, size_t classes_length,
     const uint32_t *roots, size_t roots_length,
+    const uint32_t *plains, size_t plains_length,
     uint8_t *text, size_t text_length);
 
 /*
- * The leaf that a context reaches from a root. Any node may be the root; the context is 2n+1 phones.
+ * The leaf that a context reaches from a root. Any node may be the root; the context is 2n+1 phones. (For a boundary
+ * phone that is a root of its plain phone, with the boundary phone itself in the middle of the context.)
  * Faults: 18, also for a root that is no node; 13 for another context.
  */
 fulgwerz_leaf_answer fulgwerz_leaf(
@@ -209,6 +224,7 @@ fulgwerz_count_answer fulgwerz_transcribe(
     const uint32_t *nodes, size_t nodes_length,
     const uint64_t *classes, size_t classes_length,
     const uint32_t *roots, size_t roots_length,
+    const uint32_t *plains, size_t plains_length,
     const uint32_t *phones, size_t phones_length,
     uint32_t *models, size_t models_length);
 
@@ -221,6 +237,7 @@ fulgwerz_count_answer fulgwerz_combine(
     const uint32_t *nodes, size_t nodes_length,
     const uint64_t *classes, size_t classes_length,
     const uint32_t *roots, size_t roots_length,
+    const uint32_t *plains, size_t plains_length,
     uint64_t *combinations, size_t combinations_length);
 
 /*
@@ -234,21 +251,23 @@ fulgwerz_build_answer fulgwerz_build(
     const uint32_t *nodes, size_t nodes_length,
     const uint64_t *classes, size_t classes_length,
     const uint32_t *roots, size_t roots_length,
+    const uint32_t *plains, size_t plains_length,
     uint64_t *combinations, size_t combinations_length,
     uint64_t *metastates, size_t metastates_length,
     uint32_t *arcs, size_t arcs_length,
     uint32_t turn_limit);
 
 /*
- * Reads a tree book and builds its network, as fulgwerz_read and fulgwerz_build do. Fills all six buffers; a refusal
+ * Reads a tree book and builds its network, as fulgwerz_read and fulgwerz_build do. Fills all seven buffers; a refusal
  * of the build clears the tables too.
- * Faults: 11 to 17, 20, 30, 31, 32.
+ * Faults: 11 to 17, 20, 21, 30, 31, 32.
  */
 fulgwerz_build_answer fulgwerz_build_book(
     const uint8_t *text, size_t text_length,
     uint32_t *nodes, size_t nodes_length,
     uint64_t *classes, size_t classes_length,
     uint32_t *roots, size_t roots_length,
+    uint32_t *plains, size_t plains_length,
     uint64_t *combinations, size_t combinations_length,
     uint64_t *metastates, size_t metastates_length,
     uint32_t *arcs, size_t arcs_length,

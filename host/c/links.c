@@ -60,6 +60,7 @@ static const uint32_t NODES[] = {
 };
 static const uint64_t CLASSES[] = {1};  /* phone 1 is the bit worth 1 */
 static const uint32_t ROOTS[] = {0, 1};
+static const uint32_t PLAINS[] = {0, 0}; /* no boundary phones */
 
 /*
  * Another book and its plain form. Two of its four classes have the same members, the others are not asked about.
@@ -113,11 +114,54 @@ static const uint32_t ARCS[] = {
     5, 4, 10, 1,  5, 5, 21, 2,
 };
 
-/* Lent buffers, each longer than the example needs, and not by whole records. */
+/*
+ * A third book, which is its own plain form. Phone 3 is a boundary phone and takes the tree of phone 2, which asks
+ * whether the phone itself is 2. Its nodes are the example's.
+ */
+static const char DIALECT[] =
+    "H     0     1     3     1     4\n"
+    "Q     1     2                  \n"
+    "L     0    10                  \n"
+    "N     1     1     0     2     3\n"
+    "L     2    20                  \n"
+    "L     3    21                  \n"
+    "B     3     2                  \n"
+    "R     1     1     0            \n"
+    "R     2     1     1            \n";
+
+enum { DIALECT_BYTES = 9 * FULGWERZ_LINE };
+
+static const fulgwerz_header DIALECT_HEADER = {0, 1, 3, 1, 4};
+static const uint64_t DIALECT_CLASSES[] = {2};
+static const uint32_t DIALECT_ROOTS[] = {0, 1, FULGWERZ_NO_ROOT};
+static const uint32_t DIALECT_PLAINS[] = {0, 0, 2};
+static const fulgwerz_counts DIALECT_COUNTS = {1, 3, 11};
+
+static const uint64_t DIALECT_COMBINATIONS[] = {
+    1, 0, 0, 0, 1, 0, 0, 0, 0, 0, 0,
+    2, 2, 0, 0, 2, 0, 0, 0, 0, 0, 0,
+    3, 3, 0, 0, 4, 0, 0, 0, 0, 0, 0,
+};
+
+static const uint64_t DIALECT_METASTATES[] = {
+    0, 1, 0, 0, 0, 0, 0, 0,
+    1, 2, 0, 0, 0, 0, 0, 0,
+    2, 4, 0, 0, 0, 0, 0, 0,
+};
+
+static const uint32_t DIALECT_ARCS[] = {
+    0, 2, 10, 1,
+    2, 1, 0, 0,  2, 2, 10, 1,  2, 3, 20, 2,  2, 4, 21, 3,
+    3, 2, 10, 1,  3, 3, 20, 2,  3, 4, 21, 3,
+    4, 2, 10, 1,  4, 3, 20, 2,  4, 4, 21, 3,
+};
+
+/* Lent buffers, each longer than the examples need, and not by whole records. */
 
 static uint32_t nodes[COUNT(NODES) + 7];
 static uint64_t classes[COUNT(CLASSES) + 2];
 static uint32_t roots[COUNT(ROOTS) + 3];
+static uint32_t plains[COUNT(PLAINS) + 4];
 static uint64_t combinations[COUNT(COMBINATIONS) + 13];
 static uint64_t metastates[COUNT(METASTATES) + 9];
 static uint32_t arcs[COUNT(ARCS) + 5];
@@ -129,6 +173,7 @@ static void spoil(void) {
     memset(nodes, 0xa5, sizeof nodes);
     memset(classes, 0xa5, sizeof classes);
     memset(roots, 0xa5, sizeof roots);
+    memset(plains, 0xa5, sizeof plains);
     memset(combinations, 0xa5, sizeof combinations);
     memset(metastates, 0xa5, sizeof metastates);
     memset(arcs, 0xa5, sizeof arcs);
@@ -174,14 +219,14 @@ static const fulgwerz_counts NO_COUNTS = {0, 0, 0};
 static fulgwerz_read_answer read_book(const char *book, size_t length, size_t nodes_length) {
     spoil();
     return fulgwerz_read(
-        bytes(book), length, nodes, nodes_length, classes, COUNT(classes), roots, COUNT(roots));
+        bytes(book), length, nodes, nodes_length, classes, COUNT(classes), roots, COUNT(roots), plains, COUNT(plains));
 }
 
 static fulgwerz_count_answer write_book(fulgwerz_header header, size_t text_length) {
     spoil();
     return fulgwerz_write_book(
         header, SPELLED_NODES, COUNT(SPELLED_NODES), SPELLED_CLASSES, COUNT(SPELLED_CLASSES), ROOTS, COUNT(ROOTS),
-        text, text_length);
+        PLAINS, COUNT(PLAINS), text, text_length);
 }
 
 static fulgwerz_leaf_answer find_leaf(uint32_t root, const uint32_t *context, size_t context_length) {
@@ -192,14 +237,14 @@ static fulgwerz_leaf_answer find_leaf(uint32_t root, const uint32_t *context, si
 static fulgwerz_count_answer transcribe(const uint32_t *phones, size_t phones_length, size_t models_length) {
     spoil();
     return fulgwerz_transcribe(
-        HEADER, NODES, COUNT(NODES), CLASSES, COUNT(CLASSES), ROOTS, COUNT(ROOTS),
+        HEADER, NODES, COUNT(NODES), CLASSES, COUNT(CLASSES), ROOTS, COUNT(ROOTS), PLAINS, COUNT(PLAINS),
         phones, phones_length, models, models_length);
 }
 
 static fulgwerz_count_answer combine(fulgwerz_header header, size_t combinations_length) {
     spoil();
     return fulgwerz_combine(
-        header, NODES, COUNT(NODES), CLASSES, COUNT(CLASSES), ROOTS, COUNT(ROOTS),
+        header, NODES, COUNT(NODES), CLASSES, COUNT(CLASSES), ROOTS, COUNT(ROOTS), PLAINS, COUNT(PLAINS),
         combinations, combinations_length);
 }
 
@@ -207,18 +252,19 @@ static fulgwerz_build_answer build(
     fulgwerz_header header, size_t combination_room, size_t metastate_room, size_t arc_room, uint32_t turn_limit) {
     spoil();
     return fulgwerz_build(
-        header, NODES, COUNT(NODES), CLASSES, COUNT(CLASSES), ROOTS, COUNT(ROOTS),
+        header, NODES, COUNT(NODES), CLASSES, COUNT(CLASSES), ROOTS, COUNT(ROOTS), PLAINS, COUNT(PLAINS),
         combinations, combination_room * FULGWERZ_COMBINATION,
         metastates, metastate_room * FULGWERZ_METASTATE,
         arcs, arc_room * FULGWERZ_ARC,
         turn_limit);
 }
 
-static fulgwerz_build_answer build_book(const char *book, size_t metastate_room, uint32_t turn_limit) {
+static fulgwerz_build_answer build_book(
+    const char *book, size_t length, size_t metastate_room, uint32_t turn_limit) {
     spoil();
     return fulgwerz_build_book(
-        bytes(book), BOOK_BYTES,
-        nodes, COUNT(nodes), classes, COUNT(classes), roots, COUNT(roots),
+        bytes(book), length,
+        nodes, COUNT(nodes), classes, COUNT(classes), roots, COUNT(roots), plains, COUNT(plains),
         combinations, COUNT(combinations),
         metastates, metastate_room * FULGWERZ_METASTATE,
         arcs, COUNT(arcs),
@@ -292,6 +338,7 @@ static void check_read(void) {
     CHECK(HOLDS(nodes, NODES));
     CHECK(HOLDS(classes, CLASSES));
     CHECK(HOLDS(roots, ROOTS));
+    CHECK(HOLDS(plains, PLAINS));
 
     read = read_book(BOOK, BOOK_BYTES, COUNT(NODES));
     CHECK(read.fault == 0 && read.line == 0 && same_header(read.header, HEADER));
@@ -301,7 +348,7 @@ static void check_read(void) {
     CHECK(same_header(read.header, NO_HEADER));
     CHECK(holds(nodes, (COUNT(NODES) - 1) * sizeof nodes[0], "", 0));
     CHECK(nodes[COUNT(NODES) - 1] == 0xa5a5a5a5); /* not lent, so not touched */
-    CHECK(CLEARED(classes) && CLEARED(roots));
+    CHECK(CLEARED(classes) && CLEARED(roots) && CLEARED(plains));
 }
 
 /* The example with one line changed; lines count from 1. */
@@ -326,7 +373,7 @@ static void check_read_refused(const char *book, size_t length, uint32_t fault, 
     CHECK(read.fault == fault);
     CHECK(read.line == line);
     CHECK(same_header(read.header, NO_HEADER));
-    CHECK(CLEARED(nodes) && CLEARED(classes) && CLEARED(roots));
+    CHECK(CLEARED(nodes) && CLEARED(classes) && CLEARED(roots) && CLEARED(plains));
 }
 
 static void check_read_refusals(void) {
@@ -358,7 +405,8 @@ static void check_write_book(void) {
     /* The example is its own plain form. */
     spoil();
     written = fulgwerz_write_book(
-        HEADER, NODES, COUNT(NODES), CLASSES, COUNT(CLASSES), ROOTS, COUNT(ROOTS), text, sizeof text);
+        HEADER, NODES, COUNT(NODES), CLASSES, COUNT(CLASSES), ROOTS, COUNT(ROOTS), PLAINS, COUNT(PLAINS),
+        text, sizeof text);
     CHECK(written.fault == 0 && written.line == 0 && written.count == BOOK_BYTES);
     CHECK(holds(text, sizeof text, BOOK, BOOK_BYTES));
 }
@@ -496,25 +544,117 @@ static void check_build_refusals(void) {
 }
 
 static void check_build_book(void) {
-    check_built(build_book(BOOK, 4, FULGWERZ_MAX_METASTATES));
+    check_built(build_book(BOOK, BOOK_BYTES, 4, FULGWERZ_MAX_METASTATES));
     CHECK(HOLDS(nodes, NODES));
     CHECK(HOLDS(classes, CLASSES));
     CHECK(HOLDS(roots, ROOTS));
+    CHECK(HOLDS(plains, PLAINS));
     CHECK(HOLDS(combinations, COMBINATIONS));
     CHECK(memcmp(metastates, METASTATES, sizeof METASTATES) == 0);
     CHECK(HOLDS(arcs, ARCS));
 
     /* A refusal of the build clears the tables too. */
-    check_build_refused(build_book(BOOK, 3, FULGWERZ_MAX_METASTATES), FULGWERZ_CROWD, 0);
-    CHECK(CLEARED(nodes) && CLEARED(classes) && CLEARED(roots));
+    check_build_refused(build_book(BOOK, BOOK_BYTES, 3, FULGWERZ_MAX_METASTATES), FULGWERZ_CROWD, 0);
+    CHECK(CLEARED(nodes) && CLEARED(classes) && CLEARED(roots) && CLEARED(plains));
     CHECK(CLEARED(combinations) && CLEARED(arcs));
     CHECK(holds(metastates, 3 * FULGWERZ_METASTATE * sizeof metastates[0], "", 0));
 
     const char *orphans = with_line(4, "N     1     1     0     2     2\n");
-    check_build_refused(build_book(orphans, 4, FULGWERZ_MAX_METASTATES), FULGWERZ_ORPHAN, 5);
-    CHECK(CLEARED(nodes) && CLEARED(classes) && CLEARED(roots));
+    check_build_refused(build_book(orphans, BOOK_BYTES, 4, FULGWERZ_MAX_METASTATES), FULGWERZ_ORPHAN, 5);
+    CHECK(CLEARED(nodes) && CLEARED(classes) && CLEARED(roots) && CLEARED(plains));
     CHECK(CLEARED(combinations) && CLEARED(arcs));
     CHECK(holds(metastates, 4 * FULGWERZ_METASTATE * sizeof metastates[0], "", 0));
+}
+
+/* The third book, by every entry that takes a text or all four tables. */
+
+static fulgwerz_count_answer write_dialect(const uint32_t *own_plains, size_t plains_length) {
+    spoil();
+    return fulgwerz_write_book(
+        DIALECT_HEADER, NODES, COUNT(NODES), DIALECT_CLASSES, COUNT(DIALECT_CLASSES),
+        DIALECT_ROOTS, COUNT(DIALECT_ROOTS), own_plains, plains_length, text, sizeof text);
+}
+
+static void check_dialect_read(void) {
+    fulgwerz_read_answer read = read_book(DIALECT, DIALECT_BYTES, COUNT(nodes));
+    CHECK(read.fault == 0 && read.line == 0);
+    CHECK(same_header(read.header, DIALECT_HEADER));
+    CHECK(HOLDS(nodes, NODES) && HOLDS(classes, DIALECT_CLASSES));
+    CHECK(HOLDS(roots, DIALECT_ROOTS) && HOLDS(plains, DIALECT_PLAINS));
+
+    spoil();
+    read = fulgwerz_read(
+        bytes(DIALECT), DIALECT_BYTES, nodes, COUNT(nodes), classes, COUNT(classes), roots, COUNT(roots), plains, 2);
+    CHECK(read.fault == FULGWERZ_NARROW && read.line == 1);
+    CHECK(CLEARED(nodes) && CLEARED(classes) && CLEARED(roots));
+    CHECK(plains[0] == 0 && plains[1] == 0 && plains[2] == 0xa5a5a5a5);
+
+    char chained[sizeof DIALECT];
+    memcpy(chained, DIALECT, sizeof DIALECT);
+    memcpy(chained + 6 * FULGWERZ_LINE, "B     3     3", 13);
+    check_read_refused(chained, DIALECT_BYTES, FULGWERZ_CHAINED, 7);
+}
+
+static void check_dialect_tables(void) {
+    static const uint32_t phones[] = {1, 2, 3, 1}, four[] = {10, 20, 21, 10};
+    spoil();
+    fulgwerz_count_answer given = fulgwerz_transcribe(
+        DIALECT_HEADER, NODES, COUNT(NODES), DIALECT_CLASSES, COUNT(DIALECT_CLASSES),
+        DIALECT_ROOTS, COUNT(DIALECT_ROOTS), DIALECT_PLAINS, COUNT(DIALECT_PLAINS),
+        phones, COUNT(phones), models, COUNT(models));
+    CHECK(given.fault == 0 && given.line == 0 && given.count == 4);
+    CHECK(HOLDS(models, four));
+
+    fulgwerz_count_answer combined = fulgwerz_combine(
+        DIALECT_HEADER, NODES, COUNT(NODES), DIALECT_CLASSES, COUNT(DIALECT_CLASSES),
+        DIALECT_ROOTS, COUNT(DIALECT_ROOTS), DIALECT_PLAINS, COUNT(DIALECT_PLAINS),
+        combinations, COUNT(combinations));
+    CHECK(combined.fault == 0 && combined.line == 0 && combined.count == 3);
+    CHECK(HOLDS(combinations, DIALECT_COMBINATIONS));
+
+    fulgwerz_count_answer written = write_dialect(DIALECT_PLAINS, COUNT(DIALECT_PLAINS));
+    CHECK(written.fault == 0 && written.line == 0 && written.count == DIALECT_BYTES);
+    CHECK(holds(text, sizeof text, DIALECT, DIALECT_BYTES));
+}
+
+static void check_dialect_foreign(const uint32_t *own_plains, size_t plains_length) {
+    fulgwerz_count_answer written = write_dialect(own_plains, plains_length);
+    CHECK(written.fault == FULGWERZ_FOREIGN && written.line == 0 && written.count == 0);
+    CHECK(CLEARED(text));
+}
+
+static void check_dialect_plains(void) {
+    static const uint32_t none[] = {0, 0, 0}, itself[] = {0, 0, 3}, beyond[] = {0, 0, 4}, silence[] = {2, 0, 2},
+                          more[] = {0, 0, 2, 1};
+    check_dialect_foreign(none, 3); /* a root is left out, and the phone is no boundary phone */
+    check_dialect_foreign(itself, 3);
+    check_dialect_foreign(beyond, 3);
+    check_dialect_foreign(silence, 3);
+    check_dialect_foreign(more, 4);
+    check_dialect_foreign(DIALECT_PLAINS, 2);
+}
+
+static void check_dialect_network(fulgwerz_build_answer built) {
+    CHECK(built.fault == 0 && built.line == 0 && built.finished && built.turns == 3);
+    CHECK(same_counts(built.counts, DIALECT_COUNTS));
+    CHECK(HOLDS(combinations, DIALECT_COMBINATIONS));
+    CHECK(holds(
+        metastates, 4 * FULGWERZ_METASTATE * sizeof metastates[0], DIALECT_METASTATES, sizeof DIALECT_METASTATES));
+    CHECK(HOLDS(arcs, DIALECT_ARCS));
+}
+
+static void check_dialect_build(void) {
+    spoil();
+    check_dialect_network(fulgwerz_build(
+        DIALECT_HEADER, NODES, COUNT(NODES), DIALECT_CLASSES, COUNT(DIALECT_CLASSES),
+        DIALECT_ROOTS, COUNT(DIALECT_ROOTS), DIALECT_PLAINS, COUNT(DIALECT_PLAINS),
+        combinations, COUNT(combinations), metastates, 4 * FULGWERZ_METASTATE, arcs, COUNT(arcs), 3));
+
+    check_dialect_network(build_book(DIALECT, DIALECT_BYTES, 4, FULGWERZ_MAX_METASTATES));
+    CHECK(HOLDS(nodes, NODES) && HOLDS(classes, DIALECT_CLASSES));
+    CHECK(HOLDS(roots, DIALECT_ROOTS) && HOLDS(plains, DIALECT_PLAINS));
+    check_build_refused(build_book(DIALECT, DIALECT_BYTES, 2, FULGWERZ_MAX_METASTATES), FULGWERZ_CROWD, 0);
+    CHECK(CLEARED(nodes) && CLEARED(classes) && CLEARED(roots) && CLEARED(plains));
 }
 
 static void check_part(uint32_t state, uint32_t fault, size_t start, size_t length) {
@@ -584,7 +724,7 @@ static void check_read_network(void) {
 
 int main(void) {
     CHECK(sizeof BOOK == BOOK_BYTES + 1 && sizeof NETWORK == NETWORK_BYTES + 1);
-    CHECK(sizeof PLAIN == PLAIN_BYTES + 1);
+    CHECK(sizeof PLAIN == PLAIN_BYTES + 1 && sizeof DIALECT == DIALECT_BYTES + 1);
     check_small_layouts();
     check_answer_layouts();
     check_read();
@@ -598,6 +738,10 @@ int main(void) {
     check_build();
     check_build_refusals();
     check_build_book();
+    check_dialect_read();
+    check_dialect_tables();
+    check_dialect_plains();
+    check_dialect_build();
     check_leaving();
     check_write();
     check_read_network();

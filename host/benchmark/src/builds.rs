@@ -16,21 +16,22 @@ pub struct ReadBook {
     nodes: Vec<u32>,
     classes: Vec<u64>,
     roots: Vec<u32>,
+    plains: Vec<u32>,
 }
 
 impl ReadBook {
     pub fn new(book: &Book) -> ReadBook {
-        let mut nodes = vec![0; NODE * book.nodes.len()];
-        let mut classes = vec![0; book.classes.len()];
-        let mut roots = vec![0; book.roots.len()];
-        let tables = TablesMut { nodes: &mut nodes, classes: &mut classes, roots: &mut roots };
-        let answer = fulgwerz::read(&book.text(), tables);
+        let [nodes, classes, roots, plains] = book.table_lengths();
+        let (mut nodes, mut classes) = (vec![0; nodes], vec![0; classes]);
+        let (mut roots, mut plains) = (vec![0; roots], vec![0; plains]);
+        let lent = TablesMut { nodes: &mut nodes, classes: &mut classes, roots: &mut roots, plains: &mut plains };
+        let answer = fulgwerz::read(&book.text(), lent);
         assert_eq!(answer.fault, 0, "the book is refused at line {}", answer.line);
-        ReadBook { header: answer.header, nodes, classes, roots }
+        ReadBook { header: answer.header, nodes, classes, roots, plains }
     }
 
     pub fn tables(&self) -> Tables<'_> {
-        Tables { nodes: &self.nodes, classes: &self.classes, roots: &self.roots }
+        Tables { nodes: &self.nodes, classes: &self.classes, roots: &self.roots, plains: &self.plains }
     }
 }
 

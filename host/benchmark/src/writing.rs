@@ -7,8 +7,8 @@ use fulgwerz::CountAnswer;
 use plain::limits::{LINE, MOST_CLASSES, MOST_NODES, MOST_PHONES, MOST_STATES};
 use std::time::Duration;
 
-/// Lines of the longest book.
-const MOST_LINES: u32 = 1 + MOST_CLASSES * MOST_PHONES + MOST_NODES + MOST_PHONES * MOST_STATES;
+/// Lines of the longest book: no phone but silence lacks a B line.
+const MOST_LINES: u32 = 1 + MOST_CLASSES * MOST_PHONES + MOST_NODES + (MOST_PHONES - 1) + MOST_PHONES * MOST_STATES;
 
 /// What writing costs one side.
 #[derive(Clone, Copy)]

@@ -1,11 +1,12 @@
 //! Damaged texts: what a careless hand or a bad copy does to a tree book or a network text.
 
+use crate::damage_boundaries::damage_boundaries;
 use plain::limits::LINE;
 use plain::random::Random;
 
 const FIELD: usize = 6;
-const LETTERS: &[u8] = b"HQNLRWAX hqnlr";
-const BYTES: &[u8] = b"0123456789 \n\r\tHQNLRWA-+.\0\xff";
+const LETTERS: &[u8] = b"HQNLBRWAX hqnlbr";
+const BYTES: &[u8] = b"0123456789 \n\r\tHQNLBRWA-+.\0\xff";
 
 /// Damages a text in one place, sometimes in several.
 pub fn damage(random: &mut Random, text: &mut Vec<u8>) {
@@ -19,8 +20,9 @@ fn damage_once(random: &mut Random, text: &mut Vec<u8>) {
     if text.len() < LINE {
         return extend(random, text);
     }
-    match random.below(24) {
-        0..=7 => change_number(random, text),
+    match random.below(28) {
+        24..=27 if text[0] == b'H' => damage_boundaries(random, text),
+        0..=7 | 24..=27 => change_number(random, text),
         20..=23 => change_name(random, text),
         8 | 9 => change_byte(random, text),
         10 => change_letter(random, text),

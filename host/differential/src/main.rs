@@ -1,13 +1,15 @@
 //! Compares every entry of the library with the plain implementation: answers and whole buffers, refusals too.
 //!
-//!     differential [CASES [SEED]]       random cases (200000), then those at the ceilings
+//!     differential [CASES [SEED]]       random cases (200000), then the fixed ones
 //!     differential --case NUMBER SEED   one case again, printed in full
-//!     differential --ceiling NUMBER     one case at the ceilings
+//!     differential --fixed NUMBER       one of the fixed cases: at the ceilings, and small books
 
 mod cases;
 mod damage;
+mod damage_boundaries;
 mod lending;
 mod lengths;
+mod lent_tables;
 mod outcome;
 mod tally;
 
@@ -32,7 +34,7 @@ fn main() {
     let run = move || match words[..] {
         [] => compare(CASES, SEED),
         ["--case", case, seed] => show(cases::case(number(seed), number(case)).as_ref()),
-        ["--ceiling", case] => show(cases::ceilings::cases()[number(case) as usize].as_ref()),
+        ["--fixed", case] => show(cases::fixed()[number(case) as usize].as_ref()),
         [cases] => compare(number(cases), SEED),
         [cases, seed] => compare(number(cases), number(seed)),
         _ => usage(),
@@ -49,7 +51,7 @@ fn number(word: &str) -> u64 {
 }
 
 fn usage() -> ! {
-    eprintln!("usage: differential [CASES [SEED]] | --case NUMBER SEED | --ceiling NUMBER");
+    eprintln!("usage: differential [CASES [SEED]] | --case NUMBER SEED | --fixed NUMBER");
     exit(2)
 }
 
@@ -61,8 +63,8 @@ fn compare(cases: u64, seed: u64) -> bool {
         let again = format!("--case {number} {seed}");
         compare_one(cases::case(seed, number).as_ref(), &again, &mut tally);
     }
-    for (number, case) in cases::ceilings::cases().iter().enumerate() {
-        compare_one(case.as_ref(), &format!("--ceiling {number}"), &mut tally);
+    for (number, case) in cases::fixed().iter().enumerate() {
+        compare_one(case.as_ref(), &format!("--fixed {number}"), &mut tally);
     }
     tally.print();
     println!("{} cases, {} differences", tally.cases(), tally.differences());

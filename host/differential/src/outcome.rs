@@ -1,6 +1,7 @@
 //! What a call answered and left in memory, and how two outcomes are compared.
 
 use crate::lending::{Lent, Word, Words, AROUND};
+use crate::lent_tables::LentTables;
 use std::fmt::{Debug, Write};
 
 /// The sides that are compared.
@@ -30,6 +31,11 @@ impl Outcome {
     pub fn with<W: Word>(mut self, name: &'static str, lent: Lent<W>) -> Outcome {
         self.memory.push((name, lent.left()));
         self
+    }
+
+    pub fn with_tables(self, lent: LentTables) -> Outcome {
+        let LentTables { nodes, classes, roots, plains } = lent;
+        self.with("nodes", nodes).with("classes", classes).with("roots", roots).with("plains", plains)
     }
 
     /// Both answers, and for each buffer that differs the first words that do.

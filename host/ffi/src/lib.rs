@@ -90,12 +90,14 @@ pub struct PartAnswer {
     pub length: usize,
 }
 
-/// The three tables that reading leaves, lent to be read.
+/// The tables that reading leaves, lent to be read.
 #[derive(Clone, Copy)]
 pub struct Tables<'a> {
     pub nodes: &'a [u32],
     pub classes: &'a [u64],
     pub roots: &'a [u32],
+    /// For each phone its plain phone, or 0.
+    pub plains: &'a [u32],
 }
 
 /// The same, lent to be filled.
@@ -103,6 +105,7 @@ pub struct TablesMut<'a> {
     pub nodes: &'a mut [u32],
     pub classes: &'a mut [u64],
     pub roots: &'a mut [u32],
+    pub plains: &'a mut [u32],
 }
 
 /// The space of a build, lent to be filled.
@@ -121,6 +124,7 @@ mod raw {
             nodes: *mut u32, nodes_length: usize,
             classes: *mut u64, classes_length: usize,
             roots: *mut u32, roots_length: usize,
+            plains: *mut u32, plains_length: usize,
         ) -> ReadAnswer;
 
         pub fn fulgwerz_write_book(
@@ -128,6 +132,7 @@ mod raw {
             nodes: *const u32, nodes_length: usize,
             classes: *const u64, classes_length: usize,
             roots: *const u32, roots_length: usize,
+            plains: *const u32, plains_length: usize,
             text: *mut u8, text_length: usize,
         ) -> CountAnswer;
 
@@ -152,6 +157,7 @@ mod raw {
             nodes: *const u32, nodes_length: usize,
             classes: *const u64, classes_length: usize,
             roots: *const u32, roots_length: usize,
+            plains: *const u32, plains_length: usize,
             phones: *const u32, phones_length: usize,
             models: *mut u32, models_length: usize,
         ) -> CountAnswer;
@@ -161,6 +167,7 @@ mod raw {
             nodes: *const u32, nodes_length: usize,
             classes: *const u64, classes_length: usize,
             roots: *const u32, roots_length: usize,
+            plains: *const u32, plains_length: usize,
             combinations: *mut u64, combinations_length: usize,
         ) -> CountAnswer;
 
@@ -169,6 +176,7 @@ mod raw {
             nodes: *const u32, nodes_length: usize,
             classes: *const u64, classes_length: usize,
             roots: *const u32, roots_length: usize,
+            plains: *const u32, plains_length: usize,
             combinations: *mut u64, combinations_length: usize,
             metastates: *mut u64, metastates_length: usize,
             arcs: *mut u32, arcs_length: usize,
@@ -180,6 +188,7 @@ mod raw {
             nodes: *mut u32, nodes_length: usize,
             classes: *mut u64, classes_length: usize,
             roots: *mut u32, roots_length: usize,
+            plains: *mut u32, plains_length: usize,
             combinations: *mut u64, combinations_length: usize,
             metastates: *mut u64, metastates_length: usize,
             arcs: *mut u32, arcs_length: usize,
@@ -203,26 +212,28 @@ mod raw {
 
 /// Reads a tree book into the tables.
 pub fn read(text: &[u8], tables: TablesMut) -> ReadAnswer {
-    let TablesMut { nodes, classes, roots } = tables;
+    let TablesMut { nodes, classes, roots, plains } = tables;
     unsafe {
         raw::fulgwerz_read(
             text.as_ptr(), text.len(),
             nodes.as_mut_ptr(), nodes.len(),
             classes.as_mut_ptr(), classes.len(),
             roots.as_mut_ptr(), roots.len(),
+            plains.as_mut_ptr(), plains.len(),
         )
     }
 }
 
 /// Writes the plain form of the book in the tables.
 pub fn write_book(header: Header, tables: Tables, text: &mut [u8]) -> CountAnswer {
-    let Tables { nodes, classes, roots } = tables;
+    let Tables { nodes, classes, roots, plains } = tables;
     unsafe {
         raw::fulgwerz_write_book(
             header,
             nodes.as_ptr(), nodes.len(),
             classes.as_ptr(), classes.len(),
             roots.as_ptr(), roots.len(),
+            plains.as_ptr(), plains.len(),
             text.as_mut_ptr(), text.len(),
         )
     }
@@ -256,13 +267,14 @@ pub fn leaf_in_list(header: Header, nodes: &[Node], classes: &[u64], root: u32, 
 
 /// The models of a phone sequence.
 pub fn transcribe(header: Header, tables: Tables, phones: &[u32], models: &mut [u32]) -> CountAnswer {
-    let Tables { nodes, classes, roots } = tables;
+    let Tables { nodes, classes, roots, plains } = tables;
     unsafe {
         raw::fulgwerz_transcribe(
             header,
             nodes.as_ptr(), nodes.len(),
             classes.as_ptr(), classes.len(),
             roots.as_ptr(), roots.len(),
+            plains.as_ptr(), plains.len(),
             phones.as_ptr(), phones.len(),
             models.as_mut_ptr(), models.len(),
         )
@@ -271,13 +283,14 @@ pub fn transcribe(header: Header, tables: Tables, phones: &[u32], models: &mut [
 
 /// The valid combinations of leaves.
 pub fn combine(header: Header, tables: Tables, combinations: &mut [u64]) -> CountAnswer {
-    let Tables { nodes, classes, roots } = tables;
+    let Tables { nodes, classes, roots, plains } = tables;
     unsafe {
         raw::fulgwerz_combine(
             header,
             nodes.as_ptr(), nodes.len(),
             classes.as_ptr(), classes.len(),
             roots.as_ptr(), roots.len(),
+            plains.as_ptr(), plains.len(),
             combinations.as_mut_ptr(), combinations.len(),
         )
     }
@@ -285,7 +298,7 @@ pub fn combine(header: Header, tables: Tables, combinations: &mut [u64]) -> Coun
 
 /// Builds the network from tables.
 pub fn build(header: Header, tables: Tables, space: Space, turn_limit: u32) -> BuildAnswer {
-    let Tables { nodes, classes, roots } = tables;
+    let Tables { nodes, classes, roots, plains } = tables;
     let Space { combinations, metastates, arcs } = space;
     unsafe {
         raw::fulgwerz_build(
@@ -293,6 +306,7 @@ pub fn build(header: Header, tables: Tables, space: Space, turn_limit: u32) -> B
             nodes.as_ptr(), nodes.len(),
             classes.as_ptr(), classes.len(),
             roots.as_ptr(), roots.len(),
+            plains.as_ptr(), plains.len(),
             combinations.as_mut_ptr(), combinations.len(),
             metastates.as_mut_ptr(), metastates.len(),
             arcs.as_mut_ptr(), arcs.len(),
@@ -303,7 +317,7 @@ pub fn build(header: Header, tables: Tables, space: Space, turn_limit: u32) -> B
 
 /// Reads a tree book and builds its network.
 pub fn build_book(text: &[u8], tables: TablesMut, space: Space, turn_limit: u32) -> BuildAnswer {
-    let TablesMut { nodes, classes, roots } = tables;
+    let TablesMut { nodes, classes, roots, plains } = tables;
     let Space { combinations, metastates, arcs } = space;
     unsafe {
         raw::fulgwerz_build_book(
@@ -311,6 +325,7 @@ pub fn build_book(text: &[u8], tables: TablesMut, space: Space, turn_limit: u32)
             nodes.as_mut_ptr(), nodes.len(),
             classes.as_mut_ptr(), classes.len(),
             roots.as_mut_ptr(), roots.len(),
+            plains.as_mut_ptr(), plains.len(),
             combinations.as_mut_ptr(), combinations.len(),
             metastates.as_mut_ptr(), metastates.len(),
             arcs.as_mut_ptr(), arcs.len(),

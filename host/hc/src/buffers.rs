@@ -11,6 +11,9 @@ const COMBINATION: usize = 11;
 const METASTATE: usize = 8;
 pub const ARC: usize = 4;
 
+/// In the root table: no R line gives this root.
+const NO_ROOT: u32 = 4096;
+
 /// The first word of a question's node.
 const QUESTION: u32 = 1;
 
@@ -34,24 +37,32 @@ pub struct BookTables {
     nodes: Vec<u32>,
     classes: Vec<u64>,
     roots: Vec<u32>,
+    plains: Vec<u32>,
 }
 
 impl BookTables {
     fn empty() -> BookTables {
-        BookTables { nodes: vec![0; 4096 * NODE], classes: vec![0; 255], roots: vec![0; 64 * 3] }
+        BookTables { nodes: vec![0; 4096 * NODE], classes: vec![0; 255], roots: vec![0; 64 * 3], plains: vec![0; 64] }
     }
 
     fn lent_to_fill(&mut self) -> TablesMut<'_> {
-        TablesMut { nodes: &mut self.nodes, classes: &mut self.classes, roots: &mut self.roots }
+        let BookTables { nodes, classes, roots, plains } = self;
+        TablesMut { nodes, classes, roots, plains }
     }
 
     fn lent_to_read(&self) -> Tables<'_> {
-        Tables { nodes: &self.nodes, classes: &self.classes, roots: &self.roots }
+        let BookTables { nodes, classes, roots, plains } = self;
+        Tables { nodes, classes, roots, plains }
     }
 
-    /// The root of a tree by its place among the R lines, from 0.
-    pub fn root(&self, place: u32) -> u32 {
-        self.roots[place as usize]
+    /// The root of a tree by its place in the order of the R lines, from 0, if it has an R line.
+    pub fn root(&self, place: u32) -> Option<u32> {
+        Some(self.roots[place as usize]).filter(|&root| root != NO_ROOT)
+    }
+
+    /// The plain phone that the B line of a phone names, if it has one.
+    pub fn plain(&self, phone: u32) -> Option<u32> {
+        Some(self.plains[phone as usize - 1]).filter(|&plain| plain != 0)
     }
 
     pub fn node(&self, number: u32) -> Node {

@@ -62,9 +62,13 @@ fn build_text(book: &inputs::Text) -> Result<Vec<u8>, Failure> {
 }
 
 fn check(book: &OsStr) -> Result<(), Failure> {
-    let Book { text, header, .. } = Book::read(book)?;
+    let Book { text, header, tables } = Book::read(book)?;
+    let boundaries = match (1..=header.phones).filter(|&phone| tables.plain(phone).is_some()).count() {
+        0 => String::new(),
+        count => format!(", boundary phones {count}"),
+    };
     let accepted = format!(
-        "{}: accepted: half-width {}, states {}, phones {}, classes {}, nodes {}\n",
+        "{}: accepted: half-width {}, states {}, phones {}, classes {}, nodes {}{boundaries}\n",
         text.name, header.half, header.states, header.phones, header.classes, header.nodes
     );
     outputs::to_stdout(accepted.as_bytes())

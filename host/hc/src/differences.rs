@@ -6,7 +6,10 @@ use fulgwerz::Header;
 
 /// Three lines: what differs, and how it is in each of the books.
 pub fn first(one: &Book, other: &Book) -> String {
-    match header_difference(one.header, other.header).or_else(|| forest_difference(one, other)) {
+    let difference = header_difference(one.header, other.header)
+        .or_else(|| boundary_difference(one, other))
+        .or_else(|| forest_difference(one, other));
+    match difference {
         Some((what, here, there)) => format!("  {what}\n  {}{here}\n  {}{there}\n", one.text.name, other.text.name),
         None => "  nothing is found that differs: a mistake in hc, not in the books\n".to_string(),
     }
@@ -25,13 +28,27 @@ fn header_difference(one: Header, other: Header) -> Option<Difference> {
     Some((format!("the {many} differ"), format!(": {word} {one}"), format!(": {word} {other}")))
 }
 
-/// Both books have as many phones and states.
+/// Both books have as many phones.
+fn boundary_difference(one: &Book, other: &Book) -> Option<Difference> {
+    let phone = (1..=one.header.phones).find(|&phone| one.tables.plain(phone) != other.tables.plain(phone))?;
+    let shown = |book: &Book| match book.tables.plain(phone) {
+        Some(plain) => format!(": it takes the trees of phone {plain}"),
+        None => ": it has no B line".to_string(),
+    };
+    Some((format!("the B lines of phone {phone} differ"), shown(one), shown(other)))
+}
+
+/// Both books have as many phones and states, and the same B lines.
 fn forest_difference(one: &Book, other: &Book) -> Option<Difference> {
     let Header { states, phones, .. } = one.header;
     for place in 0..phones * states {
-        let roots = (one.tables.root(place), other.tables.root(place));
+        let (phone, state) = (place / states + 1, place % states + 1);
+        let roots = match (one.tables.root(place), other.tables.root(place)) {
+            (None, None) => continue,
+            (Some(root), Some(other_root)) => (root, other_root),
+            (root, _) => return Some(root_lines_difference(phone, root.is_some())),
+        };
         if let Some((what, (node, other_node))) = tree_difference(one, other, roots) {
-            let (phone, state) = (place / states + 1, place % states + 1);
             return Some((
                 format!("the trees of phone {phone}, state {state} differ: {what}"),
                 format!(", node {node}: {}", describe(&one.tables.node(node))),
@@ -40,6 +57,12 @@ fn forest_difference(one: &Book, other: &Book) -> Option<Difference> {
         }
     }
     None
+}
+
+/// One book has R lines of the phone, which has a B line in both, and the other has none.
+fn root_lines_difference(phone: u32, in_one: bool) -> Difference {
+    let shown = |has_them: bool| if has_them { ": it has R lines too" } else { ": it has a B line alone" }.to_string();
+    (format!("the R lines of phone {phone} differ"), shown(in_one), shown(!in_one))
 }
 
 /// The first difference from the roots down, yes before no, and the nodes where it is.

@@ -1,5 +1,6 @@
 //! The faults in words.
 
+use crate::chained;
 use crate::failures::Failure;
 use crate::inputs::{Text, LINE};
 use crate::ragged;
@@ -8,15 +9,16 @@ use crate::showing;
 /// The faults that are treated apart.
 const RAGGED: u32 = 11;
 pub const NARROW: u32 = 20;
+const CHAINED: u32 = 21;
 pub const CHOICES: u32 = 30;
 pub const CROWD: u32 = 31;
 pub const TANGLE: u32 = 32;
 
-/// A fault's number, the word of document 01 for it, and what it means to those who wrote the text.
+/// A fault's number, the word for it, document 01's where it has one, and what it means to those who wrote the text.
 struct Fault(u32, &'static str, &'static str);
 
 /// Every fault that the library gives. (22 is the build program's alone, for a book longer than it takes.)
-const FAULTS: [Fault; 15] = [
+const FAULTS: [Fault; 16] = [
     Fault(11, "ragged", "every line must have 31 characters and then a line end"),
     Fault(
         12,
@@ -31,6 +33,7 @@ const FAULTS: [Fault; 15] = [
     Fault(17, "count", "the lines end too early, or go on after the last that belongs to the text"),
     Fault(18, "foreign", "the library was lent tables that reading never leaves: a mistake in hc, not in the text"),
     Fault(20, "narrow", "the library was lent too short a table: a mistake in hc, not in the text"),
+    Fault(21, "chained", "a phone takes the trees of a phone that is a boundary phone itself"),
     Fault(
         30,
         "choices",
@@ -60,6 +63,8 @@ const UNKNOWN: Fault = Fault(0, "unknown", "the library gave a number that hc do
 pub fn explain(text: &Text, fault: u32, line: usize) -> Failure {
     let Fault(_, word, meaning) = FAULTS.iter().find(|known| known.0 == fault).unwrap_or(&UNKNOWN);
     let place = if line == 0 { String::new() } else { format!(", at line {line}") };
+    let phones = if fault == CHAINED { chained::describe(&text.bytes, line) } else { None };
+    let meaning = phones.as_deref().unwrap_or(meaning);
     let failure = Failure::because(format!("{}: fault {fault}, {word}{place}: {meaning}", text.name));
     if fault == RAGGED {
         failure.adding(&ragged::describe(&text.bytes))
@@ -83,6 +88,8 @@ mod tests {
     use super::*;
 
     const DOCUMENT: &str = include_str!("../../../docs/document-01.md");
+    const LATER: &str = include_str!("../../../docs/document-02.md");
+    const GUIDE: &str = include_str!("../../../docs/tree-books.md");
     const HEADER: &str = include_str!("../../../include/fulgwerz.h");
 
     /// The rows of document 01's table that have a fault's number and word, but 22.
@@ -95,10 +102,22 @@ mod tests {
         rows.filter(|row| row.0 != 22).collect()
     }
 
+    /// Document 02 gives its faults a number and no word.
     #[test]
-    fn every_fault_has_the_word_of_document_01() {
+    fn every_fault_has_the_word_of_document_01_or_the_number_of_document_02() {
         let words: Vec<(u32, &str)> = FAULTS.iter().map(|fault| (fault.0, fault.1)).collect();
-        assert_eq!(words, documented());
+        let (later, first): (Vec<_>, Vec<_>) = words.into_iter().partition(|word| word.0 == CHAINED);
+        assert_eq!(first, documented());
+        for (number, _) in later {
+            assert!(LATER.contains(&format!("Number {number} refuses ")), "{number}");
+        }
+    }
+
+    #[test]
+    fn the_guide_has_a_section_for_each() {
+        for Fault(number, word, _) in FAULTS {
+            assert!(GUIDE.contains(&format!("\n### {number} {word}\n")), "{number} {word}");
+        }
     }
 
     #[test]

@@ -52,8 +52,8 @@ examples:
 const CHECK: &str = "
 
 Reads the tree book. Says that it is accepted, with its half-width, states,
-phones, classes and nodes, or what is wrong and where. Nothing is built.
-BOOK may be - for standard input.
+phones, classes and nodes, and its boundary phones if it has B lines; or what is
+wrong and where. Nothing is built. BOOK may be - for standard input.
 
 examples:
   hc check welsh.book
@@ -68,8 +68,9 @@ output where FILE is - or not given. BOOK may be - for standard input.
 The plain form is one spelling for all books that have the same trees: the trees
 stand by phone and state, the nodes of each are numbered from its root down, yes
 before no; classes with the same members are one, those that no question asks
-about are left out, and they are numbered as the questions meet them. It is a
-book itself, and gives every row of phones the models that it had.
+about are left out, and they are numbered as the questions meet them. B lines
+stay as they are, and R lines that are left out stay left out. It is a book
+itself, and gives every row of phones the models that it had.
 
 FILE is replaced whole or not at all, and may not be BOOK itself.
 
@@ -80,11 +81,11 @@ examples:
 
 const SAME: &str = "
 
-Says whether two tree books are the same: the same half-width, states and phones
-and, for each phone and state, the same tree, however its nodes and the classes
-are numbered. Where they are not, says what differs first: half-width, states or
-phones, or a tree, and what differs there on the way from its root down, yes
-before no. One BOOK may be - for standard input.
+Says whether two tree books are the same: the same half-width, states, phones
+and B lines and, for each phone and state, the same tree or none, however its
+nodes and the classes are numbered. Where they are not, says what differs first:
+half-width, states or phones, a B line, or a tree, and what differs there on the
+way from its root down, yes before no. One BOOK may be - for standard input.
 
 The exit status is 0 if they are the same, 1 if they are not, and 2 if there is
 no answer: a book is refused or cannot be read, or the command is wrong.

@@ -10,7 +10,7 @@ use std::io::{self, Read};
 /// Bytes of a line, its line feed included.
 pub const LINE: usize = 32;
 
-/// Twice the longest network, which has a million lines; the longest book has 20609. The library finds what is wrong
+/// Twice the longest network, which has a million lines; the longest book has 20672. The library finds what is wrong
 /// with a text up to this length; what is longer is not kept in memory.
 const LONGEST: u64 = 64_000_000;
 

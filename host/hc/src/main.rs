@@ -3,6 +3,7 @@
 mod args;
 mod books;
 mod buffers;
+mod chained;
 mod commands;
 mod differences;
 mod failures;

@@ -2,6 +2,7 @@
 
 use crate::buffers::{clear, fill};
 use crate::foreign::tables_known;
+use crate::in_force::roots_in_force;
 use crate::limits::*;
 use crate::matrix::{is_valid, meet, root_matrix, words_of, Matrix};
 use crate::refusal::*;
@@ -36,8 +37,7 @@ pub fn combinations_of(header: Header, tables: Tables, room: usize) -> Result<Ve
     let mut found = Vec::new();
     for phone in 1..=header.phones {
         let begun = Combination { phone, leaves: Vec::new(), matrix: root_matrix(header, phone) };
-        let first = ((phone - 1) * header.states) as usize;
-        let trees: Vec<Vec<(u32, Matrix)>> = tables.roots[first..first + header.states as usize]
+        let trees: Vec<Vec<(u32, Matrix)>> = roots_in_force(header, tables, phone)
             .iter()
             .map(|&root| leaves_below(tables, root, begun.matrix.clone()))
             .collect();

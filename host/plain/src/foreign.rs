@@ -5,11 +5,27 @@ use fulgwerz::{Counts, Header, Tables};
 
 /// Tables that reading some book could leave.
 pub fn tables_known(header: Header, tables: Tables) -> bool {
-    let Tables { nodes, classes, roots } = tables;
+    let Tables { nodes, classes, roots, plains } = tables;
     records_known(header, nodes, classes)
-        && used_and_zeros(roots, (header.phones * header.states) as usize)
-        && roots[..(header.phones * header.states) as usize].iter().all(|&root| root < header.nodes)
+        && plains_known(header, plains)
+        && roots_known(header, roots, plains)
         && each_named_once(header, nodes, roots)
+}
+
+/// Silence is no boundary phone, and no boundary phone's plain phone is one.
+fn plains_known(header: Header, plains: &[u32]) -> bool {
+    used_and_zeros(plains, header.phones as usize)
+        && plains[0] == 0
+        && plains.iter().all(|&plain| plain <= header.phones && (plain == 0 || plains[plain as usize - 1] == 0))
+}
+
+/// Every phone has all its roots, but a boundary phone may have none.
+fn roots_known(header: Header, roots: &[u32], plains: &[u32]) -> bool {
+    let phone_known = |(own, &plain): (&[u32], &u32)| {
+        own.iter().all(|&root| root < header.nodes) || plain != 0 && own.iter().all(|&root| root == NO_ROOT)
+    };
+    used_and_zeros(roots, (header.phones * header.states) as usize)
+        && roots.chunks(header.states as usize).zip(&plains[..header.phones as usize]).all(phone_known)
 }
 
 /// The part of this test that the leaf lookup makes: header, node records and classes, but not how nodes are named.
@@ -50,7 +66,7 @@ fn each_named_once(header: Header, nodes: &[u32], roots: &[u32]) -> bool {
         named[node[3] as usize] += 1;
         named[node[4] as usize] += 1;
     }
-    for &root in &roots[..(header.phones * header.states) as usize] {
+    for &root in roots[..(header.phones * header.states) as usize].iter().filter(|&&root| root != NO_ROOT) {
         named[root as usize] += 1;
     }
     named.iter().all(|&times| times == 1)

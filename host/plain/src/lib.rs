@@ -4,11 +4,13 @@
 
 pub mod books;
 mod book_reader;
+mod book_so_far;
 mod buffers;
 mod building;
 mod combinations;
 pub mod fast;
 mod foreign;
+mod in_force;
 mod leaving;
 pub mod limits;
 mod lines;

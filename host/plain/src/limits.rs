@@ -1,4 +1,4 @@
-//! Document 01's ranges and ceilings, and how many words a record takes.
+//! The documents' ranges and ceilings, and how many words a record takes.
 
 pub const MOST_HALF: u32 = 3;
 pub const MOST_STATES: u32 = 3;
@@ -15,6 +15,9 @@ pub const COMBINATION: usize = 11;
 pub const METASTATE: usize = 8;
 pub const ARC: usize = 4;
 pub const LINE: usize = 32;
+
+/// In the root table: no R line gives this root.
+pub const NO_ROOT: u32 = 4096;
 
 /// The kinds of node in a node's first word.
 pub const QUESTION: u32 = 1;

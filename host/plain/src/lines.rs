@@ -8,7 +8,7 @@ const FIELD: usize = 6;
 /// A kind of text: its letters, and how many fields each uses.
 pub type Forms = [(u8, usize)];
 
-pub const BOOK_FORMS: &Forms = &[(b'H', 5), (b'Q', 2), (b'N', 5), (b'L', 2), (b'R', 3)];
+pub const BOOK_FORMS: &Forms = &[(b'H', 5), (b'Q', 2), (b'N', 5), (b'L', 2), (b'B', 2), (b'R', 3)];
 pub const NETWORK_FORMS: &Forms = &[(b'W', 3), (b'A', 4)];
 
 /// The lines of a text, or 11 over the whole of it.

@@ -1,12 +1,12 @@
-//! The plain form of a book (document 02, P1): the same text for all books with the same trees.
+//! The plain form of a book (document 02, P1): the same text for all books with the same trees and plain phones.
 //!
 //! The trees are taken out of the tables as values, in which neither nodes nor classes have numbers. Then they are
-//! written down and numbered anew.
+//! written down and numbered anew. B lines stay as they are, and R lines that are left out stay so.
 
 use crate::books::text::line;
 use crate::buffers::{clear, fill};
 use crate::foreign::tables_known;
-use crate::limits::{LEAF, NODE};
+use crate::limits::{LEAF, NODE, NO_ROOT};
 use crate::refusal::*;
 use fulgwerz::{CountAnswer, Header, Tables};
 use std::collections::BTreeSet;
@@ -39,11 +39,10 @@ pub fn write_book(header: Header, tables: Tables, text: &mut [u8]) -> CountAnswe
 
 fn plain_form(header: Header, tables: Tables) -> String {
     let Header { half, states, phones, .. } = header;
-    let roots = &tables.roots[..(phones * states) as usize];
-    let trees: Vec<Tree> = roots.iter().map(|&root| tree_at(header, tables, root)).collect();
+    let trees = trees_of(header, tables);
     let mut classes = Vec::new();
-    trees.iter().for_each(|tree| tree.collect_classes(&mut classes));
-    let nodes = trees.iter().map(Tree::size).sum();
+    trees.iter().for_each(|(_, tree)| tree.collect_classes(&mut classes));
+    let nodes = trees.iter().map(|(_, tree)| tree.size()).sum();
 
     let mut text = String::new();
     line(&mut text, 'H', &[half, states, phones, classes.len() as u32, nodes]);
@@ -52,12 +51,23 @@ fn plain_form(header: Header, tables: Tables) -> String {
     }
     let mut next = 0;
     let mut root_lines = String::new();
-    for (place, tree) in (0..).zip(&trees) {
+    for ((phone, state), tree) in &trees {
         tree.write(&mut text, &classes, next);
-        line(&mut root_lines, 'R', &[place / states + 1, place % states + 1, next]);
+        line(&mut root_lines, 'R', &[*phone, *state, next]);
         next += tree.size();
     }
+    for (phone, &plain) in (1..=phones).zip(tables.plains).filter(|(_, &plain)| plain != 0) {
+        line(&mut text, 'B', &[phone, plain]);
+    }
     text + &root_lines
+}
+
+/// The trees of the R lines, each with its phone and state, in their order; also those that are not in force.
+fn trees_of(header: Header, tables: Tables) -> Vec<((u32, u32), Tree)> {
+    let Header { states, phones, .. } = header;
+    let places = (1..=phones).flat_map(|phone| (1..=states).map(move |state| (phone, state)));
+    let given = places.zip(tables.roots).filter(|(_, &root)| root != NO_ROOT);
+    given.map(|(place, &root)| (place, tree_at(header, tables, root))).collect()
 }
 
 fn tree_at(header: Header, tables: Tables, node: u32) -> Tree {

@@ -1,4 +1,4 @@
-//! Refusals: a fault by its number in document 01, and a line, 0 where no line is meant.
+//! Refusals: a fault by its number in the documents, and a line, 0 where no line is meant.
 
 #[derive(Clone, Copy, Debug, PartialEq, Eq)]
 pub struct Refusal {
@@ -15,6 +15,7 @@ pub const ORPHAN: u32 = 16;
 pub const COUNT: u32 = 17;
 pub const FOREIGN: u32 = 18;
 pub const NARROW: u32 = 20;
+pub const CHAINED: u32 = 21;
 pub const CHOICES: u32 = 30;
 pub const CROWD: u32 = 31;
 pub const TANGLE: u32 = 32;

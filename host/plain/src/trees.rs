@@ -2,6 +2,7 @@
 
 use crate::buffers::{clear, fill};
 use crate::foreign::{records_known, tables_known};
+use crate::in_force::roots_in_force;
 use crate::limits::{LEAF, NODE};
 use crate::refusal::*;
 use fulgwerz::{CountAnswer, Header, LeafAnswer, Node, Tables};
@@ -65,12 +66,11 @@ pub fn transcribe(header: Header, tables: Tables, phones: &[u32], models: &mut [
 }
 
 fn models_of(header: Header, tables: Tables, phones: &[u32]) -> Vec<u32> {
-    let Tables { nodes, classes, roots } = tables;
+    let Tables { nodes, classes, .. } = tables;
     let mut models = Vec::new();
     for (place, &phone) in phones.iter().enumerate() {
         let context = context_of(header.half as usize, phones, place);
-        for state in 0..header.states {
-            let root = roots[((phone - 1) * header.states + state) as usize];
+        for &root in roots_in_force(header, tables, phone) {
             let leaf = reached(nodes, classes, root, &context);
             models.push(nodes[NODE * leaf as usize + 1]);
         }

@@ -1,6 +1,9 @@
 //! Document 01's whole example, by the plain entries.
 
-use fulgwerz::{BuildAnswer, Counts, Space, Tables, TablesMut};
+mod reading;
+
+use fulgwerz::{BuildAnswer, Counts, Space, TablesMut};
+use reading::Read;
 
 const BOOK: &str = "\
 H     1     1     2     1     4
@@ -29,11 +32,11 @@ A     5     5    21     2
 ";
 
 fn built(combinations: usize, metastates: usize, arcs: usize, turns: u32) -> (BuildAnswer, Vec<u32>) {
-    let (mut nodes, mut classes, mut roots) = ([7; 20], [7; 1], [7; 2]);
+    let (mut nodes, mut classes, mut roots, mut plains) = ([7; 20], [7; 1], [7; 2], [7; 2]);
     let mut arc_words = vec![7; 4 * arcs];
     let answer = plain::build_book(
         BOOK.as_bytes(),
-        TablesMut { nodes: &mut nodes, classes: &mut classes, roots: &mut roots },
+        TablesMut { nodes: &mut nodes, classes: &mut classes, roots: &mut roots, plains: &mut plains },
         Space {
             combinations: &mut vec![7; 11 * combinations],
             metastates: &mut vec![7; 8 * metastates],
@@ -69,13 +72,10 @@ fn space_and_turns_are_the_document_s() {
 
 #[test]
 fn models_are_the_document_s() {
-    let (mut nodes, mut classes, mut roots) = ([7; 20], [7; 1], [7; 2]);
-    let tables = TablesMut { nodes: &mut nodes, classes: &mut classes, roots: &mut roots };
-    let header = plain::read(BOOK.as_bytes(), tables).header;
-    let tables = Tables { nodes: &nodes, classes: &classes, roots: &roots };
+    let book = Read::new(BOOK.as_bytes());
     let given = |phones: &[u32]| {
         let mut models = [7; 4];
-        let answer = plain::transcribe(header, tables, phones, &mut models);
+        let answer = plain::transcribe(book.header, book.tables(), phones, &mut models);
         (answer.fault, models[..answer.count].to_vec())
     };
     assert_eq!(given(&[1]), (0, vec![10]));

@@ -1,53 +1,28 @@
 //! The plain form of books, worked out by hand from document 02, and what it is for books at random.
 
-use fulgwerz::{CountAnswer, Header, Tables, TablesMut};
+mod reading;
+
+use fulgwerz::CountAnswer;
 use plain::books::changes::changed;
 use plain::books::random_books::random_book;
 use plain::books::respelling::respelled;
+use plain::books::text::lines as text;
 use plain::books::Book;
 use plain::random::Random;
+use reading::Read;
 
-/// Text from its lines, written with single blanks and a stroke between them.
-fn text(lines: &str) -> Vec<u8> {
-    let line = |line: &str| {
-        let (letter, numbers) = line.split_once(' ').unwrap();
-        let fields: String = numbers.split(' ').map(|number| format!("{number:>6}")).collect();
-        format!("{:31}\n", format!("{letter}{fields}"))
-    };
-    lines.split(" / ").map(line).collect::<String>().into_bytes()
-}
-
-/// A book as reading left it, in tables that are longer than it needs.
-struct Read {
-    header: Header,
-    nodes: Vec<u32>,
-    classes: Vec<u64>,
-    roots: Vec<u32>,
-}
-
-impl Read {
-    fn new(text: &[u8]) -> Read {
-        let (mut nodes, mut classes, mut roots) = (vec![7; 5 * 4096], vec![7; 255], vec![7; 192]);
-        let tables = TablesMut { nodes: &mut nodes, classes: &mut classes, roots: &mut roots };
-        let answer = plain::read(text, tables);
-        assert_eq!((answer.fault, answer.line), (0, 0));
-        Read { header: answer.header, nodes, classes, roots }
-    }
-
-    fn written(&self, room: usize) -> (CountAnswer, Vec<u8>) {
-        let mut text = vec![7; room];
-        let tables = Tables { nodes: &self.nodes, classes: &self.classes, roots: &self.roots };
-        let answer = plain::write_book(self.header, tables, &mut text);
-        let mut fast_text = vec![7; room];
-        assert_eq!(plain::fast::write_book(self.header, tables, &mut fast_text), answer);
-        assert!(fast_text == text);
-        (answer, text)
-    }
+fn written(read: &Read, room: usize) -> (CountAnswer, Vec<u8>) {
+    let mut text = vec![7; room];
+    let answer = plain::write_book(read.header, read.tables(), &mut text);
+    let mut fast_text = vec![7; room];
+    assert_eq!(plain::fast::write_book(read.header, read.tables(), &mut fast_text), answer);
+    assert!(fast_text == text);
+    (answer, text)
 }
 
 /// The plain form of a book, in as much room as the book takes.
 fn plain_form(book: &[u8]) -> Vec<u8> {
-    let (answer, mut text) = Read::new(book).written(book.len());
+    let (answer, mut text) = written(&Read::new(book), book.len());
     assert_eq!((answer.fault, answer.line), (0, 0));
     assert!(text[answer.count..].iter().all(|&byte| byte == 0));
     text.truncate(answer.count);
@@ -120,6 +95,28 @@ fn trees_stand_by_phone_and_then_by_state() {
     );
 }
 
+/// A question stands on the yes side of another; class 1 is not used.
+#[test]
+fn b_lines_stay_and_r_lines_that_are_left_out_stay_out() {
+    is_written_as(
+        "H 0 1 3 3 6 / Q 1 1 / Q 2 2 / Q 3 2 / Q 3 3 / N 0 3 0 2 1 / L 1 22 / N 2 2 0 4 3 / L 3 21 / L 4 20 / L 5 10 / \
+         B 3 2 / R 1 1 5 / R 2 1 0",
+        "H 0 1 3 2 6 / Q 1 2 / Q 1 3 / Q 2 2 / L 0 10 / N 1 1 0 2 5 / N 2 2 0 3 4 / L 3 20 / L 4 21 / L 5 22 / B 3 2 / \
+         R 1 1 0 / R 2 1 1",
+    );
+}
+
+/// Phone 3 has an R line, which is not used; phone 4 has none.
+#[test]
+fn trees_that_are_not_used_are_written_too() {
+    is_written_as(
+        "H 0 1 4 2 7 / Q 1 3 / Q 2 2 / N 0 1 0 6 5 / N 1 2 0 4 3 / L 2 10 / L 3 21 / L 4 20 / L 5 32 / L 6 31 / \
+         B 3 2 / B 4 1 / R 1 1 2 / R 2 1 1 / R 3 1 0",
+        "H 0 1 4 2 7 / Q 1 2 / Q 2 3 / L 0 10 / N 1 1 0 2 3 / L 2 20 / L 3 21 / N 4 2 0 5 6 / L 5 31 / L 6 32 / \
+         B 3 2 / B 4 1 / R 1 1 0 / R 2 1 1 / R 3 1 4",
+    );
+}
+
 fn refused(fault: u32) -> CountAnswer {
     CountAnswer { fault, line: 0, count: 0 }
 }
@@ -128,12 +125,12 @@ fn refused(fault: u32) -> CountAnswer {
 fn short_is_a_byte_too_few() {
     let (read, plain) = (Read::new(&text(SPELLED)), text(PLAIN));
     for room in 0..plain.len() {
-        assert_eq!(read.written(room), (refused(33), vec![0; room]));
+        assert_eq!(written(&read, room), (refused(33), vec![0; room]));
     }
     for beyond in [0, 1, 31, 32, 33] {
-        let (answer, written) = read.written(plain.len() + beyond);
+        let (answer, bytes) = written(&read, plain.len() + beyond);
         assert_eq!(answer, CountAnswer { fault: 0, line: 0, count: plain.len() });
-        assert_eq!(written, [&plain[..], &vec![0; beyond]].concat());
+        assert_eq!(bytes, [&plain[..], &vec![0; beyond]].concat());
     }
 }
 
@@ -142,11 +139,11 @@ fn foreign_comes_before_short() {
     let mut read = Read::new(&text(SPELLED));
     read.classes[4] = 1;
     for room in [0, 319, 320, 400] {
-        assert_eq!(read.written(room), (refused(18), vec![0; room]));
+        assert_eq!(written(&read, room), (refused(18), vec![0; room]));
     }
     let mut read = Read::new(&text(SPELLED));
     read.header.nodes = 7;
-    assert_eq!(read.written(10), (refused(18), vec![0; 10]));
+    assert_eq!(written(&read, 10), (refused(18), vec![0; 10]));
 }
 
 fn form(book: &Book) -> Vec<u8> {

@@ -1,6 +1,7 @@
 //! Networks as they are lent: the arcs that leave a state, and the text of a network.
 
-use super::tables::{change_length, near, OwnTables};
+use super::foreign_tables::{change_length, near};
+use super::tables::OwnTables;
 use super::Case;
 use crate::lending::Lent;
 use crate::lengths::around;

@@ -5,8 +5,9 @@ use super::tables::OwnTables;
 use super::Case;
 use crate::lending::Lent;
 use crate::lengths::around;
+use crate::lent_tables::LentTables;
 use crate::outcome::{Outcome, Side};
-use fulgwerz::{Counts, Space, TablesMut};
+use fulgwerz::{Counts, Space};
 use plain::limits::*;
 use plain::random::Random;
 
@@ -114,11 +115,9 @@ impl Case for Building {
         let mut arcs = Lent::garbage(self.room.arcs);
         let space =
             Space { combinations: combinations.part(), metastates: metastates.part(), arcs: arcs.part() };
-        let answer = build(self.tables.header, lent.tables(), space, self.turn_limit);
+        let answer = build(self.tables.header, lent.for_reading(), space, self.turn_limit);
         Outcome::new(answer.fault, answer)
-            .with("nodes", lent.nodes)
-            .with("classes", lent.classes)
-            .with("roots", lent.roots)
+            .with_tables(lent)
             .with("combinations", combinations)
             .with("metastates", metastates)
             .with("arcs", arcs)
@@ -137,20 +136,16 @@ impl Case for BuildingBook {
     fn call(&self, side: Side) -> Outcome {
         let build_book = if side == Side::Library { fulgwerz::build_book } else { plain::build_book };
         let mut text = Lent::holding(&self.book.text);
-        let [nodes, classes, roots] = self.book.lent;
-        let (mut nodes, mut classes, mut roots) = (Lent::garbage(nodes), Lent::garbage(classes), Lent::garbage(roots));
+        let mut lent = LentTables::garbage(self.book.lent);
         let mut combinations = Lent::garbage(self.room.combinations);
         let mut metastates = Lent::garbage(self.room.metastates);
         let mut arcs = Lent::garbage(self.room.arcs);
-        let tables = TablesMut { nodes: nodes.part(), classes: classes.part(), roots: roots.part() };
         let space =
             Space { combinations: combinations.part(), metastates: metastates.part(), arcs: arcs.part() };
-        let answer = build_book(text.part(), tables, space, self.turn_limit);
+        let answer = build_book(text.part(), lent.for_filling(), space, self.turn_limit);
         Outcome::new(answer.fault, answer)
             .with("text", text)
-            .with("nodes", nodes)
-            .with("classes", classes)
-            .with("roots", roots)
+            .with_tables(lent)
             .with("combinations", combinations)
             .with("metastates", metastates)
             .with("arcs", arcs)

@@ -33,7 +33,8 @@ pub fn cases() -> Vec<Box<dyn Case>> {
 
 fn combinations(cases: &mut Vec<Box<dyn Case>>) {
     let exact = combinations_65535();
-    for (book, records) in [(&exact, 65535), (&exact, 65534), (&combinations_65536(), 65540)] {
+    let (more, shared) = (combinations_65536(), combinations_65536_shared());
+    for (book, records) in [(&exact, 65535), (&exact, 65534), (&more, 65540), (&shared, 65540)] {
         let words = COMBINATION * records;
         cases.push(Box::new(Combining { tables: OwnTables::of(book, 0), words }));
     }
@@ -58,7 +59,7 @@ fn metastates(cases: &mut Vec<Box<dyn Case>>) {
     cases.push(building(&exact, 65534, 986_401, u32::MAX));
     cases.push(building(&metastates_65536(), 65540, 1_000_010, u32::MAX));
     let text = exact.text();
-    let lent = [NODE * exact.nodes.len(), exact.classes.len(), exact.roots.len()];
+    let lent = exact.table_lengths();
     let room = Room { combinations: COMBINATION * 24, metastates: METASTATE * 65535, arcs: ARC * 986_401 };
     cases.push(Box::new(BuildingBook { book: BookText { text, lent }, room, turn_limit: 65535 }));
 }
@@ -73,18 +74,17 @@ fn arcs(cases: &mut Vec<Box<dyn Case>>) {
 
 /// The longest tables and the deepest trees.
 fn largest(cases: &mut Vec<Box<dyn Case>>) {
-    for book in [largest_tables(), deepest_tree()] {
-        let lent = [NODE * book.nodes.len(), book.classes.len(), book.roots.len()];
-        cases.push(Box::new(Read(BookText { text: book.text(), lent })));
+    for book in [largest_tables(), deepest_tree(), longest_text(), deep_tree_shared()] {
+        cases.push(Box::new(Read(BookText { text: book.text(), lent: book.table_lengths() })));
         let tables = OwnTables::of(&book, 0);
-        let root = *book.roots.last().expect("a root");
+        let root = *book.roots.iter().rfind(|&&root| root != NO_ROOT).expect("a root");
         let context = vec![1; 2 * book.half as usize + 1];
         cases.push(Box::new(Lookup { tables: tables.clone(), root, context, in_list: false }));
         let phones = vec![1, book.phones, book.phones, 1];
         let models = 4 * book.states as usize;
         cases.push(Box::new(Transcription { tables: tables.clone(), phones, models }));
         cases.push(Box::new(Combining { tables, words: COMBINATION * 64 }));
-        cases.push(building(&book, 65540, 1_000_010, 100));
+        cases.push(building_with(&book, 10_000, 65540, 1_000_010, 100));
     }
 }
 
@@ -121,10 +121,11 @@ fn working_space(cases: &mut Vec<Box<dyn Case>>) {
     }
 }
 
-/// The longest plain form, the largest tables, which have but one set of phones, and the deepest trees.
+/// The longest plain forms, the largest tables, which have but one set of phones, and the deepest trees.
 fn plain_forms(cases: &mut Vec<Box<dyn Case>>) {
     let mut random = Random::new(1);
-    for book in [most_classes(), largest_tables(), deepest_tree(), deepest_tree_of_no()] {
+    let deepest = [deepest_tree(), deepest_tree_of_no(), deep_tree_shared()];
+    for book in [most_classes(), largest_tables(), longest_text()].into_iter().chain(deepest) {
         let spelled = respelled(&book, &mut random);
         let tables = OwnTables::of(&spelled, 0);
         let need = tables.plain_form().len();

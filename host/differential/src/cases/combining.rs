@@ -41,12 +41,8 @@ impl Case for Combining {
         };
         let mut lent = self.tables.lend();
         let mut space = Lent::garbage(self.words);
-        let answer = combine(self.tables.header, lent.tables(), space.part());
-        Outcome::new(answer.fault, answer)
-            .with("nodes", lent.nodes)
-            .with("classes", lent.classes)
-            .with("roots", lent.roots)
-            .with("combinations", space)
+        let answer = combine(self.tables.header, lent.for_reading(), space.part());
+        Outcome::new(answer.fault, answer).with_tables(lent).with("combinations", space)
     }
 
     fn input(&self) -> String {

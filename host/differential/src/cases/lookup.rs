@@ -1,6 +1,7 @@
 //! The leaf that a context reaches, over the table of node words and over a list of node structs.
 
-use super::tables::{near, OwnTables};
+use super::foreign_tables::near;
+use super::tables::OwnTables;
 use super::Case;
 use crate::outcome::{Outcome, Side};
 use crate::lending::Lent;

@@ -1,14 +1,16 @@
-//! Cases: for each entry, random input and lent lengths.
+//! Cases: for each entry, random input and lent lengths; and fixed ones.
 
 mod arcs;
 mod building;
-pub mod ceilings;
+mod ceilings;
 mod combining;
+mod foreign_tables;
 mod lookup;
 mod networks;
 mod plain_forms;
 mod reading;
 mod round_trips;
+mod small_books;
 mod spellings;
 mod tables;
 mod transcription;
@@ -62,4 +64,9 @@ pub fn case(seed: u64, number: u64) -> Box<dyn Case> {
         place -= share;
     }
     unreachable!("the shares are a hundred")
+}
+
+/// Cases that do not depend on a seed.
+pub fn fixed() -> Vec<Box<dyn Case>> {
+    ceilings::cases().into_iter().chain(small_books::cases()).collect()
 }

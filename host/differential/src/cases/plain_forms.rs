@@ -5,8 +5,9 @@ use super::tables::OwnTables;
 use super::transcription::sequence;
 use super::Case;
 use crate::lending::Lent;
+use crate::lent_tables::LentTables;
 use crate::outcome::{Outcome, Side};
-use fulgwerz::{CountAnswer, ReadAnswer, Tables, TablesMut};
+use fulgwerz::{CountAnswer, ReadAnswer};
 use plain::books::random_books::random_book;
 use plain::books::Book;
 use plain::limits::MOST_STATES;
@@ -35,9 +36,7 @@ impl PlainForm {
 /// What is lent for the whole way.
 struct Space {
     text: Lent<u8>,
-    nodes: Lent<u32>,
-    classes: Lent<u64>,
-    roots: Lent<u32>,
+    tables: LentTables,
     text_again: Lent<u8>,
     models: Lent<u32>,
     models_again: Lent<u32>,
@@ -50,9 +49,7 @@ impl PlainForm {
         let models = self.phones.len() * MOST_STATES as usize;
         Space {
             text: Lent::garbage(self.own_text),
-            nodes: Lent::garbage(self.tables.nodes.len()),
-            classes: Lent::garbage(self.tables.classes.len()),
-            roots: Lent::garbage(self.tables.roots.len()),
+            tables: LentTables::garbage(self.tables.lengths()),
             text_again: Lent::garbage(self.own_text),
             models: Lent::garbage(models),
             models_again: Lent::garbage(models),
@@ -63,9 +60,8 @@ impl PlainForm {
         let OwnTables { header, .. } = self.tables;
         let written = fulgwerz::write_book(header, self.tables.tables(), space.text.part());
         let text = &space.text.part()[..written.count];
-        let (nodes, classes, roots) = (space.nodes.part(), space.classes.part(), space.roots.part());
-        let read = fulgwerz::read(text, TablesMut { nodes: &mut *nodes, classes: &mut *classes, roots: &mut *roots });
-        let tables = Tables { nodes, classes, roots };
+        let read = fulgwerz::read(text, space.tables.for_filling());
+        let tables = space.tables.for_reading();
         let again = fulgwerz::write_book(read.header, tables, space.text_again.part());
         let given = fulgwerz::transcribe(header, self.tables.tables(), &self.phones, space.models.part());
         let given_again = fulgwerz::transcribe(read.header, tables, &self.phones, space.models_again.part());
@@ -77,8 +73,7 @@ impl PlainForm {
         let written = plain::write_book(header, self.tables.tables(), space.text.part());
         let text = space.text.part();
         space.text_again.part().copy_from_slice(text);
-        let (nodes, classes, roots) = (space.nodes.part(), space.classes.part(), space.roots.part());
-        let read = plain::read(&text[..written.count], TablesMut { nodes, classes, roots });
+        let read = plain::read(&text[..written.count], space.tables.for_filling());
         let given = plain::transcribe(header, self.tables.tables(), &self.phones, space.models.part());
         space.models_again.part().copy_from_slice(space.models.part());
         (written, read, written, given, given)
@@ -98,9 +93,7 @@ impl Case for PlainForm {
         };
         Outcome::new(answers.1.fault, answers)
             .with("text", space.text)
-            .with("nodes", space.nodes)
-            .with("classes", space.classes)
-            .with("roots", space.roots)
+            .with_tables(space.tables)
             .with("text written again", space.text_again)
             .with("models", space.models)
             .with("models by the plain form", space.models_again)

@@ -50,13 +50,8 @@ impl Case for Transcription {
         let mut lent = self.tables.lend();
         let mut phones = Lent::holding(&self.phones);
         let mut models = Lent::garbage(self.models);
-        let answer = transcribe(self.tables.header, lent.tables(), phones.part(), models.part());
-        Outcome::new(answer.fault, answer)
-            .with("nodes", lent.nodes)
-            .with("classes", lent.classes)
-            .with("roots", lent.roots)
-            .with("phones", phones)
-            .with("models", models)
+        let answer = transcribe(self.tables.header, lent.for_reading(), phones.part(), models.part());
+        Outcome::new(answer.fault, answer).with_tables(lent).with("phones", phones).with("models", models)
     }
 
     fn input(&self) -> String {

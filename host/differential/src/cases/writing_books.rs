@@ -39,12 +39,8 @@ impl Case for WritingBook {
         };
         let mut lent = self.tables.lend();
         let mut text = Lent::garbage(self.text);
-        let answer = write_book(self.tables.header, lent.tables(), text.part());
-        Outcome::new(answer.fault, answer)
-            .with("nodes", lent.nodes)
-            .with("classes", lent.classes)
-            .with("roots", lent.roots)
-            .with("text", text)
+        let answer = write_book(self.tables.header, lent.for_reading(), text.part());
+        Outcome::new(answer.fault, answer).with_tables(lent).with("text", text)
     }
 
     fn input(&self) -> String {

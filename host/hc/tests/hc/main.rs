@@ -2,6 +2,7 @@
 
 mod answers;
 mod arcs;
+mod boundaries;
 mod build;
 mod ceilings;
 mod check;

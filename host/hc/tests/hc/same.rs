@@ -15,7 +15,7 @@ fn compare(test: &str, one: &[u8], other: &[u8]) -> Answer {
 
 /// Not the same, for this reason, and shown so in each of the books.
 #[track_caller]
-fn differ(test: &str, one: &str, other: &str, what: &str, shown: [&str; 2]) {
+pub fn differ(test: &str, one: &str, other: &str, what: &str, shown: [&str; 2]) {
     let [here, there] = shown;
     compare(test, &lines(one), &lines(other))
         .denies(&format!("one and other: not the same book\n  {what}\n  one{here}\n  other{there}\n"));
@@ -142,7 +142,7 @@ const THEIRS: &str =
     "H 1 1 2 1 6 / Q 1 1 / L 0 10 / N 1 1 0 3 2 / L 2 22 / N 3 1 2 5 4 / L 4 21 / L 5 20 / R 1 1 0 / R 2 1 1";
 
 /// Whether the guide shows this as a block of its own, without the blanks at the ends of lines.
-fn in_the_guide(text: &[u8]) -> bool {
+pub fn in_the_guide(text: &[u8]) -> bool {
     let shown: String = String::from_utf8_lossy(text).lines().map(|line| format!("{}\n", line.trim_end())).collect();
     GUIDE.contains(&format!("```\n{shown}```\n"))
 }

@@ -1,5 +1,6 @@
 //! Books that reach the ceilings exactly, or pass them by the least step.
 
+use super::boundaries::all_like_silence;
 use super::numbering::Ground;
 use super::recipes::resolving;
 use super::trees::{resolve, Tree};
@@ -8,6 +9,11 @@ use super::{all_phones, Book, Node};
 /// 16 phones with 16 x 16 x 16 combinations each.
 pub fn combinations_65536() -> Book {
     resolving(2, 3, 16, &[0, 1, 3])
+}
+
+/// As many, of silence's three trees alone: all other phones are boundary phones without R lines.
+pub fn combinations_65536_shared() -> Book {
+    all_like_silence(combinations_65536(), false)
 }
 
 /// One combination less: the last phone's third tree does not tell phones 15 and 16 apart where phone 1 stands at the
@@ -107,6 +113,19 @@ pub fn most_classes() -> Book {
     let without_two = (1..64).flat_map(|high| (0..high).map(move |low| !(1u64 << high | 1 << low)));
     let classes = [u64::MAX].into_iter().chain(without_one).chain(without_two).take(255).collect();
     Book { classes, ..largest_tables() }
+}
+
+/// The same with 63 boundary phones, which have R lines too: no book has more lines.
+pub fn longest_text() -> Book {
+    all_like_silence(most_classes(), true)
+}
+
+/// 64 phones with one tree in all, of 2016 questions, one below the other.
+pub fn deep_tree_shared() -> Book {
+    let mut trees = vec![Tree::Leaf; 64];
+    trees[0] = chain(2016, |depth| (depth % 64 + 1, depth % 3));
+    let classes = (0..64).map(|phone| !(1u64 << phone)).collect();
+    all_like_silence(Ground { half: 1, states: 1, phones: 64, classes }.plant(&trees), false)
 }
 
 /// One phone, one tree of 2047 questions, one below the other.

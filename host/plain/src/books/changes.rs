@@ -1,13 +1,14 @@
 //! Books that differ from another one in a single thing, so that they are not the same book in any spelling.
 
+use super::boundary_changes::*;
 use super::{Book, Node};
-use crate::limits::{MOST_HALF, MOST_MODEL, MOST_NODES, MOST_PHONES};
+use crate::limits::{MOST_HALF, MOST_MODEL, MOST_NODES, MOST_PHONES, NO_ROOT};
 use crate::random::Random;
 
 type Change = fn(&mut Book, &mut Random) -> Option<()>;
 
 /// A change gives nothing where the book has no place for it; another model is always possible.
-const CHANGES: [Change; 10] = [
+const CHANGES: [Change; 15] = [
     other_model,
     other_position,
     other_members,
@@ -18,6 +19,11 @@ const CHANGES: [Change; 10] = [
     states_for_phones,
     one_phone_more,
     other_roots,
+    other_plain,
+    one_boundary_more,
+    one_boundary_less,
+    own_trees_left_out,
+    own_trees_added,
 ];
 
 pub fn changed(book: &Book, random: &mut Random) -> Book {
@@ -111,9 +117,11 @@ fn other_half(book: &mut Book, random: &mut Random) -> Option<()> {
 
 /// The same trees in a row, but for as many phones as there were states, and the other way round.
 fn states_for_phones(book: &mut Book, _: &mut Random) -> Option<()> {
+    let has_boundaries = (1..=book.phones).any(|phone| book.is_boundary(phone));
     (book.states, book.phones) = (book.phones, book.states);
+    book.plains.resize(book.phones as usize, 0);
     // With fewer phones than before, classes could have phones beyond the last.
-    (book.states < book.phones).then_some(())
+    (book.states < book.phones && !has_boundaries).then_some(())
 }
 
 fn one_phone_more(book: &mut Book, _: &mut Random) -> Option<()> {
@@ -122,6 +130,7 @@ fn one_phone_more(book: &mut Book, _: &mut Random) -> Option<()> {
         return None;
     }
     book.phones += 1;
+    book.plains.push(0);
     book.roots.extend((0..book.states).map(|state| first_new + state));
     book.nodes.extend((0..book.states).map(|_| Node::Leaf { model: 1 }));
     Some(())
@@ -129,7 +138,8 @@ fn one_phone_more(book: &mut Book, _: &mut Random) -> Option<()> {
 
 /// Two trees that differ, exchanged.
 fn other_roots(book: &mut Book, random: &mut Random) -> Option<()> {
-    let (one, other) = (random.below(book.roots.len()), random.below(book.roots.len()));
+    let given: Vec<usize> = (0..book.roots.len()).filter(|&place| book.roots[place] != NO_ROOT).collect();
+    let (one, other) = (*random.pick(&given), *random.pick(&given));
     let differ = !same_trees(book, book.roots[one], book.roots[other]);
     book.roots.swap(one, other);
     differ.then_some(())

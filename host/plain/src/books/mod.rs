@@ -1,5 +1,8 @@
 //! Tree books to be written as text: what a book holds, and the generators of books.
 
+pub mod boundaries;
+mod boundary_changes;
+pub mod broken_boundaries;
 pub mod ceilings;
 pub mod changes;
 pub mod numbering;
@@ -9,6 +12,8 @@ pub mod respelling;
 pub mod text;
 pub mod trees;
 
+use crate::limits::NODE;
+
 /// A node of a tree book; children are node numbers.
 #[derive(Clone, Copy, Debug)]
 pub enum Node {
@@ -16,7 +21,8 @@ pub enum Node {
     Leaf { model: u32 },
 }
 
-/// A tree book. Classes are sets of phones, phone p being the bit worth 2^(p-1); roots stand by phone, then state.
+/// A tree book. Classes are sets of phones, phone p being the bit worth 2^(p-1); roots stand by phone, then state, and
+/// are 4096 where there is no R line. For each phone there is its plain phone, or 0.
 #[derive(Clone, Debug)]
 pub struct Book {
     pub half: u32,
@@ -25,9 +31,15 @@ pub struct Book {
     pub classes: Vec<u64>,
     pub nodes: Vec<Node>,
     pub roots: Vec<u32>,
+    pub plains: Vec<u32>,
 }
 
 impl Book {
+    /// How many words of nodes, classes, roots and plain phones reading it leaves.
+    pub fn table_lengths(&self) -> [usize; 4] {
+        [NODE * self.nodes.len(), self.classes.len(), self.roots.len(), self.plains.len()]
+    }
+
     /// The members of the class with this number, counted from 1.
     pub fn members(&self, class: u32) -> u64 {
         self.classes[class as usize - 1]

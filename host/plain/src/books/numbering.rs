@@ -45,7 +45,8 @@ impl Ground {
     /// Takes the waiting tree that `choose` names until none waits.
     fn number(self, trees: &[Tree], mut choose: impl FnMut(usize) -> usize, mut model: impl FnMut() -> u32) -> Book {
         let Ground { half, states, phones, classes } = self;
-        let mut book = Book { half, states, phones, classes, nodes: Vec::new(), roots: vec![0; trees.len()] };
+        let (roots, plains) = (vec![0; trees.len()], vec![0; phones as usize]);
+        let mut book = Book { half, states, phones, classes, nodes: Vec::new(), roots, plains };
         let mut waiting: Vec<Waiting> = trees
             .iter()
             .enumerate()

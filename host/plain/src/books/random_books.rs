@@ -1,5 +1,6 @@
-//! Random valid books of all widths and shapes, most of them small.
+//! Random valid books of all widths and shapes, most of them small, many of them with boundary phones.
 
+use super::boundaries::with_boundaries;
 use super::numbering::Ground;
 use super::trees::{grow, Tree};
 use super::{all_phones, Book};
@@ -14,10 +15,13 @@ pub fn random_book(random: &mut Random) -> Book {
     let classes = how_many(random, &[(10, 0, 0), (60, 1, 6), (24, 7, 40), (5, 41, most - 1), (1, most, most)]);
     let ground = Ground { half, states, phones, classes: (0..classes).map(|_| class(random, phones)).collect() };
     let trees = trees(random, &ground);
-    if random.percent(50) {
-        ground.plant(&trees)
-    } else {
-        ground.plant_anyhow(&trees, random)
+    let book = match random.percent(50) {
+        true => ground.plant(&trees),
+        false => ground.plant_anyhow(&trees, random),
+    };
+    match random.percent(40) {
+        true => with_boundaries(book, random),
+        false => book,
     }
 }
 

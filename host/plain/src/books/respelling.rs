@@ -1,7 +1,7 @@
-//! Other spellings of a book: the same trees, with other numbers for their nodes and classes.
+//! Other spellings of a book: the same trees and plain phones, with other numbers for nodes and classes.
 
 use super::{all_phones, Book, Node};
-use crate::limits::MOST_CLASSES;
+use crate::limits::{MOST_CLASSES, NO_ROOT};
 use crate::random::Random;
 
 /// Nodes in any order in which children follow their nodes. Classes in any order, some of them several times, and some
@@ -23,14 +23,15 @@ pub fn respelled(book: &Book, random: &mut Random) -> Book {
         leaf => leaf,
     };
     let nodes = order.iter().map(&mut respell).collect();
-    let roots = book.roots.iter().map(|&root| numbers[root as usize]).collect();
-    Book { classes, nodes, roots, ..*book }
+    let number_of = |&root: &u32| numbers.get(root as usize).copied().unwrap_or(NO_ROOT);
+    let roots = book.roots.iter().map(number_of).collect();
+    Book { classes, nodes, roots, plains: book.plains.clone(), ..*book }
 }
 
 /// The nodes in their new order.
 fn any_order(book: &Book, random: &mut Random) -> Vec<u32> {
     let mut order = Vec::new();
-    let mut waiting = book.roots.clone();
+    let mut waiting: Vec<u32> = book.roots.iter().copied().filter(|&root| root != NO_ROOT).collect();
     while !waiting.is_empty() {
         let node = waiting.swap_remove(random.below(waiting.len()));
         order.push(node);

@@ -1,6 +1,7 @@
-//! A tree book as text: its lines in document 01's order.
+//! A tree book as text: its lines in the documents' order.
 
 use super::{Book, Node};
+use crate::limits::NO_ROOT;
 
 impl Book {
     pub fn text(&self) -> Vec<u8> {
@@ -9,8 +10,10 @@ impl Book {
         line(&mut text, 'H', &header);
         self.class_lines(&mut text);
         self.node_lines(&mut text);
-        for (place, &root) in self.roots.iter().enumerate() {
-            let place = place as u32;
+        for (phone, &plain) in (1..).zip(&self.plains).filter(|(_, &plain)| plain != 0) {
+            line(&mut text, 'B', &[phone, plain]);
+        }
+        for (place, &root) in (0..).zip(&self.roots).filter(|(_, &root)| root != NO_ROOT) {
             line(&mut text, 'R', &[place / self.states + 1, place % self.states + 1, root]);
         }
         text.into_bytes()
@@ -33,6 +36,16 @@ impl Book {
             }
         }
     }
+}
+
+/// A text from its lines, written with single blanks and a stroke between them.
+pub fn lines(text: &str) -> Vec<u8> {
+    let written = |row: &str| {
+        let (letter, fields) = row.split_at(1);
+        let fields: String = fields.split_whitespace().map(|field| format!("{field:>6}")).collect();
+        format!("{:31}\n", format!("{letter}{fields}"))
+    };
+    text.split(" / ").map(written).collect::<String>().into_bytes()
 }
 
 /// One line of 32 bytes: a letter, five fields of six bytes, a line feed.

@@ -2,6 +2,7 @@
 
 use super::leaves::{collect, root_matrix, Leaf};
 use super::Matrix;
+use crate::in_force::roots_in_force;
 use crate::limits::{COMBINATION, MOST_COMBINATIONS, NODE};
 use crate::refusal::{refuse, Refusal, CHOICES};
 use fulgwerz::{Header, Tables};
@@ -33,8 +34,8 @@ pub fn combine<const W: usize>(header: Header, tables: Tables, space: &mut [u64]
     let states = header.states as usize;
     for phone in 1..=header.phones {
         let root = root_matrix(header, phone);
-        for (state, leaves) in trees[..states].iter_mut().enumerate() {
-            collect(tables, tables.roots[(phone as usize - 1) * states + state], root, leaves);
+        for (leaves, &tree) in trees.iter_mut().zip(roots_in_force(header, tables, phone)) {
+            collect(tables, tree, root, leaves);
         }
         found.choose(phone, &trees[..states], 0, [0; 3], root)?;
         found.combinations.ends[phone as usize] = found.combinations.matrices.len();

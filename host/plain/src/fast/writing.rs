@@ -1,6 +1,6 @@
 //! The plain form of a book: one walk that numbers nodes and classes, then the lines, written in place.
 
-use crate::limits::{LEAF, LINE, NODE};
+use crate::limits::{LEAF, LINE, NODE, NO_ROOT};
 use crate::refusal::{refuse, Refusal, SHORT};
 use fulgwerz::{Header, Tables};
 
@@ -12,14 +12,16 @@ struct Numbered {
     /// The new number of a class, by its old one from 1; 0 where it was not met.
     class_numbers: [u32; 256],
     nodes: Vec<[u32; NODE]>,
-    roots: Vec<u32>,
+    /// With their places in the root table.
+    roots: Vec<(u32, u32)>,
 }
 
 /// Writes the text into the lent bytes; answers its length.
 pub fn write(header: Header, tables: Tables, text: &mut [u8]) -> Result<usize, Refusal> {
     let book = number(header, tables);
     let members: u32 = book.classes.iter().map(|class| class.count_ones()).sum();
-    let length = LINE * (1 + members as usize + book.nodes.len() + book.roots.len());
+    let boundaries = (1..=header.phones).zip(tables.plains).filter(|(_, &plain)| plain != 0);
+    let length = LINE * (1 + members as usize + book.nodes.len() + boundaries.clone().count() + book.roots.len());
     if length > text.len() {
         return refuse(SHORT);
     }
@@ -40,7 +42,10 @@ pub fn write(header: Header, tables: Tables, text: &mut [u8]) -> Result<usize, R
             _ => put(b'N', &[number, node[1], node[2], node[3], node[4]]),
         }
     }
-    for (place, &root) in (0..).zip(&book.roots) {
+    for (phone, &plain) in boundaries {
+        put(b'B', &[phone, plain]);
+    }
+    for &(place, root) in &book.roots {
         put(b'R', &[place / states + 1, place % states + 1, root]);
     }
     Ok(length)
@@ -56,8 +61,8 @@ fn number(header: Header, tables: Tables) -> Numbered {
         roots: Vec::with_capacity(roots.len()),
     };
     let mut waiting: Vec<(u32, usize)> = Vec::new();
-    for &root in roots {
-        book.roots.push(book.nodes.len() as u32);
+    for (place, &root) in (0..).zip(roots).filter(|(_, &root)| root != NO_ROOT) {
+        book.roots.push((place, book.nodes.len() as u32));
         let mut node = root;
         loop {
             let record = &tables.nodes[NODE * node as usize..][..NODE];

@@ -1,0 +1,50 @@
+//! The guide's book with a boundary phone: what the guide says about it is so.
+
+mod reading;
+
+use plain::books::text::lines;
+use reading::Read;
+
+const GUIDE: &str = include_str!("../../../docs/tree-books.md");
+
+/// As the guide shows it, beside the words that it puts to the right of the lines.
+const DIALECT: &str = "H 1 1 4 2 7 / Q 1 4 / Q 2 2 / Q 2 4 / L 0 10 / N 1 1 1 2 3 / L 2 21 / L 3 20 / N 4 2 2 5 6 / \
+    L 5 30 / L 6 31 / B 4 2 / R 1 1 0 / R 2 1 1 / R 3 1 4";
+
+/// The models of a row of phones, and the same as the guide writes them.
+fn models(book: &str, phones: &[u32]) -> String {
+    let read = Read::new(&lines(book));
+    let mut models = vec![0; phones.len()];
+    assert_eq!(plain::transcribe(read.header, read.tables(), phones, &mut models).fault, 0);
+    models.iter().map(u32::to_string).collect::<Vec<_>>().join(" ")
+}
+
+#[track_caller]
+fn gives(book: &str, phones: &[u32], given: &str) {
+    assert_eq!(models(book, phones), given);
+    assert!(GUIDE.contains(&format!("models {given}")), "{given}");
+}
+
+#[test]
+fn the_guide_shows_the_book() {
+    let block = GUIDE.split("```\n").find(|block| block.contains("B     4     2")).expect("the book");
+    let shown: String = block.lines().map(|line| format!("{:31}\n", line.get(..31).unwrap_or(line))).collect();
+    assert_eq!(shown.as_bytes(), lines(DIALECT));
+}
+
+#[test]
+fn its_models() {
+    gives(DIALECT, &[1, 3, 2, 3, 1], "10 30 20 31 10");
+    gives(DIALECT, &[1, 3, 4, 1], "10 30 21 10");
+    gives(&DIALECT.replace("Q 2 4 / ", ""), &[1, 3, 4, 1], "10 31 21 10");
+    let own = DIALECT.replace("2 7 /", "2 8 /").replace("L 6 31 /", "L 6 31 / L 7 40 /") + " / R 4 1 7";
+    gives(&own, &[1, 3, 4, 1], "10 30 21 10");
+}
+
+#[test]
+fn a_chain_is_refused() {
+    let fifth = DIALECT.replace("H 1 1 4", "H 1 1 5").replace("B 4 2 /", "B 4 2 / B 5 4 /");
+    let (answer, _) = Read::answered(&lines(&fifth));
+    assert_eq!((answer.fault, answer.line), (21, 13));
+    assert_eq!(models(&fifth.replace("B 5 4", "B 5 2"), &[1, 3, 5, 1]), "10 31 20 10");
+}
