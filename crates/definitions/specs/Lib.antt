@@ -30,6 +30,7 @@ pub mod Said
 pub mod Program
 pub mod BookText
 pub mod PlainForm
+pub mod Meeting
 pub mod laws
 pub mod examples
 pub mod construction

@@ -8,3 +8,4 @@ pub mod Meaning
 pub mod Applied
 pub mod Spellings
 pub mod Boundaries
+pub mod Meetings

@@ -58,6 +58,7 @@ use Rattle.definitions.specs.BookText.{linesOfBook, bookLineFor, textOfB
 use Rattle.definitions.specs.PlainForm.{treeBelow, treesOf, setsIn, firstUses, setsOf, sizeOf}
 use Rattle.definitions.specs.PlainForm.{nodesFrom, allNodes, rootsFrom, treesThere, numbered}
 use Rattle.definitions.specs.PlainForm.{plainContents, headerFor, plainLines, plainText, writePlain}
+use Rattle.definitions.specs.Meeting.{columnsMet, metWords}
 
 unfoldable pub everything : Unit {0}
 unfolding every atLeastOne firstWhere mapOption select lastPasses concatMap upFrom occurrences same records
@@ -87,5 +88,5 @@ unfolding every atLeastOne firstWhere mapOption select lastPasses concatMap upFr
     rootsFrom treesThere numbered plainContents headerFor plainLines plainText writePlain boundaryIn
     boundariesOf isBoundary plainFor plainGiven plainWords nextPlace rootFor rootGiven rootWords leftOut
     leftOutTo bookEnough plainsPlain isChained judgeBook rootsOfPhone phoneKnown rootsKnown plainKnown
-    plainsKnown plainTableKnown treePhone rootsInForce treesPhone
+    plainsKnown plainTableKnown treePhone rootsInForce treesPhone columnsMet metWords
 everything = tt

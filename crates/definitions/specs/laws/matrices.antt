@@ -3,3 +3,4 @@ pub mod PhoneSets
 pub mod Matrices
 pub mod SevenWords
 pub mod Sizes
+pub mod Meeting

@@ -109,7 +109,7 @@ pub words-length : (m : Matrix) → length m ≤ 7 → length (matrixWords m) �
 unfolding matrixWords
 words-length = padded-length 7
 
-words-column : (m : Matrix) (c : ℕ) → matrixWords m ! c ≡ m ! c
+pub words-column : (m : Matrix) (c : ℕ) → matrixWords m ! c ≡ m ! c
 unfolding matrixWords
 words-column = padded-column 7
 
