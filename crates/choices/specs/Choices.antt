@@ -1,8 +1,8 @@
 -- Choices of leaves, one from each of a phone's first trees, and the combinations that begin with one.
 use mathlib.Core.Path.{_≡_}
 use mathlib.Core.List.{List, [], _∷_}
-use mathlib.Core.Bool.{Bool}
-use Prim.Native.Nat.{ℕ, _+_, _≤_}
+use mathlib.Core.Bool.{Bool, true}
+use Prim.Native.Nat.{ℕ, _+_, _≤_, _<_}
 use lib.Dec.{T}
 use lib.ListN.{length, set, take, getD}
 use Rattle.definitions.specs.Lists.{padded}
@@ -54,14 +54,6 @@ chosenFrom width trees first second third choice =
 abbrev pub noLeaf : Leaf
 noLeaf = record { node = 0; carried = [] }
 
--- the choice with the leaf at a place of a list taken too
-abbrev pub WithLeaf : (width : ℕ) → Choice → (words : List ℕ) → (place : ℕ) → Choice → Type 0
-WithLeaf width choice words place next =
-    (next .phone ≡ choice .phone) × (next .taken ≡ choice .taken + 1)
-    × (next .leaves ≡ set (choice .leaves) (choice .taken) (getD (leavesIn width words) place noLeaf .node))
-    × (next .matrix .columns
-    ≡ meet (choice .matrix .columns) (matrixWords (getD (leavesIn width words) place noLeaf .carried)))
-
 -- whether the leaf at a place meets a matrix validly
 abbrev pub fitsAt : (m : Matrix) → List Leaf → (place : ℕ) → Bool
 fitsAt m leaves place = valid (meet m (getD leaves place noLeaf .carried))
@@ -69,3 +61,19 @@ fitsAt m leaves place = valid (meet m (getD leaves place noLeaf .carried))
 -- the first place, from one on, of a leaf that meets a matrix validly, or the number of leaves
 abbrev pub FirstFit : (m : Matrix) → List Leaf → (from place : ℕ) → Type 0
 FirstFit m leaves from place = FirstFrom (fitsAt m leaves) (length leaves) from place
+
+-- a leaf that can be taken too: it meets the choice's matrix validly, and a tree is left for it
+pub record Takeable (width : ℕ) (choice : Choice) (words : List ℕ) (place : ℕ) : Type 0 where
+  pub chosen : Chosen width choice
+  pub is : IsList width words
+  pub more : choice .taken < 3
+  pub inside : place < length (leavesIn width words)
+  pub fits : fitsAt (matrixMet width choice) (leavesIn width words) place ≡ true
+
+-- the choice with the leaf at a place of a list taken too
+abbrev pub WithLeaf : (width : ℕ) → Choice → (words : List ℕ) → (place : ℕ) → Choice → Type 0
+WithLeaf width choice words place next =
+    (next .phone ≡ choice .phone) × (next .taken ≡ choice .taken + 1)
+    × (next .leaves ≡ set (choice .leaves) (choice .taken) (getD (leavesIn width words) place noLeaf .node))
+    × (next .matrix .columns
+    ≡ matrixWords (meet (matrixMet width choice) (getD (leavesIn width words) place noLeaf .carried)))

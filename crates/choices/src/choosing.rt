@@ -8,9 +8,9 @@ use definitions::wide;
 use leafsets::LEAF_SIZE;
 use matrix::Matrix;
 use matrix::meeting::meet;
-use matrix::meeting::meets_at;
+use matrix::meeting::meets;
 use matrix::testing::valid;
-use matrix::words::matrix_at;
+use matrix::whole::whole_matrix;
 ghost use mathlib.Core.List.{[], _∷_, _++_};
 ghost use mathlib.Core.Path.{_≡_};
 ghost use Prim.Native.Nat.{_+_, _*_, _≤_, _<_};
@@ -20,7 +20,8 @@ ghost use Rattle.definitions.specs.Lists.{_!_};
 ghost use Rattle.definitions.specs.Matrices.{mostColumns};
 ghost use Rattle.matrix.specs.Shapes.{widthOf, HasWidth};
 ghost use Rattle.leafsets.specs.Leaves.{leafSize, leavesIn, IsList};
-ghost use Rattle.choices.specs.Choices.{Chosen, combinationOf, WithLeaf, FirstFit, Choosable, chosenFrom};
+ghost use Rattle.choices.specs.Choices.{Chosen, combinationOf, Takeable, WithLeaf, FirstFit, Choosable};
+ghost use Rattle.choices.specs.Choices.{chosenFrom};
 ghost use Rattle.choices.specs.Space.{Holding, Added};
 
 // How many combinations the lent words have room for.
@@ -89,7 +90,7 @@ fn leaf_matrix(leaves: &[u64], place: usize) -> Matrix
     requires { ⌜ leafSize * place + leafSize ≤ length (now leaves) ⌝ }
     ensures { λ r. ⌜ r .columns ≡ take mostColumns (drop (leafSize * place + 1) (now (leaves .entry))) ⌝ }
 {
-    matrix_at(leaves, LEAF_SIZE * place + 1)
+    whole_matrix(leaves, LEAF_SIZE * place + 1)
 }
 
 // The first place from one on whose leaf meets a matrix validly, or the number of leaves.
@@ -105,7 +106,7 @@ fn next_fit(leaves: &[u64], from: usize, m: Matrix, half: u32) -> usize
     let width = 2 * wide(half) + 1;
     let mut place = from;
     while place < leaves.len() / LEAF_SIZE {
-        if meets_at(leaves, LEAF_SIZE * place + 1, m, width) {
+        if meets(m, leaf_matrix(leaves, place), width) {
             return place;
         }
         place += 1;
@@ -113,23 +114,22 @@ fn next_fit(leaves: &[u64], from: usize, m: Matrix, half: u32) -> usize
     place
 }
 
-// The choice with the leaf at a place taken too.
+// The choice with the leaf at a place taken too, which fits.
 fn with_leaf(half: u32, choice: Choice, leaves: &[u64], place: usize) -> Choice
-    requires { ⌜
-        Chosen (widthOf half) choice × IsList (widthOf half) (now leaves) × (choice .taken < 3)
-        × (place < length (leavesIn (widthOf half) (now leaves)))
-        ⌝ }
+    requires { ⌜ Takeable (widthOf half) choice (now leaves) place ⌝ }
     ensures { λ r. ⌜ WithLeaf (widthOf half) choice (now (leaves .entry)) place r ⌝ }
 {
     let mut nodes = choice.leaves;
     let at = choice.taken;
     nodes[at] = leaves[LEAF_SIZE * place];
-    let met = meet(choice.matrix, leaf_matrix(leaves, place));
+    let width = 2 * wide(half) + 1;
+    let met = meet(choice.matrix, leaf_matrix(leaves, place), width);
+    let matrix = met.matrix;
     Choice {
         phone: choice.phone,
         taken: at + 1,
         leaves: nodes,
-        matrix: met,
+        matrix,
     }
 }
 

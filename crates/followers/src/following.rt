@@ -9,15 +9,14 @@ use index::rows::rows_for;
 use index::searching::next_follower;
 use matrix::Matrix;
 use matrix::meeting::meet;
-use matrix::testing::valid;
 use metastates::Step;
 use metastates::adding::enter;
 ghost use Rattle.metastates.specs.Outcomes.{followedFrom};
 ghost use Rattle.metastates.specs.Steps.{StepLeft};
 ghost use Rattle.followers.specs.Turns.{Following};
 
-// Appends the arcs from a state into the metastates that a shifted matrix leads to, in combination order. Those that the
-// search finds are valid; where the matrix that is met is not, it ends.
+// Appends the arcs from a state into the metastates that a shifted matrix leads to, in combination order. A combination
+// that the search finds meets the matrix validly.
 pub fn follow(
     header: Header,
     nodes: &[u32],
@@ -48,10 +47,8 @@ pub fn follow(
     let mut number = next_follower(header, combinations, index, rows, 0, shifted);
     while number < count {
         let own = matrix_of(header.half, combinations, number);
-        let met = meet(shifted, own);
-        if !valid(met, width) {
-            return Step::Next(now);
-        }
+        let meeting = meet(shifted, own, width);
+        let met = meeting.matrix;
         let step = enter(
             header,
             nodes,

@@ -2,17 +2,12 @@
 use crate::Follower;
 use definitions::sizes::combination_size;
 use definitions::sizes::metastate_size;
-use definitions::wide;
 use matrix::Matrix;
-use matrix::meeting::meets_at;
 use matrix::words::matrix_at;
 use tables::records::node_at;
 ghost use mathlib.Core.Path.{_≡_};
 ghost use Prim.Native.Nat.{_≤_};
-ghost use lib.ListN.{take};
-ghost use Rattle.definitions.specs.Matrices.{valid, meet};
 ghost use Rattle.definitions.specs.Metastates.{metastateSize};
-ghost use Rattle.matrix.specs.Shapes.{widthOf};
 ghost use Rattle.index.specs.RecordWords.{RecordWithin, IsRecord, countIn, IsListed, HasPhone, HasLeaf};
 ghost use Rattle.index.specs.RecordWords.{phoneWord, ownColumns, modelWord, IsMetastate};
 
@@ -46,22 +41,6 @@ pub fn matrix_of(half: u32, combinations: &[u64], number: usize) -> Matrix
     ensures { λ r. ⌜ r .columns ≡ ownColumns half (now (combinations .entry)) number ⌝ }
 {
     matrix_at(record_at(combinations, combination_size(half), number), 4)
-}
-
-// Whether the matrix of a combination meets a matrix validly, in the columns of the book.
-pub fn meets(half: u32, combinations: &[u64], number: usize, m: Matrix) -> bool
-    requires { ⌜ IsListed half (now combinations) number × (half ≤ 3) ⌝ }
-    ensures { λ r. ⌜
-        r ≡ valid (take (widthOf half) (meet (m .columns) (ownColumns half (now (combinations .entry)) number)))
-        ⌝ }
-{
-    let width = 2 * wide(half) + 1;
-    meets_at(
-        record_at(combinations, combination_size(half), number),
-        4,
-        m,
-        width,
-    )
 }
 
 // The model of a combination's state; states count from 0 here.

@@ -1,13 +1,14 @@
 // The search for the combinations whose matrices meet a shifted matrix validly.
 use crate::indexing::next_member;
 use crate::records::count_of;
-use crate::records::meets;
+use crate::records::matrix_of;
 use crate::records::phone_of;
 use crate::rows::Rows;
 use crate::rows::next_marked;
 use definitions::Header;
 use definitions::wide;
 use matrix::Matrix;
+use matrix::meeting::meets;
 use matrix::sets::has_phone;
 ghost use mathlib.Core.Path.{_≡_};
 ghost use Rattle.matrix.specs.Shapes.{matrixIn};
@@ -23,11 +24,13 @@ fn is_follower(header: Header, combinations: &[u64], number: usize, shifted: Mat
         (combinationsIn header (now (combinations .entry))) number
         ⌝ }
 {
-    let centre = shifted.columns[wide(header.half)];
+    let n = wide(header.half);
+    let centre = shifted.columns[n];
     if !has_phone(centre, phone_of(header.half, combinations, number)) {
         return false;
     }
-    meets(header.half, combinations, number, shifted)
+    let own = matrix_of(header.half, combinations, number);
+    meets(shifted, own, 2 * n + 1)
 }
 
 // Where to look after a combination: at the next, or, where the centre lacks its phone, at the first of the

@@ -13,7 +13,7 @@ ghost use Rattle.definitions.specs.Matrices.{mostColumns};
 ghost use Rattle.matrix.specs.Words.{overwritten};
 
 // Whether so many words from a place on are all there.
-pub fn are_there(words: &[u64], from: usize, count: usize) -> bool
+fn are_there(words: &[u64], from: usize, count: usize) -> bool
     ensures { λ r. ⌜ r ≡ leb (from + count) (length (now (words .entry))) ⌝ }
 {
     if words.len() < from {

@@ -1,5 +1,5 @@
 -- Laws about a list of leaves read back from its words: how many leaves there are, where the node and the
--- matrix of each stand, how wide it is, and how it meets another in seven words.
+-- matrix of each stand, and how wide it is.
 use mathlib.Core.Path.{_≡_, sym, ap, _∙_}
 use mathlib.Core.List.{List, []}
 use Prim.Native.Nat.{ℕ, suc, _+_, _*_, _/_, _≤_, _<_}
@@ -8,16 +8,14 @@ use lib.Dec.{lit<}
 use lib.ListN.{length, take, drop, getD, length-map, length-take, length-drop}
 use lib.Seq.{drop-drop, getD-drop, getD-take}
 use Rattle.definitions.specs.Lists.{_!_, concatMap, records, isIn}
-use Rattle.definitions.specs.Matrices.{Matrix, mostColumns, matrixWords, valid, meet}
+use Rattle.definitions.specs.Matrices.{Matrix, mostColumns, matrixWords}
 use Rattle.definitions.specs.Combinations.{Leaf}
 use Rattle.definitions.specs.laws.lists.Lists.{concatMap-map, map-at, drop-take}
 use Rattle.definitions.specs.laws.lists.Records.{records-length, record-at, record-again}
 use Rattle.definitions.specs.laws.lists.Members.{place-of}
 use Rattle.definitions.specs.laws.matrices.SevenWords.{words-length}
-use Rattle.matrix.specs.Shapes.{HasWidth}
-use Rattle.matrix.specs.laws.Widths.{met-matrix}
 use Rattle.leafsets.specs.Leaves.{leafSize, leafWords, leafIn, leavesIn, IsList}
-use Rattle.choices.specs.Choices.{noLeaf, fitsAt}
+use Rattle.choices.specs.Choices.{noLeaf}
 
 module _ (width : ℕ) (words : List ℕ) where
   abbrev parts : List (List ℕ)
@@ -81,14 +79,6 @@ module _ (width : ℕ) (words : List ℕ) where
           ap (take mostColumns) (sym (drop-drop 1 (leafSize * place) words)) ∙ sym (drop-take 1 mostColumns from)
           ∙ ap (drop 1) (sym (record-again again leafSize (lit< tt) again-length words flat place listed))
           ∙ ap (λ (l : Leaf). matrixWords (l .carried)) (sym leaf-is)
-
-      -- the test of what it and seven words of a matrix of that width meet in
-      pub met-valid : {columns leaf met : List ℕ} → HasWidth width columns
-          → leaf ≡ take mostColumns (drop (leafSize * place + 1) words) → met ≡ meet columns leaf
-          → valid (take width met) ≡ fitsAt (take width columns) (leavesIn width words) place
-      met-valid {columns} w l q =
-          ap valid
-          (met-matrix narrow w (leafAt .carried) (leaf-width narrow) (q ∙ ap (meet columns) (l ∙ leaf-columns)))
 
 -- leaves whose matrices have so many columns
 abbrev pub Wide : (width : ℕ) → List Leaf → Type 0

@@ -7,13 +7,14 @@ use mathlib.Core.Bool.{Bool, true, false}
 use Prim.Native.Nat.{ℕ, zero, suc, _+_, _-_, _≤_, _<_}
 use native.Mathlib.Omega.{arith}
 use lib.Dec.{T, ltb, eqb}
-use lib.ListN.{length, drop, drop-of-length-le}
+use lib.ListN.{length, take, drop, drop-of-length-le}
 use lib.Seq.{drop-cons, getD-take}
 use borrow.Author.Tests.{ltb-true, ltb-false, eqb-true, eqb-false}
 use Rattle.definitions.specs.declared.Header.{Header}
 use Rattle.definitions.specs.Lists.{_!_}
 use Rattle.definitions.specs.PhoneSets.{has}
 use Rattle.definitions.specs.Matrices.{Matrix, mostColumns, matrixWords, valid, meet}
+use Rattle.definitions.specs.Meeting.{metWords}
 use Rattle.definitions.specs.Combinations.{Combination}
 use Rattle.definitions.specs.Metastates.{Metastate, noCombination, followersFrom, numbered}
 use Rattle.definitions.specs.laws.lists.Tests.{T-and, by-test}
@@ -22,6 +23,7 @@ use Rattle.definitions.specs.Searching.{NoneFrom}
 use Rattle.definitions.specs.laws.lists.Searching.{none-one}
 use Rattle.definitions.specs.laws.books.AcceptedKnown.{header-ranges}
 use Rattle.matrix.specs.Shapes.{widthOf, matrixIn, HasWidth}
+use Rattle.matrix.specs.laws.Meeting.{met-test, met-whole}
 use Rattle.matrix.specs.laws.Widths.{width-taken, met-matrix, met-width}
 use Rattle.index.specs.Combinations.{combinationsIn, IsCombination, Usable, EndsAt}
 use Rattle.index.specs.RecordWords.{phoneWord, ownColumns}
@@ -118,22 +120,26 @@ module _ {header : Header} {words columns : List ℕ} (usable : Usable header wo
         lacks header (numbered cs number) shifted (usable .each number h) (width-taken thin e)
         (rw (centre, ← p ∙ phone-word header words usable number h, ← q) missing)
 
-    -- the meet in seven words
-    module _ {record-columns met : List ℕ}
-        (r : record-columns ≡ ownColumns (header .half) words number)
-        (m : met ≡ meet columns record-columns) where
-      met-own : met ≡ meet columns (matrixWords own)
-      met-own = m ∙ ap (meet columns) (r ∙ matrix-word header words usable number h)
+    -- the words of its matrix, and the meeting with them
+    module _ {record-columns : List ℕ} (r : record-columns ≡ ownColumns (header .half) words number) where
+      own-words : record-columns ≡ matrixWords own
+      own-words = r ∙ matrix-word header words usable number h
 
-      pub follower-matrix : matrixIn (header .half) met ≡ meet shifted own
-      follower-matrix = met-matrix thin e own (usable .each number h .width) met-own
+      pub following-valid : {answer : Bool} {width : ℕ} → width ≡ widthOf (header .half)
+          → answer ≡ valid (meet (take width columns) (take width record-columns))
+          → answer ≡ followsAt shifted cs number
+      following-valid w = met-test columns own (usable .each number h .width) own-words w
 
-      pub follower-width : HasWidth (widthOf (header .half)) met
-      follower-width = met-width thin e own (usable .each number h .width) met-own
+      module _ (follows : followsAt shifted cs number ≡ true) {width : ℕ} (w : width ≡ widthOf (header .half))
+          {met : List ℕ} (m : met ≡ metWords (take width columns) (take width record-columns)) where
+        met-own : met ≡ matrixWords (meet shifted own)
+        met-own = met-whole columns own (usable .each number h .width) own-words w follows m
 
-      pub following-valid : {answer : Bool} {half : ℕ} → half ≡ header .half
-          → answer ≡ valid (matrixIn half met) → answer ≡ followsAt shifted cs number
-      following-valid w a = a ∙ ap (λ (k : ℕ). valid (matrixIn k met)) w ∙ ap valid follower-matrix
+        pub follower-matrix : matrixIn (header .half) met ≡ meet shifted own
+        follower-matrix = met-matrix thin e own (usable .each number h .width) met-own
+
+        pub follower-width : HasWidth (widthOf (header .half)) met
+        follower-width = met-width thin e own (usable .each number h .width) met-own
 
   -- ---- where to look next
 

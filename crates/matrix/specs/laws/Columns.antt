@@ -1,5 +1,5 @@
--- Laws about the columns of a matrix: one cut by a set, those of the meet of two matrices, and the tests of the
--- first columns in their order.
+-- Laws about the columns of a matrix: one cut by a set, and the tests of the first columns in their
+-- order.
 use mathlib.Core.Path.{_≡_, refl, sym, ap, _∙_}
 use mathlib.Core.Bool.{Bool, true, false, not}
 use Prim.Native.Nat.{ℕ, _+_, _-_, _*_, _%_, _^_, _≤_, _<_}
@@ -12,9 +12,9 @@ use lib.Seq.{getD-take, set-out}
 use borrow.Author.Tests.{eq-eqb, ne-eqb}
 use Rattle.definitions.specs.Lists.{_!_, every}
 use Rattle.definitions.specs.PhoneSets.{has}
-use Rattle.definitions.specs.Matrices.{Matrix, yesSide, noSide, meet, valid, endsHere}
+use Rattle.definitions.specs.Matrices.{Matrix, yesSide, noSide, valid, endsHere}
 use Rattle.definitions.specs.laws.matrices.PhoneSets.{without-is-mask}
-use Rattle.definitions.specs.laws.matrices.Matrices.{yes-set, no-set, meet-length}
+use Rattle.definitions.specs.laws.matrices.Matrices.{yes-set, no-set}
 use Rattle.lines.specs.laws.Passing.{Passed, passed-more, passed-stop}
 
 -- ---- one column cut by a set, in a matrix that has it or not
@@ -34,11 +34,6 @@ module _ (position s : ℕ) (m : Matrix) where
 
   pub no-beyond : length m ≤ position → m ≡ noSide position s m
   no-beyond h = sym (no-set position s m ∙ set-out m position _ h)
-
--- ---- two matrices of one width meet
-
-pub meet-sized : (n : ℕ) (a b : Matrix) → length a ≡ n → length b ≡ n → length (meet a b) ≡ n
-meet-sized n a b e f = meet-length a b (e ∙ sym f) ∙ e
 
 -- ---- tests of the first columns
 

@@ -1,79 +1,118 @@
--- Laws about a matrix met with the seven words from a place on: each column, how many columns decide whether the
--- meet is valid, and that it is not where one of their words is not there.
-use mathlib.Core.Path.{_≡_, sym, ap, _∙_}
+-- Laws about a loop that meets the first columns of two matrices, held in seven words each: what holds before each
+-- column, and what it gives at an empty one and past the last; about the test of its first word; and about a meeting
+-- with words that hold a matrix. One proof serves every width.
+use mathlib.Core.Path.{_≡_, sym, ap, ap₂, _∙_, subst}
 use mathlib.Core.List.{List}
-use mathlib.Core.Bool.{false}
-use Prim.Native.Nat.{ℕ, _+_, _-_, _≤_, _<_, min}
+use mathlib.Core.Bool.{Bool, true, not}
+use Prim.Native.Nat.{ℕ, _+_, _≤_, _<_}
+use native.Mathlib.Numerals.{add-one}
 use native.Mathlib.Omega.{arith}
-use lib.Bits.{bitAnd, and-zero-r}
-use lib.Dec.{T, leb, eqb}
-use lib.ListN.{length, take, drop, List·getD-eq-default}
-use lib.Seq.{take-all, length-take-le, getD-drop, getD-take}
-use borrow.Author.Tests.{leb-true, leb-false, eqb-true, eqb-false}
-use Rattle.definitions.specs.Lists.{_!_, every}
-use Rattle.definitions.specs.Matrices.{Matrix, mostColumns, meet, valid}
-use Rattle.definitions.specs.laws.matrices.Matrices.{meet-column}
-use Rattle.definitions.specs.laws.lists.Members.{in-at, in-every}
+use lib.Bits.{bitAnd}
+use lib.Dec.{T, eqb}
+use lib.ListN.{length, set, take, length-take}
+use lib.Seq.{getD-take}
+use borrow.Author.Tests.{eq-eqb, ne-eqb, eqb-true, eqb-false}
+use Rattle.definitions.specs.Lists.{_!_, cleared}
+use Rattle.definitions.specs.Matrices.{Matrix, mostColumns, matrixWords, meet, valid}
+use Rattle.definitions.specs.Meeting.{columnsMet, metWords}
 use Rattle.definitions.specs.laws.lists.Tests.{by-test}
-use Rattle.matrix.specs.laws.Columns.{meet-sized, someMember, empty-column}
-use Rattle.matrix.specs.Words.{firstSeven}
-use Rattle.matrix.specs.laws.Words.{seven-length, seven-at}
+use Rattle.definitions.specs.laws.matrices.Matrices.{meet-column, meet-length}
+use Rattle.definitions.specs.laws.matrices.SevenWords.{words-column, words-length}
+use Rattle.definitions.specs.laws.matrices.Meeting.{NoneEmpty, valid-met, first-word, met-empty, met-all}
+use Rattle.lines.specs.laws.Filling.{filled-start}
+use Rattle.matrix.specs.laws.Widths.{matrix-back}
+use Rattle.matrix.specs.laws.Words.{Columns, columns-more, filled-rest, words-rest}
 
-module _ (m : Matrix) (words : List ℕ) (from : ℕ) where
-  abbrev pub metAt : Matrix
-  metAt = meet m (firstSeven (drop from words))
+-- the columns before one were met, none of them empty, and are written
+pub record Meeting (a b : List ℕ) (width column : ℕ) (columns : List ℕ) : Type 0 where
+  pub within : column ≤ width
+  pub filled : NoneEmpty (take width a) (take width b) column
+  pub written : Columns (matrixWords (meet (take width a) (take width b))) column columns
 
-  pub met-column : (c : ℕ) → c < mostColumns → metAt ! c ≡ bitAnd (m ! c) (words ! (from + c))
-  met-column c h =
-      meet-column m (firstSeven (drop from words)) c
-      ∙ ap (bitAnd (m ! c)) (sym (seven-at (drop from words) c h) ∙ getD-drop from words c 0)
+pub meeting-start : (a b : List ℕ) (width : ℕ) → Meeting a b width 0 (cleared mostColumns)
+meeting-start a b width =
+    record { within = omega arith; filled = λ c h. absurd (omega arith); written = filled-start _ _ }
 
-  module _ (sized : length m ≡ mostColumns) where
-    pub met-sized : length metAt ≡ mostColumns
-    met-sized = meet-sized mostColumns m (firstSeven (drop from words)) sized (seven-length (drop from words))
+module _ {a b : List ℕ} {width column : ℕ} {columns : List ℕ} (s : Meeting a b width column columns)
+    (seven : length a ≡ mostColumns) (same : length b ≡ length a) where
+  abbrev m : Matrix
+  m = take width a
 
-    -- there are no more than seven columns
-    pub met-cut : (width end : ℕ) → end ≡ min width mostColumns → take end metAt ≡ take width metAt
-    met-cut width end e = by-test (leb width mostColumns)
-        (λ t.
-        let all : end ≡ width = omega (arith, leb-true width mostColumns t) in
-        ap (λ (n : ℕ). take n metAt) all)
-        (λ t.
-        let more = leb-false width mostColumns t in
-        take-all end metAt (omega (arith, met-sized)) ∙ sym (take-all width metAt (omega (arith, met-sized))))
+  abbrev n : Matrix
+  n = take width b
 
-    -- a word that is not there makes an empty column
-    module _ (end : ℕ) (few : end ≤ mostColumns) (short : length words < from + end) where
-      abbrev missing : ℕ
-      missing = length words - from
+  widths : length m ≡ length n
+  widths = simp (length-take, same)
 
-      abbrev column : ℕ
-      column = take end metAt ! missing
+  -- the next column
+  module _ (h : column < width) (k : column < mostColumns) where
+    both : bitAnd (m ! column) (n ! column) ≡ bitAnd (a ! column) (b ! column)
+    both = ap₂ bitAnd (getD-take width a column 0 h) (getD-take width b column 0 h)
 
-      missing-empty : 0 < end → column ≡ 0
-      missing-empty some =
-          getD-take end metAt missing 0 (omega arith) ∙ met-column missing (omega arith)
-          ∙ ap (bitAnd (m ! missing)) (List·getD-eq-default words 0 {n = from + missing} (omega arith))
-          ∙ and-zero-r (m ! missing)
+    inside : column < length m
+    inside = rw length-take (omega arith)
 
-      not-valid : 0 < end → false ≡ valid (take end metAt)
-      unfolding valid
-      not-valid some =
-          let inside : missing < length (take end metAt) =
-          rw (length-take-le end metAt (omega (arith, met-sized))) (omega arith) in
-          by-test (valid (take end metAt))
-          (λ t.
-          let passes : T (someMember column) =
-          in-every someMember (take end metAt) (rw t tt) column (in-at (take end metAt) missing 0 inside) in
-          absurd (rw (empty-column column (missing-empty some)) at passes))
-          sym
+    -- is empty: the meeting ends
+    pub meeting-empty : bitAnd (a ! column) (b ! column) ≡ 0
+        → (cleared mostColumns ≡ metWords m n) × (column + 1 ≡ columnsMet m n)
+    unfolding metWords
+    meeting-empty z =
+        let (count, invalid) = met-empty m n widths column inside (s .filled) (both ∙ z) in
+        (rw invalid, add-one column ∙ sym count)
 
-      pub met-missing : eqb end 0 ≡ valid (take end metAt)
-      unfolding valid every
-      met-missing = by-test (eqb end 0)
-          (λ t.
-          let none : end ≡ 0 = eqb-true end 0 t in
-          rw none)
-          (λ t.
-          let some : 0 < end = omega (arith, eqb-false end 0 t) in
-          t ∙ not-valid some)
+    -- is not, and is written
+    pub meeting-more : (bitAnd (a ! column) (b ! column) ≡ 0 → ⊥)
+        → Meeting a b width (column + 1) (set columns column (bitAnd (a ! column) (b ! column)))
+    meeting-more some = record {
+      within = omega arith;
+      filled = λ c l z.
+          by-test (eqb c column)
+          (λ t. some (sym both ∙ ap (λ (i : ℕ). bitAnd (m ! i) (n ! i)) (sym (eqb-true c column t)) ∙ z))
+          (λ t. s .filled c (omega (arith, eqb-false c column t)) z);
+      written =
+          columns-more long (s .written) k
+          (sym (words-column (meet m n) column ∙ meet-column m n column ∙ both));
+    }
+      where
+        long : length (matrixWords (meet m n)) ≡ mostColumns
+        long = words-length (meet m n) (rw (meet-length m n widths, length-take) (omega arith))
+
+  -- past the last column
+  pub meeting-last : length m ≡ column → (columns ≡ metWords m n) × (column ≡ columnsMet m n)
+  meeting-last last =
+      let (count, holds) = met-all m n widths (rw last (s .filled)) in
+      let long : length (meet m n) ≡ column = meet-length m n widths ∙ last in
+      let few : column ≤ mostColumns = omega (arith, length-take width a, last) in (
+        filled-rest (s .written) (words-rest (meet m n) column (omega (arith, long)) few) ∙ sym (valid-met m n holds),
+        sym (count ∙ last),
+      )
+
+-- the first word tells whether the meeting is valid
+pub first-tells : (a b : List ℕ) (width : ℕ) → length a ≡ mostColumns → length b ≡ length a → 0 < width
+    → {words : List ℕ} → words ≡ metWords (take width a) (take width b)
+    → not (eqb (words ! 0) 0) ≡ valid (meet (take width a) (take width b))
+first-tells a b width seven same some w =
+    let m : Matrix = take width a in
+    let n : Matrix = take width b in
+    let columns : 0 < length (meet m n) =
+    rw (meet-length m n (simp (length-take, same)), length-take) (omega arith) in
+    let tells = first-word m n columns in
+    rw w
+    (by-test (valid (meet m n))
+    (λ t. rw (ne-eqb (metWords m n ! 0) 0 (λ z. subst T (sym t ∙ tells .0 z) tt), t))
+    (λ t. rw (eq-eqb (metWords m n ! 0) 0 (tells .1 t), t)))
+
+-- met with the seven words of a matrix, in as many columns as it has
+module _ (columns : List ℕ) (m : Matrix) {width : ℕ} (e : length m ≡ width) {other : List ℕ}
+    (o : other ≡ matrixWords m) {count : ℕ} (w : count ≡ width) where
+  pub met-test : {answer : Bool} → answer ≡ valid (meet (take count columns) (take count other))
+      → answer ≡ valid (meet (take width columns) m)
+  met-test a =
+      a ∙ ap (λ (k : ℕ). valid (meet (take k columns) (take k other))) w
+      ∙ ap (λ (n : Matrix). valid (meet (take width columns) n)) (matrix-back m e o)
+
+  pub met-whole : valid (meet (take width columns) m) ≡ true → {met : List ℕ}
+      → met ≡ metWords (take count columns) (take count other) → met ≡ matrixWords (meet (take width columns) m)
+  met-whole holds a =
+      a ∙ ap (λ (k : ℕ). metWords (take k columns) (take k other)) w
+      ∙ ap (metWords (take width columns)) (matrix-back m e o) ∙ valid-met (take width columns) m holds

@@ -1,5 +1,5 @@
--- Laws about seven words that hold a matrix of so many columns: the matrix is read back from them, and what two
--- meet in, word by word, holds what the two matrices meet in.
+-- Laws about seven words that hold a matrix of so many columns: the matrix is read back from them, and words that
+-- hold what it meets another in hold a matrix of that width.
 use mathlib.Core.Path.{_≡_, sym, ap, _∙_}
 use mathlib.Core.List.{List}
 use Prim.Native.Nat.{ℕ, _≤_}
@@ -8,7 +8,7 @@ use lib.ListN.{length, take, length-take}
 use lib.Seq.{length-take-le}
 use Rattle.definitions.specs.Matrices.{Matrix, mostColumns, matrixWords, meet}
 use Rattle.definitions.specs.laws.matrices.Matrices.{meet-length}
-use Rattle.definitions.specs.laws.matrices.SevenWords.{words-length, words-take, words-meet}
+use Rattle.definitions.specs.laws.matrices.SevenWords.{words-length, words-take}
 use Rattle.matrix.specs.Shapes.{HasWidth}
 
 -- the words of a matrix of that width
@@ -26,19 +26,13 @@ module _ {width : ℕ} (narrow : width ≤ mostColumns) {columns : List ℕ} (w 
       length-take-le width columns (omega (arith, seven))
 
   -- met with a matrix of that width
-  module _ (m : Matrix) (e : length m ≡ width) {met : List ℕ} (q : met ≡ meet columns (matrixWords m)) where
-    widths : length (take width columns) ≡ length m
-    widths = width-taken ∙ sym e
-
+  module _ (m : Matrix) (e : length m ≡ width) {met : List ℕ}
+      (q : met ≡ matrixWords (meet (take width columns) m)) where
     met-length : length (meet (take width columns) m) ≡ width
-    met-length = meet-length (take width columns) m widths ∙ width-taken
-
-    met-words : met ≡ matrixWords (meet (take width columns) m)
-    met-words =
-        q ∙ ap (λ (k : Matrix). meet k (matrixWords m)) w ∙ sym (words-meet (take width columns) m widths)
+    met-length = meet-length (take width columns) m (width-taken ∙ sym e) ∙ width-taken
 
     pub met-matrix : take width met ≡ meet (take width columns) m
-    met-matrix = matrix-back (meet (take width columns) m) met-length met-words
+    met-matrix = matrix-back (meet (take width columns) m) met-length q
 
     pub met-width : HasWidth width met
-    met-width = has-width (meet (take width columns) m) met-length met-words
+    met-width = has-width (meet (take width columns) m) met-length q

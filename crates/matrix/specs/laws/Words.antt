@@ -51,17 +51,23 @@ pub seven-at : (words : List ℕ) (c : ℕ) → c < mostColumns → words ! c �
 seven-at words c h =
     sym (getD-take mostColumns (padded mostColumns words) c 0 h ∙ padded-column mostColumns words c)
 
+-- after the last column the words of a matrix are 0
+pub words-rest : (m : Matrix) (c : ℕ) → length m ≤ c → c ≤ mostColumns
+    → drop c (matrixWords m) ≡ drop c (cleared mostColumns)
+unfolding matrixWords padded
+words-rest m c h k =
+    let n : ℕ = length m in
+    let left : mostColumns - n - (c - n) ≡ mostColumns - c = omega arith in
+    drop-past m (cleared (mostColumns - n)) c h ∙ drop-cleared (c - n) (mostColumns - n)
+    ∙ ap (λ (i : ℕ). cleared i) left ∙ sym (drop-cleared c mostColumns)
+
 -- all that is there is read
 pub seven-rest : (words : List ℕ) (c : ℕ) → length words ≤ c → c ≤ mostColumns
     → drop c (firstSeven words) ≡ drop c (cleared mostColumns)
-unfolding padded
+unfolding matrixWords
 seven-rest words c h k =
-    let n : ℕ = length words in
-    let z : List ℕ = cleared (mostColumns - n) in
-    let all : length (words ++ z) ≤ mostColumns = simp (length-append, length-replicate) (omega arith) in
-    let left : mostColumns - n - (c - n) ≡ mostColumns - c = omega arith in
-    ap (λ (l : List ℕ). drop c l) (take-all mostColumns (words ++ z) all) ∙ drop-past words z c h
-    ∙ drop-cleared (c - n) (mostColumns - n) ∙ ap (λ (i : ℕ). cleared i) left ∙ sym (drop-cleared c mostColumns)
+    ap (drop c) (take-all mostColumns (matrixWords words) (omega (arith, words-length words (omega arith))))
+    ∙ words-rest words c h k
 
 -- those of a record are the matrix as a value
 pub record-seven : (half : ℕ) → half ≤ 3 → (m : Matrix) → length m ≡ 2 * half + 1

@@ -93,7 +93,13 @@ choose-with-leaf-requires t c κs =
     let b = inv .begins in
     let asked = b .asked in
     let inside = choosing-inside inv (c .loop-test .taken) in
-    (asked .chosen, asked .first-is, omega (arith, asked .few, b .some), inside)
+    record {
+      chosen = asked .chosen;
+      is = asked .first-is;
+      more = omega (arith, asked .few, b .some);
+      inside = inside;
+      fits = inv .found inside;
+    }
 
 choose-sub-choose : (t : ℕ) → choose-lts.Need-sub-choose (calls t) (choose-at t)
     choose.Post choose-Inv-loop choose-μ-loop

@@ -8,20 +8,20 @@ use Rattle.leafsets.specs.Leaves.{leafSize}
 use Rattle.choices.proofs.choosing.leaf_matrix.Statement.{statement}
 use Rattle.choices.proofs.choosing.leaf_matrix.Tie as tie
 
-mul-matrix-at : tie.Need-mul-matrix-at
-mul-matrix-at c = search needs
+mul-whole-matrix : tie.Need-mul-whole-matrix
+mul-whole-matrix c = search needs
 
-add-matrix-at : tie.Need-add-matrix-at
-add-matrix-at c = search needs
+add-whole-matrix : tie.Need-add-whole-matrix
+add-whole-matrix c = search needs
 
-matrix-at-requires : tie.Need-matrix-at-requires
-matrix-at-requires c κs = search needs
+whole-matrix-requires : tie.Need-whole-matrix-requires
+whole-matrix-requires c κs = omega (arith, c .before .pre)
 
 returns : tie.Need-returns
 returns c =
     let start = c .before .before in
-    c .matrix-at .ensures
+    c .whole-matrix .ensures
     ∙ seven-there (start .args .leaves .now) (leafSize * start .args .place + 1) (omega (arith, start .pre))
 
 pub leaf-matrix-spec : {M : Type 1} → statement M
-leaf-matrix-spec = tie.close (tie.spec mul-matrix-at add-matrix-at matrix-at-requires returns)
+leaf-matrix-spec = tie.close (tie.spec mul-whole-matrix add-whole-matrix whole-matrix-requires returns)

@@ -1,20 +1,18 @@
 -- `choosing::next_fit` meets its contract. The loop's invariant: the leaves before `place` do not fit.
-use mathlib.Core.Path.{_≡_, refl, sym, ap, _∙_}
+use mathlib.Core.Path.{_≡_, sym, _∙_}
 use mathlib.Core.List.{List}
-use Prim.Native.Nat.{ℕ, _+_, _-_, _*_, _≤_, _<_}
+use Prim.Native.Nat.{_+_, _-_, _*_, _<_}
 use native.Mathlib.Omega.{arith}
-use lib.ListN.{length, take, drop}
+use lib.ListN.{length, take}
 use borrow.Author.Needs.{needs}
-use Rattle.definitions.specs.Matrices.{valid, meet}
 use Rattle.definitions.specs.Combinations.{Leaf}
 use Rattle.definitions.specs.Searching.{NoneFrom}
 use Rattle.definitions.specs.laws.lists.Searching.{none-start, none-one, none-more, none-found, none-all}
 use Rattle.matrix.specs.Shapes.{widthOf}
-use Rattle.matrix.specs.Words.{firstSeven}
-use Rattle.matrix.specs.laws.Words.{seven-there}
-use Rattle.leafsets.specs.Leaves.{leafSize, leavesIn}
+use Rattle.matrix.specs.laws.Meeting.{met-test}
+use Rattle.leafsets.specs.Leaves.{leavesIn}
 use Rattle.choices.specs.Choices.{fitsAt}
-use Rattle.choices.specs.laws.LeafLists.{leaves-length, met-valid}
+use Rattle.choices.specs.laws.LeafLists.{leaves-length, leaf-within, leaf-columns, leaf-width}
 use Rattle.choices.proofs.choosing.next_fit.Statement.{statement}
 use Rattle.choices.proofs.choosing.next_fit.Tie as tie
 
@@ -38,46 +36,43 @@ add-width c = search needs
 loop-holds : tie.Need-loop-holds Inv-loop μ-loop
 loop-holds c = none-start (c .before .before .pre .2)
 
-mul-meets-at : tie.Need-mul-meets-at Inv-loop μ-loop
-mul-meets-at c = search needs
+-- the leaf at a turn is in the list
+abbrev widened : tie.In-loop Inv-loop μ-loop → tie.After-wide Inv-loop μ-loop
+widened c = c .before .before
 
-add-meets-at : tie.Need-add-meets-at Inv-loop μ-loop
-add-meets-at c = search needs
-
-meets-at-requires : tie.Need-meets-at-requires Inv-loop μ-loop
-meets-at-requires c κs = search needs
-
--- the test at a turn is of the leaf at `place`
-abbrev Tested : Type 0
-Tested = tie.After-meets-at Inv-loop μ-loop
-
-abbrev turn : Tested → tie.In-loop Inv-loop μ-loop
-turn c = c .before
-
-abbrev widened : Tested → tie.After-wide Inv-loop μ-loop
-widened c = turn c .before .before
-
-abbrev entry : Tested → tie.Start Inv-loop μ-loop
+abbrev entry : tie.In-loop Inv-loop μ-loop → tie.Start Inv-loop μ-loop
 entry c = widened c .before .before
 
-abbrev leaves-of : Tested → List Leaf
+abbrev leaves-of : tie.In-loop Inv-loop μ-loop → List Leaf
 leaves-of c = leavesIn (widthOf (entry c .args .half)) (entry c .args .leaves .now)
 
-inside : (c : Tested) → turn c .before .loop .place < length (leaves-of c)
-inside c = rw leaves-length (turn c .loop-test .taken)
+inside : (c : tie.In-loop Inv-loop μ-loop) → c .before .loop .place < length (leaves-of c)
+inside c = rw leaves-length (c .loop-test .taken)
 
-tested : (c : Tested) → fitsAt (take (widthOf (entry c .args .half)) (entry c .args .m .columns)) (leaves-of c)
-    (turn c .before .loop .place) ≡ c .meets-at .result
+leaf-matrix-requires : tie.Need-leaf-matrix-requires Inv-loop μ-loop
+leaf-matrix-requires c κs =
+    leaf-within (widthOf (entry c .args .half)) (entry c .args .leaves .now) (c .before .loop .place) (inside c)
+
+meets-requires : tie.Need-meets-requires Inv-loop μ-loop
+meets-requires c κs = omega arith
+
+-- the test at a turn is of that leaf
+abbrev turn : tie.After-meets Inv-loop μ-loop → tie.In-loop Inv-loop μ-loop
+turn c = c .before .before
+
+tested : (c : tie.After-meets Inv-loop μ-loop)
+    → fitsAt (take (widthOf (entry (turn c) .args .half)) (entry (turn c) .args .m .columns)) (leaves-of (turn c))
+    (turn c .before .loop .place) ≡ c .meets .result
 tested c =
-    let a = entry c .args in
-    let pre = entry c .pre in
-    let from = leafSize * turn c .before .loop .place + 1 in
-    let there : from + 7 ≤ length (a .leaves .now) = omega arith in
-    let width : 2 * widened c .wide .result + 1 ≡ widthOf (a .half) = omega (arith, widened c .wide .ensures) in
-    sym (c .meets-at .ensures
-    ∙ ap (λ (k : ℕ). valid (take k (meet (a .m .columns) (firstSeven (drop from (a .leaves .now)))))) width
-    ∙ met-valid (widthOf (a .half)) (a .leaves .now) _ (inside c) (pre .0) (pre .1) (pre .3)
-    (seven-there (a .leaves .now) from there) refl)
+    let a = entry (turn c) .args in
+    let pre = entry (turn c) .pre in
+    let wide = widened (turn c) .wide in
+    let width : 2 * wide .result + 1 ≡ widthOf (a .half) = omega (arith, wide .ensures) in
+    let words = a .leaves .now in
+    let own =
+    c .before .leaf-matrix .ensures ∙ leaf-columns (widthOf (a .half)) words _ (inside (turn c)) (pre .0) (pre .1) in
+    sym (met-test (a .m .columns) _ (leaf-width (widthOf (a .half)) words _ (inside (turn c)) (pre .0)) own width
+    (c .meets .ensures))
 
 returns : tie.Need-returns Inv-loop μ-loop
 returns c = none-found (turn (c .before) .before .loop .inv) (tested (c .before) ∙ c .if1 .taken)
@@ -91,7 +86,7 @@ loop-less c = search needs
 loop-again : tie.Need-loop-again Inv-loop μ-loop
 loop-again c =
     none-more (turn (c .before) .before .loop .inv)
-    (none-one (inside (c .before)) (tested (c .before) ∙ c .if1 .left))
+    (none-one (inside (turn (c .before))) (tested (c .before) ∙ c .if1 .left))
 
 returns-2 : tie.Need-returns-2 Inv-loop μ-loop
 returns-2 c = none-all (c .before .loop .inv) (rw leaves-length (c .loop-test .left))
@@ -106,9 +101,8 @@ next-fit-spec =
     mul-width
     add-width
     loop-holds
-    mul-meets-at
-    add-meets-at
-    meets-at-requires
+    leaf-matrix-requires
+    meets-requires
     returns
     add-place
     loop-less

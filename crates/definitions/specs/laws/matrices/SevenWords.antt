@@ -6,13 +6,13 @@ use mathlib.Core.List.{List, [], _∷_, _++_, append-assoc}
 use Prim.Native.Nat.{ℕ, zero, suc, _-_, _≤_}
 use native.Mathlib.Omega.{arith}
 use lib.Bits.{bitAnd}
-use lib.ListN.{length, set, take, drop, length-append, length-set, length-drop}
-use lib.Seq.{ext-getD, set-getD, drop-append-le, take-at, drop-at}
+use lib.ListN.{length, set, take, drop, length-set, length-drop}
+use lib.Seq.{set-getD, drop-append-le, take-at, drop-at}
 use Rattle.definitions.specs.Lists.{_!_, cleared, padded}
 use Rattle.definitions.specs.PhoneSets.{has, alone, allPhones, without}
-use Rattle.definitions.specs.Matrices.{Matrix, matrixWords, yesSide, noSide, meet, shift, startCut}
+use Rattle.definitions.specs.Matrices.{Matrix, matrixWords, yesSide, noSide, shift, startCut}
 use Rattle.definitions.specs.laws.lists.Lists.{padded-length, padded-take}
-use Rattle.definitions.specs.laws.matrices.Matrices.{meet-column, meet-length, shift-length, start-length}
+use Rattle.definitions.specs.laws.matrices.Matrices.{shift-length, start-length}
 use Rattle.definitions.specs.laws.matrices.Matrices.{yes-set, no-set}
 
 -- ---- zeros after a matrix: the columns stay, and an operation passes through them
@@ -56,18 +56,6 @@ module _ (size : ℕ) where
   padded-as : (m n : Matrix) → length n ≡ length m → padded size n ≡ n ++ cleared (size - length m)
   unfolding padded
   padded-as m n e = rw e
-
-  padded-width : (m n : Matrix) → length n ≡ length m → length (padded size n) ≡ length (padded size m)
-  unfolding padded
-  padded-width m n e = simp (length-append, e)
-
-  padded-meet : (a b : Matrix) → length a ≡ length b
-      → padded size (meet a b) ≡ meet (padded size a) (padded size b)
-  padded-meet a b e = ext-getD 0 (padded size (meet a b)) (meet (padded size a) (padded size b)) widths
-      (λ c k. simp (meet-column, padded-column))
-    where
-      widths : length (padded size (meet a b)) ≡ length (meet (padded size a) (padded size b))
-      widths = padded-width a (meet a b) (meet-length a b e) ∙ sym (meet-length _ _ (padded-width b a e))
 
   padded-shift : (phones w : ℕ) (m : Matrix) → length m ≡ suc w
       → padded size (shift phones m)
@@ -115,11 +103,6 @@ words-column = padded-column 7
 
 pub words-has : (p : ℕ) (m : Matrix) (c : ℕ) → has p (matrixWords m ! c) ≡ has p (m ! c)
 words-has p m c = ap (has p) (words-column m c)
-
-pub words-meet : (a b : Matrix) → length a ≡ length b
-    → matrixWords (meet a b) ≡ meet (matrixWords a) (matrixWords b)
-unfolding matrixWords
-words-meet = padded-meet 7
 
 pub words-shift : (phones w : ℕ) (m : Matrix) → length m ≡ suc w
     → matrixWords (shift phones m)

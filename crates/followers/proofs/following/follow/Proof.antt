@@ -1,17 +1,15 @@
 -- `following::follow` meets its contract. The loop's invariant: the followers before `number` were entered.
-use mathlib.Core.Path.{_≡_, refl, sym, ap, _∙_, subst}
-use Prim.Native.Nat.{ℕ, _+_, _-_, _*_, _<_}
+use mathlib.Core.Path.{_≡_, sym, _∙_}
+use Prim.Native.Nat.{_+_, _-_, _*_, _<_}
 use native.Mathlib.Omega.{arith}
-use lib.Dec.{T}
-use lib.ListN.{length, take}
+use lib.ListN.{length}
 use borrow.Author.Needs.{needs}
-use borrow.Author.Tests.{not-true}
-use Rattle.definitions.specs.Matrices.{valid, meet}
+use Rattle.definitions.specs.Matrices.{meet}
 use Rattle.definitions.specs.Metastates.{numbered}
 use Rattle.matrix.specs.Shapes.{widthOf, matrixIn}
 use Rattle.index.specs.Combinations.{combinationsIn}
 use Rattle.index.specs.laws.RecordWords.{combinations-length, is-listed}
-use Rattle.index.specs.laws.Followers.{narrow, follower-matrix, follower-width, following-valid}
+use Rattle.index.specs.laws.Followers.{narrow, follower-matrix, follower-width}
 use Rattle.followers.specs.laws.Following.{Followed, seeks, followed-start, followed-end, followed-stop}
 use Rattle.followers.specs.laws.Following.{followed-next}
 use Rattle.followers.proofs.following.follow.Statement.{statement}
@@ -40,7 +38,7 @@ abbrev called : tie.After-slice-known6 Inv-loop μ-loop → tie.After-enter Inv-
 called c = c .before .before .before .before .before .before
 
 abbrev entered : tie.After-enter Inv-loop μ-loop → tie.After-meet Inv-loop μ-loop
-entered c = c .before .before .before .before .before .before
+entered c = c .before .before .before .before .before
 
 abbrev inside : tie.After-enter Inv-loop μ-loop → tie.In-loop Inv-loop μ-loop
 inside c = entered c .before .before
@@ -84,7 +82,8 @@ next-follower-requires c κs =
     }
 
 loop-holds : tie.Need-loop-holds Inv-loop μ-loop
-loop-holds c = followed-start _ _ (entry (c .before .before .before .before .before) .pre .underway) (c .next-follower .ensures)
+loop-holds c =
+    followed-start _ _ (entry (c .before .before .before .before .before) .pre .underway) (c .next-follower .ensures)
 
 matrix-of-requires : tie.Need-matrix-of-requires Inv-loop μ-loop
 matrix-of-requires c κs =
@@ -93,20 +92,44 @@ matrix-of-requires c κs =
 meet-requires : tie.Need-meet-requires Inv-loop μ-loop
 meet-requires c κs = search needs
 
--- the matrix that is entered
+-- what is met, and the matrix that is entered
+width : (c : tie.In-loop Inv-loop μ-loop)
+    → 2 * c .before .before .before .before .wide .result + 1 ≡ widthOf (start c .args .header .half)
+width c = omega (arith, c .before .before .before .before .wide .ensures)
+
 matrix : (c : tie.After-meet Inv-loop μ-loop)
-    → matrixIn (start (c .before .before) .args .header .half) (c .meet .result .columns)
-    ≡ meet (matrixIn (start (c .before .before) .args .header .half) (start (c .before .before) .args .shifted .columns))
+    → matrixIn (start (c .before .before) .args .header .half) (c .meet .result .matrix .columns)
+    ≡ meet
+    (matrixIn (start (c .before .before) .args .header .half) (start (c .before .before) .args .shifted .columns))
     (numbered
     (combinationsIn (start (c .before .before) .args .header) (start (c .before .before) .args .combinations .now))
     (c .before .before .before .loop .number) .carried)
 matrix c =
-    let s = start (c .before .before) .pre in
-    follower-matrix (s .searchable .connectable .usable) (s .shaped) (here (c .before .before))
-    (c .before .matrix-of .ensures) (c .meet .ensures)
+    let turn = c .before .before in
+    let s = start turn .pre in
+    follower-matrix (s .searchable .connectable .usable) (s .shaped) (here turn) (c .before .matrix-of .ensures)
+    (turn .before .loop .inv .found (here turn)) (width turn) (c .meet .ensures .0)
 
-valid-requires : tie.Need-valid-requires Inv-loop μ-loop
-valid-requires c κs = search needs
+enter-requires : tie.Need-enter-requires Inv-loop μ-loop
+enter-requires c κs =
+    let met = c .before .before .before .before in
+    let turn = met .before .before in
+    let s = start turn .pre in
+    let connectable = s .searchable .connectable in
+    record {
+      connectable = connectable;
+      underway = turn .before .loop .inv .underway;
+      listed = here turn;
+      shaped =
+          follower-width (connectable .usable) (s .shaped) (here turn) (met .before .matrix-of .ensures)
+          (turn .before .loop .inv .found (here turn)) (width turn) (met .meet .ensures .0);
+    }
+
+enum-known-step : tie.Need-enum-known-step Inv-loop μ-loop
+enum-known-step c = search needs
+
+enum-known-step-2 : tie.Need-enum-known-step-2 Inv-loop μ-loop
+enum-known-step-2 c = search needs
 
 same-length : tie.Need-same-length Inv-loop μ-loop
 same-length c = search needs
@@ -117,55 +140,8 @@ same-length-2 c = search needs
 same-length-3 : tie.Need-same-length-3 Inv-loop μ-loop
 same-length-3 c = search needs
 
--- a combination that the search finds meets the matrix validly
 returns : tie.Need-returns Inv-loop μ-loop
 returns c =
-    let tested = c .before in
-    let met = tested .before in
-    let turn = met .before .before in
-    let s = start turn .pre in
-    let usable = s .searchable .connectable .usable in
-    let wide = turn .before .before .before .before in
-    let width : 2 * wide .wide .result + 1 ≡ widthOf (start turn .args .header .half) =
-    omega (arith, wide .wide .ensures) in
-    let follows =
-    following-valid usable (s .shaped) (here turn) (met .before .matrix-of .ensures) (met .meet .ensures) refl
-    (tested .valid .ensures ∙ ap (λ (k : ℕ). valid (take k (met .meet .result .columns))) width) in
-    absurd (subst T
-    (sym (turn .before .loop .inv .found (here turn)) ∙ sym follows ∙ not-true _ (c .if1 .taken)) tt)
-
-enter-requires : tie.Need-enter-requires Inv-loop μ-loop
-enter-requires c κs =
-    let met = c .before .before .before .before .before in
-    let turn = met .before .before in
-    let s = start turn .pre in
-    let connectable = s .searchable .connectable in
-    record {
-      connectable = connectable;
-      underway = turn .before .loop .inv .underway;
-      listed = here turn;
-      shaped =
-          follower-width (connectable .usable) (s .shaped) (here turn) (met .before .matrix-of .ensures)
-          (met .meet .ensures);
-    }
-
-enum-known-step : tie.Need-enum-known-step Inv-loop μ-loop
-enum-known-step c = search needs
-
-enum-known-step-2 : tie.Need-enum-known-step-2 Inv-loop μ-loop
-enum-known-step-2 c = search needs
-
-same-length-4 : tie.Need-same-length-4 Inv-loop μ-loop
-same-length-4 c = search needs
-
-same-length-5 : tie.Need-same-length-5 Inv-loop μ-loop
-same-length-5 c = search needs
-
-same-length-6 : tie.Need-same-length-6 Inv-loop μ-loop
-same-length-6 c = search needs
-
-returns-2 : tie.Need-returns-2 Inv-loop μ-loop
-returns-2 c =
     let call = called (c .before .before .before) in
     let turn = inside call in
     followed-stop (turn .before .loop .inv) (here turn) (matrix (entered call)) (call .enter .ensures)
@@ -196,17 +172,17 @@ loop-again c =
     (narrow (start turn .pre .searchable .connectable .usable)) (c .before .before .step .given .1)
     (c .next-follower2 .ensures)
 
-same-length-7 : tie.Need-same-length-7 Inv-loop μ-loop
-same-length-7 c = search needs
+same-length-4 : tie.Need-same-length-4 Inv-loop μ-loop
+same-length-4 c = search needs
 
-same-length-8 : tie.Need-same-length-8 Inv-loop μ-loop
-same-length-8 c = search needs
+same-length-5 : tie.Need-same-length-5 Inv-loop μ-loop
+same-length-5 c = search needs
 
-same-length-9 : tie.Need-same-length-9 Inv-loop μ-loop
-same-length-9 c = search needs
+same-length-6 : tie.Need-same-length-6 Inv-loop μ-loop
+same-length-6 c = search needs
 
-returns-3 : tie.Need-returns-3 Inv-loop μ-loop
-returns-3 c =
+returns-2 : tie.Need-returns-2 Inv-loop μ-loop
+returns-2 c =
     followed-end (c .before .loop .inv)
     (omega (arith, c .loop-test .left, counted (c .before .before .before .before .before)))
 
@@ -225,23 +201,18 @@ follow-spec =
     loop-holds
     matrix-of-requires
     meet-requires
-    valid-requires
+    enter-requires
+    enum-known-step
+    enum-known-step-2
     same-length
     same-length-2
     same-length-3
     returns
-    enter-requires
-    enum-known-step
-    enum-known-step-2
-    same-length-4
-    same-length-5
-    same-length-6
-    returns-2
     add-next-follower
     next-follower-requires-2
     loop-less
     loop-again
-    same-length-7
-    same-length-8
-    same-length-9
-    returns-3)
+    same-length-4
+    same-length-5
+    same-length-6
+    returns-2)

@@ -1,8 +1,10 @@
 -- `searching::is_follower` meets its contract: where the centre has the phone, the meet is tried.
-use mathlib.Core.Path.{refl, sym}
+use mathlib.Core.Path.{_≡_, sym}
+use Prim.Native.Nat.{_+_, _*_}
 use native.Mathlib.Omega.{arith}
 use borrow.Author.Needs.{needs}
 use Rattle.definitions.specs.laws.lists.Tests.{failed}
+use Rattle.matrix.specs.Shapes.{widthOf}
 use Rattle.index.specs.laws.RecordWords.{is-listed, has-phone}
 use Rattle.index.specs.laws.Followers.{narrow, not-following, following-valid}
 use Rattle.index.proofs.searching.is_follower.Statement.{statement}
@@ -35,15 +37,31 @@ returns c =
     sym (not-following (tried .usable) (tried .shaped) (tried .listed) (known .phone-of .ensures)
     (known .before .before .wide .ensures) (failed (tested .has-phone .ensures) (c .if1 .taken)))
 
+-- where the matrices meet
+abbrev start : tie.Else1 → tie.Start
+start c = c .before .before .before .before .before .before
+
+matrix-of-requires : tie.Need-matrix-of-requires
+matrix-of-requires c κs = let tried = start c .pre in is-listed _ _ (tried .usable) _ (tried .listed)
+
+mul-meets : tie.Need-mul-meets
+mul-meets c = search needs
+
+add-meets : tie.Need-add-meets
+add-meets c = search needs
+
 meets-requires : tie.Need-meets-requires
-meets-requires c κs =
-    let tried = c .before .before .before .before .before .before .pre in
-    (is-listed _ _ (tried .usable) _ (tried .listed), narrow (tried .usable))
+meets-requires c κs = omega arith
 
 returns-2 : tie.Need-returns-2
 returns-2 c =
-    let tried = c .before .before .before .before .before .before .before .pre in
-    following-valid (tried .usable) (tried .shaped) (tried .listed) refl refl refl (c .meets .ensures)
+    let own = c .before in
+    let tried = start (own .before) .pre in
+    let wide = own .before .before .before .before .before .wide in
+    let width : 2 * wide .result + 1 ≡ widthOf (start (own .before) .args .header .half) =
+    omega (arith, wide .ensures) in
+    following-valid (tried .usable) (tried .shaped) (tried .listed) (own .matrix-of .ensures) width
+    (c .meets .ensures)
 
 pub is-follower-spec : {M : Type 1} → statement M
 is-follower-spec =
@@ -55,5 +73,8 @@ is-follower-spec =
     phone-of-requires
     has-phone-requires
     returns
+    matrix-of-requires
+    mul-meets
+    add-meets
     meets-requires
     returns-2)

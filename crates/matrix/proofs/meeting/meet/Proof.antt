@@ -1,39 +1,76 @@
--- `meeting::meet` meets its contract. The loop's invariant: the columns before `c` are those of the meet.
-use mathlib.Core.Path.{_≡_, sym}
+-- `meeting::meet` meets its contract. The loop's invariant: the columns before `c` were met, and none is empty.
+use mathlib.Core.Path.{_≡_, sym, _∙_}
 use Prim.Native.Nat.{_-_}
-use lib.ListN.{length}
+use native.Mathlib.Omega.{arith}
+use lib.ListN.{length, take, length-take}
 use borrow.Author.Needs.{needs}
-use Rattle.definitions.specs.Matrices.{meet}
-use Rattle.definitions.specs.laws.matrices.Matrices.{meet-column}
-use Rattle.lines.specs.laws.Filling.{filled-start}
-use Rattle.matrix.specs.laws.Columns.{meet-sized}
-use Rattle.matrix.specs.laws.Words.{Columns, columns-more, columns-end}
+use Rattle.definitions.specs.Meeting.{columnsMet, metWords}
+use Rattle.matrix.specs.laws.Meeting.{Meeting, meeting-start, meeting-more, meeting-empty, meeting-last}
 use Rattle.matrix.proofs.meeting.meet.Statement.{statement}
 use Rattle.matrix.proofs.meeting.meet.Tie as tie
 
 abbrev Inv-loop : tie.InvT-loop
-Inv-loop a b columns₀ c₀ columns c = Columns (meet (a .columns) (b .columns)) c columns
+Inv-loop width a b columns₀ c₀ columns c = Meeting (a .columns) (b .columns) width c columns
 
 abbrev μ-loop : tie.MeasureT-loop
-μ-loop a b columns₀ c₀ columns c = 7 - c
+μ-loop width a b columns₀ c₀ columns c = 7 - c
+
+-- both matrices have seven words
+seven : (c : tie.Start Inv-loop μ-loop) → length (c .args .t1 .columns) ≡ 7
+seven c = search needs
+
+same : (c : tie.Start Inv-loop μ-loop) → length (c .args .t2 .columns) ≡ length (c .args .t1 .columns)
+same c = let other : length (c .args .t2 .columns) ≡ 7 = search needs in other ∙ sym (seven c)
 
 loop-holds : tie.Need-loop-holds Inv-loop μ-loop
-loop-holds c = filled-start _ _
+loop-holds c = meeting-start _ _ _
+
+-- the columns that were met are all
+ended : (c : tie.At-loop Inv-loop μ-loop)
+    → length (take (c .before .args .width) (c .before .args .t1 .columns)) ≡ c .loop .c
+    → (c .loop .columns ≡ metWords (take (c .before .args .width) (c .before .args .t1 .columns))
+    (take (c .before .args .width) (c .before .args .t2 .columns)))
+    × (c .loop .c ≡ columnsMet (take (c .before .args .width) (c .before .args .t1 .columns))
+    (take (c .before .args .width) (c .before .args .t2 .columns)))
+ended c = meeting-last (c .loop .inv) (seven (c .before)) (same (c .before))
+
+returns : tie.Need-returns Inv-loop μ-loop
+returns c =
+    let head = c .before .before in
+    let inv = head .loop .inv in
+    ended head (rw length-take (omega (arith, c .if1 .taken, seven (head .before), inv .within, inv .written .within)))
+
+mul-both : tie.Need-mul-both Inv-loop μ-loop
+mul-both c = search needs
+
+element-copy-out-both : tie.Need-element-copy-out-both Inv-loop μ-loop
+element-copy-out-both c = search needs
+
+mul-both-2 : tie.Need-mul-both-2 Inv-loop μ-loop
+mul-both-2 c = search needs
+
+element-copy-out-both-2 : tie.Need-element-copy-out-both-2 Inv-loop μ-loop
+element-copy-out-both-2 c = search needs
+
+add-t22 : tie.Need-add-t22 Inv-loop μ-loop
+add-t22 c = search needs
+
+-- where a column is met, and the loop that it is met in
+abbrev turn : tie.After-both2 Inv-loop μ-loop → tie.Else1 Inv-loop μ-loop
+turn c = c .before .before
+
+abbrev head : tie.After-both2 Inv-loop μ-loop → tie.At-loop Inv-loop μ-loop
+head c = turn c .before .before
+
+returns-2 : tie.Need-returns-2 Inv-loop μ-loop
+returns-2 c =
+    let start = head (c .before) .before in
+    let here = turn (c .before) in
+    meeting-empty (head (c .before) .loop .inv) (seven start) (same start) (here .if1 .left)
+    (here .before .loop-test .taken) (c .if2 .taken)
 
 mul-columns : tie.Need-mul-columns Inv-loop μ-loop
 mul-columns c = search needs
-
-element-copy-out-columns : tie.Need-element-copy-out-columns Inv-loop μ-loop
-element-copy-out-columns c = search needs
-
-mul-columns-2 : tie.Need-mul-columns-2 Inv-loop μ-loop
-mul-columns-2 c = search needs
-
-element-copy-out-columns-2 : tie.Need-element-copy-out-columns-2 Inv-loop μ-loop
-element-copy-out-columns-2 c = search needs
-
-mul-columns-3 : tie.Need-mul-columns-3 Inv-loop μ-loop
-mul-columns-3 c = search needs
 
 array-write-columns : tie.Need-array-write-columns Inv-loop μ-loop
 array-write-columns c = search needs
@@ -46,18 +83,16 @@ loop-less c = search needs
 
 loop-again : tie.Need-loop-again Inv-loop μ-loop
 loop-again c =
-    let turn = c .before .before .before in
-    let a = turn .before .args .t1 .columns in
-    let b = turn .before .args .t2 .columns in
-    let sized : length (meet a b) ≡ 7 = meet-sized 7 a b (search needs) (search needs) in
-    columns-more sized (turn .loop .inv) (search needs) (sym (meet-column a b (turn .loop .c)))
+    let start = head (c .before) .before in
+    let here = turn (c .before) in
+    meeting-more (head (c .before) .loop .inv) (seven start) (same start) (here .if1 .left)
+    (here .before .loop-test .taken) (c .if2 .left)
 
-returns : tie.Need-returns Inv-loop μ-loop
-returns c =
-    let a = c .before .before .args .t1 .columns in
-    let b = c .before .before .args .t2 .columns in
-    let sized : length (meet a b) ≡ 7 = meet-sized 7 a b (search needs) (search needs) in
-    columns-end sized (c .before .loop .inv) (search needs)
+returns-3 : tie.Need-returns-3 Inv-loop μ-loop
+returns-3 c =
+    let inv = c .before .loop .inv in
+    ended (c .before) (rw length-take
+    (omega (arith, c .loop-test .left, seven (c .before .before), inv .within, inv .written .within)))
 
 pub meet-spec : {M : Type 1} → statement M
 meet-spec =
@@ -66,13 +101,16 @@ meet-spec =
     Inv-loop
     μ-loop
     loop-holds
+    returns
+    mul-both
+    element-copy-out-both
+    mul-both-2
+    element-copy-out-both-2
+    add-t22
+    returns-2
     mul-columns
-    element-copy-out-columns
-    mul-columns-2
-    element-copy-out-columns-2
-    mul-columns-3
     array-write-columns
     add-c
     loop-less
     loop-again
-    returns)
+    returns-3)
