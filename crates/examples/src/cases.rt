@@ -1,7 +1,7 @@
 // One book: what reading answers and leaves, and then its trees and its network.
-use crate::networks::show_whole;
 use book::Reading;
 use book::reader::read;
+use builds::networks::show_whole;
 use definitions::Header;
 use lookups::answers::print_cleared;
 use lookups::foreign::show_foreign;

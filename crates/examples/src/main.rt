@@ -1,13 +1,11 @@
-// Reads each tree book of standard input, prints what reading answered and left, puts the trees of accepted books to work and builds
-// their networks.
-// A book stands below its title, a line that begins with '='; it ends where the next title begins. Of a book whose title
-// begins with '=+' only the tables and the network are shown.
+// Reads each tree book of standard input, prints what reading answered and left, puts the trees of accepted books to
+// work and builds their networks. A book stands below its title, a line that begins with '='; it ends where the next
+// title begins. Of a book whose title begins with '=+' only the tables and the network are shown.
 
 mod cases;
-mod networks;
 
+use builds::networks::show_sizes;
 use cases::show_case;
-use networks::show_sizes;
 use showing::titles::end_of;
 use showing::titles::text_of;
 use showing::titles::title_of;

@@ -1,8 +1,8 @@
 -- `show_states` counts to the seventh state, and ends.
 use Prim.Native.Nat.{_-_, _≤_}
 use borrow.Author.Needs.{needs}
-use Rattle.examples.proofs.networks.show_states.Statement.{statement}
-use Rattle.examples.proofs.networks.show_states.Tie as tie
+use Rattle.builds.proofs.networks.show_states.Statement.{statement}
+use Rattle.builds.proofs.networks.show_states.Tie as tie
 
 abbrev Inv-loop : tie.InvT-loop
 Inv-loop arcs counts state₀ state = state ≤ 7

@@ -1,0 +1,2 @@
+// Builds of a book, printed for the example programs.
+pub mod networks;
