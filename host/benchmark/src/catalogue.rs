@@ -1,7 +1,8 @@
 //! The books that are measured. Those that are built stay within 65535 metastates and 999999 arcs.
 
+use plain::books::boundaries::all_like_silence;
 use plain::books::ceilings::{deepest_tree, deepest_tree_of_no, most_classes};
-use plain::books::recipes::{grown, question_free, resolving, Grown};
+use plain::books::recipes::{apart, grown, question_free, resolving, Grown};
 use plain::books::respelling::respelled;
 use plain::books::Book;
 use plain::random::Random;
@@ -18,6 +19,7 @@ pub fn catalogue() -> Vec<Measured> {
     add_wider(&mut books);
     add_question_free(&mut books);
     add_products(&mut books);
+    add_apart(&mut books);
     add_growing(&mut books);
     books
 }
@@ -77,6 +79,15 @@ fn add_question_free(books: &mut Vec<Measured>) {
 fn add_products(books: &mut Vec<Measured>) {
     add(books, "books of many combinations", "left-right-31".into(), resolving(1, 3, 31, &[0, 2]));
     add(books, "books of many combinations", "left-left-31".into(), resolving(2, 3, 31, &[0, 1]));
+}
+
+/// Of the leaves of two trees each meets one alone; with every other it has an empty column: the first or second of
+/// five, the first of three, the last of three. In the first book all phones take silence's trees.
+fn add_apart(books: &mut Vec<Measured>) {
+    let kind = "books whose leaf pairs have nothing in common";
+    add(books, kind, "apart-left-26".into(), all_like_silence(apart(2, 3, 26, &[0, 1]), false));
+    add(books, kind, "apart-own-25".into(), apart(1, 3, 25, &[0]));
+    add(books, kind, "apart-right-25".into(), apart(1, 3, 25, &[2]));
 }
 
 /// The same recipes with more and more phones: arcs about double from one to the next.

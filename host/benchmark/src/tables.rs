@@ -9,7 +9,7 @@ use std::time::Duration;
 type Column = (&'static str, usize);
 
 const SPEED: [Column; 12] = [
-    ("book", 13),
+    ("book", 14),
     ("n", 1),
     ("k", 1),
     ("phones", 6),
@@ -24,7 +24,7 @@ const SPEED: [Column; 12] = [
 ];
 
 const PARTS: [Column; 12] = [
-    ("book", 13),
+    ("book", 14),
     ("clearing: proved ms", 19),
     ("plain ms", 8),
     ("combining: proved ms", 20),

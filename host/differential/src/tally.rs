@@ -30,11 +30,11 @@ impl Tally {
     }
 
     pub fn print(&self) {
-        println!("{:12} {:>7} {:>11}  answers by fault number, 0 being none", "entry", "cases", "differences");
+        println!("{:16} {:>7} {:>11}  answers by fault number, 0 being none", "entry", "cases", "differences");
         for (name, Entry { differences, answers }) in &self.entries {
             let cases: usize = answers.values().sum();
             let list: Vec<String> = answers.iter().map(|(fault, count)| format!("{fault}: {count}")).collect();
-            println!("{name:12} {cases:>7} {differences:>11}  {}", list.join(", "));
+            println!("{name:16} {cases:>7} {differences:>11}  {}", list.join(", "));
         }
     }
 }

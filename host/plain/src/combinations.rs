@@ -76,7 +76,7 @@ fn extend(
     for (leaf, matrix) in leaves {
         let mut longer = begun.clone();
         longer.leaves.push(*leaf);
-        longer.matrix = meet(&begun.matrix, matrix);
+        longer.matrix = meet(&begun.matrix, matrix).matrix;
         if is_valid(&longer.matrix) {
             extend(found, longer, further, room)?;
         }

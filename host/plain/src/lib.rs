@@ -14,7 +14,7 @@ mod in_force;
 mod leaving;
 pub mod limits;
 mod lines;
-mod matrix;
+pub mod matrix;
 mod network;
 mod network_text;
 mod plain_form;

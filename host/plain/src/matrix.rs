@@ -16,8 +16,25 @@ pub fn root_matrix(header: Header, phone: u32) -> Matrix {
     matrix
 }
 
-pub fn meet(one: &Matrix, other: &Matrix) -> Matrix {
-    one.iter().zip(other).map(|(column, another)| column & another).collect()
+/// What the meeting of two matrices gives.
+#[derive(Debug, PartialEq, Eq)]
+pub struct Meeting {
+    /// What the columns have in common; all columns are empty where one is.
+    pub matrix: Matrix,
+    /// How many columns were met, the empty one counted.
+    pub columns: usize,
+}
+
+/// From column 0 up, to the first empty column or the last.
+pub fn meet(one: &Matrix, other: &Matrix) -> Meeting {
+    let mut matrix = Vec::new();
+    for (column, another) in one.iter().zip(other) {
+        matrix.push(column & another);
+        if column & another == 0 {
+            return Meeting { columns: matrix.len(), matrix: vec![0; one.len()] };
+        }
+    }
+    Meeting { columns: matrix.len(), matrix }
 }
 
 /// No column is empty.

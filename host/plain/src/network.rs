@@ -99,7 +99,7 @@ impl Network<'_> {
         }
         let shifted = shift(self.header, &matrix);
         for follower in 0..self.combinations.len() {
-            let met = meet(&shifted, &self.combinations[follower].matrix);
+            let met = meet(&shifted, &self.combinations[follower].matrix).matrix;
             if is_valid(&met) {
                 self.enter(last, (follower, met))?;
             }

@@ -75,7 +75,12 @@ fn need_of(random: &mut Random, tables: &OwnTables, room: Room) -> (usize, Count
 }
 
 pub fn build_case(random: &mut Random) -> Box<dyn Case> {
-    let mut tables = OwnTables::known(random);
+    let tables = OwnTables::known(random);
+    build_case_of(random, tables)
+}
+
+/// From these tables, or from them with a change.
+pub fn build_case_of(random: &mut Random, mut tables: OwnTables) -> Box<dyn Case> {
     let (room, turn_limit) = room_and_turns(random, &tables);
     if random.percent(20) {
         tables.change(random);
@@ -86,6 +91,11 @@ pub fn build_case(random: &mut Random) -> Box<dyn Case> {
 pub fn build_book_case(random: &mut Random) -> Box<dyn Case> {
     let damaged = random.percent(40);
     let book = BookText::new(random, damaged);
+    build_book_case_of(random, book)
+}
+
+/// From this text, with any room where it is refused.
+pub fn build_book_case_of(random: &mut Random, book: BookText) -> Box<dyn Case> {
     let tables = OwnTables::known(random);
     let (room, turn_limit) = match OwnTables::read(&book.text) {
         Some(own) => room_and_turns(random, &own),

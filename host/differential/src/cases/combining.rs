@@ -14,7 +14,12 @@ pub struct Combining {
 }
 
 pub fn case(random: &mut Random) -> Box<dyn Case> {
-    let mut tables = OwnTables::known(random);
+    let tables = OwnTables::known(random);
+    case_of(random, tables)
+}
+
+/// From these tables, or from them with a change.
+pub fn case_of(random: &mut Random, mut tables: OwnTables) -> Box<dyn Case> {
     let mut space = vec![0; COMBINATION * 1000];
     let need = plain::fast::combine(tables.header, tables.tables(), &mut space).count;
     let words = around(random, need, COMBINATION);

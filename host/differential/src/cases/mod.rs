@@ -1,5 +1,6 @@
 //! Cases: for each entry, random input and lent lengths; and fixed ones.
 
+mod apart;
 mod arcs;
 mod building;
 mod ceilings;
@@ -37,16 +38,17 @@ pub trait Case {
 type Maker = fn(&mut Random) -> Box<dyn Case>;
 
 /// The kinds of case with their shares, which are a hundred in all.
-const MAKERS: [(usize, Maker); 13] = [
-    (21, reading::case),
-    (9, lookup::case),
+const MAKERS: [(usize, Maker); 14] = [
+    (19, reading::case),
+    (8, lookup::case),
     (9, transcription::case),
-    (8, combining::case),
-    (14, building::build_case),
-    (8, building::build_book_case),
+    (7, combining::case),
+    (12, building::build_case),
+    (7, building::build_book_case),
+    (8, apart::case),
     (6, arcs::leaving_case),
     (4, arcs::write_case),
-    (7, networks::case),
+    (6, networks::case),
     (2, round_trips::case),
     (6, writing_books::case),
     (4, spellings::case),

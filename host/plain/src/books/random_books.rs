@@ -1,13 +1,19 @@
-//! Random valid books of all widths and shapes, most of them small, many of them with boundary phones.
+//! Random valid books of all widths and shapes, most of them small, many of them with boundary phones, and some whose
+//! leaf pairs have nothing in common.
 
-use super::boundaries::with_boundaries;
+use super::boundaries::{all_like_silence, with_boundaries};
 use super::numbering::Ground;
+use super::recipes::apart;
+use super::respelling::respelled;
 use super::trees::{grow, Tree};
 use super::{all_phones, Book};
 use crate::limits::{MOST_CLASSES, MOST_NODES};
 use crate::random::Random;
 
 pub fn random_book(random: &mut Random) -> Book {
+    if random.percent(5) {
+        return random_apart(random);
+    }
     let half = random.between(0, 3) as u32;
     let states = random.between(1, 3) as u32;
     let phones = how_many(random, &[(60, 1, 4), (27, 5, 12), (10, 13, 40), (2, 41, 63), (1, 64, 64)]) as u32;
@@ -21,6 +27,27 @@ pub fn random_book(random: &mut Random) -> Book {
     };
     match random.percent(40) {
         true => with_boundaries(book, random),
+        false => book,
+    }
+}
+
+/// A small book in which of the leaves of two trees each has something in common with one alone, or with none.
+/// Trees have 64 leaves at most.
+pub fn random_apart(random: &mut Random) -> Book {
+    let half = random.between(0, 3) as u32;
+    let states = random.between(1, 3) as u32;
+    let phones = random.between(1, 6) as u32;
+    let most_positions = if phones > 4 { 2 } else { 3 };
+    let position = |random: &mut Random| random.below(2 * half as usize + 1) as u32;
+    let positions: Vec<u32> = (0..random.between(1, most_positions)).map(|_| position(random)).collect();
+    let mut book = apart(half, states, phones, &positions);
+    book = match random.below(3) {
+        0 => all_like_silence(book, random.percent(30)),
+        1 => with_boundaries(book, random),
+        _ => book,
+    };
+    match random.percent(50) {
+        true => respelled(&book, random),
         false => book,
     }
 }

@@ -1,7 +1,7 @@
 //! Books by recipe, for measuring: the same numbers and seed always give the same book.
 
 use super::numbering::Ground;
-use super::trees::{grow, halving_classes, resolve, Tree};
+use super::trees::{grow, halving_classes, resolve, resolve_all, Tree};
 use super::{all_phones, Book};
 use crate::random::Random;
 
@@ -53,5 +53,14 @@ pub fn resolving(half: u32, states: u32, phones: u32, positions: &[u32]) -> Book
         None => Tree::Leaf,
     };
     let trees: Vec<Tree> = (0..phones).flat_map(|_| (0..states).map(tree)).collect();
+    Ground { half, states, phones, classes }.plant(&trees)
+}
+
+/// All trees ask about the same positions, one after the other, each until the phone there is known. Of the leaves of
+/// two trees each has something in common with one alone; with every other it has an empty column.
+pub fn apart(half: u32, states: u32, phones: u32, positions: &[u32]) -> Book {
+    let mut classes = Vec::new();
+    halving_classes(1, phones + 1, &mut classes);
+    let trees = vec![resolve_all(positions, phones); (phones * states) as usize];
     Ground { half, states, phones, classes }.plant(&trees)
 }

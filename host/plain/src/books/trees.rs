@@ -19,6 +19,16 @@ impl Tree {
             Tree::Question { yes, no, .. } => 1 + yes.nodes() + no.nodes(),
         }
     }
+
+    /// The same questions with another tree in the place of each leaf.
+    fn above(&self, below: &Tree) -> Tree {
+        match self {
+            Tree::Leaf => below.clone(),
+            Tree::Question { class, position, yes, no } => {
+                Tree::ask(*class, *position, yes.above(below), no.above(below))
+            }
+        }
+    }
 }
 
 /// A tree of this many leaves, or fewer where questions run out: each question is about one of the positions and parts
@@ -69,6 +79,12 @@ pub fn resolve(position: u32, low: u32, high: u32, next_class: &mut u32) -> Tree
     let yes = resolve(position, low, middle, next_class);
     let no = resolve(position, middle, high, next_class);
     Tree::ask(class, position, yes, no)
+}
+
+/// Asks about these positions one after the other, each until the phone there is known, by the same classes.
+pub fn resolve_all(positions: &[u32], phones: u32) -> Tree {
+    let resolved = |below: Tree, &position: &u32| resolve(position, 1, phones + 1, &mut 1).above(&below);
+    positions.iter().rev().fold(Tree::Leaf, resolved)
 }
 
 /// The classes that `resolve` asks about, in its order: for each range of phones its lower half.
