@@ -1,4 +1,4 @@
--- Document 01, "Fault numbers", with 21 of document 02: each fault's number, and how tests in a fixed order
+-- Document 01, "Fault numbers", with 21 and 51 of document 02: each fault's number, and how tests in a fixed order
 -- give an answer or a refusal.
 use mathlib.Core.List.{List, [], _∷_}
 use mathlib.Core.Bool.{Bool}
@@ -8,11 +8,12 @@ use Rattle.definitions.specs.declared.Fault.the-variants.{Ragged, Mispri
 use Rattle.definitions.specs.declared.Fault.the-variants.{Orphan, Count}
 use Rattle.definitions.specs.declared.Fault.the-variants.{Foreign, Narrow, Chained, Long, Choices, Crowd}
 use Rattle.definitions.specs.declared.Fault.the-variants.{Tangle, Short}
-use Rattle.definitions.specs.declared.Fault.the-variants.{Utterance, State}
+use Rattle.definitions.specs.declared.Fault.the-variants.{Utterance, State, Vocabulary}
 use Rattle.definitions.specs.declared.Refusal.{Refusal}
 use Rattle.definitions.specs.Lists.{if_then_else_, cleared, padded}
 
--- the table of document 01, and "Number 21 refuses a plain phone that is itself a boundary phone in the book"
+-- the table of document 01, "Number 21 refuses a plain phone that is itself a boundary phone in the book", and "51,
+-- with line 0, refuses more words than the lent table holds"
 abbrev pub numberOf : Fault → ℕ
 numberOf Ragged = 11
 numberOf Misprint = 12
@@ -31,6 +32,7 @@ numberOf Tangle = 32
 numberOf Short = 33
 numberOf Utterance = 41
 numberOf State = 42
+numberOf Vocabulary = 51
 
 -- what an entry gives: its answer, or a refusal with its fault and line
 pub data Outcome (A : Type 0) : Type 0 where

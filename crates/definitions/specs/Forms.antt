@@ -1,4 +1,5 @@
--- Document 01, "Tree book" and "Connecting": the constant table of each letter, which its lines are read by.
+-- Document 01, "Tree book" and "Connecting", and document 02, P2 and P4: the constant table of each letter, which
+-- its lines are read by.
 use mathlib.Core.List.{List, [], _∷_}
 use Prim.Native.Nat.{ℕ}
 use Prim.Native.Char.{Char, code}
@@ -54,20 +55,38 @@ formW = form "W" (1 ‥ 3 ∷ 1 ‥ 65535 ∷ 1 ‥ 999999 ∷ [])
 abbrev pub formA : Form
 formA = form "A" (0 ‥ 196606 ∷ 0 ‥ 196606 ∷ 0 ‥ 65535 ∷ 0 ‥ 64 ∷ [])
 
--- the letters that a tree book has, and those that network text has
+-- The letter of a word book, by document 02: "`V` lines: word, place, phone. Words 1..9999 and places 1..64 ..;
+-- phones run to 64."
+abbrev pub formV : Form
+formV = form "V" (1 ‥ 9999 ∷ 1 ‥ 64 ∷ 1 ‥ 64 ∷ [])
+
+-- the letters that a tree book has, those that network text has, and the one that a word book has
 abbrev pub bookForms : List Form
 bookForms = formH ∷ formQ ∷ formN ∷ formL ∷ formB ∷ formR ∷ []
 
 abbrev pub networkForms : List Form
 networkForms = formW ∷ formA ∷ []
 
--- some of these numbers by name: how many nodes a book has at most, the greatest model, and the greatest number that a
--- field of six digits holds
+abbrev pub wordForms : List Form
+wordForms = formV ∷ []
+
+-- some of these numbers by name: how many nodes a book has at most, the greatest model, how many words a word book has
+-- at most, the greatest phone, how many phones a word has at most, and the greatest number that a field of six digits
+-- holds
 abbrev pub mostNodes : ℕ
 mostNodes = 4096
 
 abbrev pub mostModel : ℕ
 mostModel = 65535
+
+abbrev pub mostWords : ℕ
+mostWords = 9999
+
+abbrev pub mostPhone : ℕ
+mostPhone = 64
+
+abbrev pub mostPlaces : ℕ
+mostPlaces = 64
 
 abbrev pub mostNumber : ℕ
 mostNumber = 999999

@@ -31,9 +31,12 @@ pub mod Program
 pub mod BookText
 pub mod PlainForm
 pub mod Meeting
+pub mod WordBooks
+pub mod Joining
 pub mod laws
 pub mod examples
 pub mod construction
 pub mod graph
 pub mod demand
 pub mod spelling
+pub mod joined

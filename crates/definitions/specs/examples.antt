@@ -9,3 +9,5 @@ pub mod Applied
 pub mod Spellings
 pub mod Boundaries
 pub mod Meetings
+pub mod WordBooks
+pub mod Joining

@@ -6,3 +6,4 @@ pub mod matrices
 pub mod books
 pub mod trees
 pub mod networks
+pub mod words

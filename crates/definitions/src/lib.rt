@@ -12,6 +12,11 @@ pub const ARC_SIZE: usize = 4;
 
 pub const MOST_COLUMNS: usize = 7;
 
+// A word of a word book: its length and its phones. A joined state: network state, word, mark.
+pub const WORD_SIZE: usize = 65;
+
+pub const JOINED_SIZE: usize = 3;
+
 // How many nodes a book has at most; how many combinations, metastates and arcs.
 pub const MOST_NODES: usize = 4096;
 
@@ -24,7 +29,14 @@ pub const MOST_METASTATES: usize = 65535;
 
 pub const MOST_ARCS: usize = 999999;
 
-// The greatest model, and the greatest number of a field: six digits.
+// How many words a word book has at most, and how many joined states there are.
+pub const MOST_WORDS: usize = 9999;
+
+pub const MOST_JOINED: usize = 65535;
+
+// The greatest phone, the greatest model, and the greatest number of a field: six digits.
+pub const MOST_PHONE: u32 = 64;
+
 pub const MOST_MODEL: u32 = 65535;
 
 pub const MOST_NUMBER: u32 = 999999;
@@ -81,6 +93,7 @@ pub enum Fault {
     Short,
     Utterance,
     State,
+    Vocabulary,
 }
 
 // A fault and the line it was met at, 0 where no line is meant.
@@ -89,7 +102,7 @@ pub struct Refusal {
     pub line: usize,
 }
 
-// The number that document 01 gives to a fault.
+// The number that the documents give to a fault.
 pub fn number(fault: Fault) -> u32
     ensures { λ r. ⌜ r ≡ numberOf fault ⌝ }
 {
@@ -111,6 +124,7 @@ pub fn number(fault: Fault) -> u32
         Fault::Short => 33,
         Fault::Utterance => 41,
         Fault::State => 42,
+        Fault::Vocabulary => 51,
     }
 }
 

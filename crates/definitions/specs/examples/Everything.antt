@@ -59,6 +59,12 @@ use Rattle.definitions.specs.PlainForm.{treeBelow, treesOf, setsIn, firs
 use Rattle.definitions.specs.PlainForm.{nodesFrom, allNodes, rootsFrom, treesThere, numbered}
 use Rattle.definitions.specs.PlainForm.{plainContents, headerFor, plainLines, plainText, writePlain}
 use Rattle.definitions.specs.Meeting.{columnsMet, metWords}
+use Rattle.definitions.specs.WordBooks.{wordLine, lastLine, comesNext, wordCount, phonesSaid, wordsOf}
+use Rattle.definitions.specs.WordBooks.{wordWords, wordKind, readWords, wordsLeft, wordIn, wordsIn}
+use Rattle.definitions.specs.WordBooks.{wordKnown, wordsKnown}
+use Rattle.definitions.specs.Joining.{isWord, spoken, spokenTo, opening, between, within, outside, steps}
+use Rattle.definitions.specs.Joining.{joinedWords, sameJoined, mayEnter, movesAlong, moves, joining}
+use Rattle.definitions.specs.Joining.{joinIn, joinRoom, join, joinLeft}
 
 unfoldable pub everything : Unit {0}
 unfolding every atLeastOne firstWhere mapOption select lastPasses concatMap upFrom occurrences same records
@@ -88,5 +94,8 @@ unfolding every atLeastOne firstWhere mapOption select lastPasses concatMap upFr
     rootsFrom treesThere numbered plainContents headerFor plainLines plainText writePlain boundaryIn
     boundariesOf isBoundary plainFor plainGiven plainWords nextPlace rootFor rootGiven rootWords leftOut
     leftOutTo bookEnough plainsPlain isChained judgeBook rootsOfPhone phoneKnown rootsKnown plainKnown
-    plainsKnown plainTableKnown treePhone rootsInForce treesPhone columnsMet metWords
+    plainsKnown plainTableKnown treePhone rootsInForce treesPhone columnsMet metWords wordLine lastLine
+    comesNext wordCount phonesSaid wordsOf wordWords wordKind readWords wordsLeft wordIn wordsIn wordKnown
+    wordsKnown isWord spoken spokenTo opening between within outside steps joinedWords sameJoined mayEnter
+    movesAlong moves joining joinIn joinRoom join joinLeft
 everything = tt

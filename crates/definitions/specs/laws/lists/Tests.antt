@@ -46,6 +46,16 @@ between low n high =
       λ (a, b). test .1 (le→leb low n a, le→leb n high b),
     )
 
+-- and two tests more
+pub between-and : (low n high : ℕ) (a b : Bool)
+    → T (leb low n && leb n high && a && b) ↔ (((low ≤ n) × (n ≤ high)) × T a × T b)
+between-and low n high a b =
+    let range = between low n high in
+    let parts = T-three (leb low n && leb n high) a b in (
+      λ h. let (inside, first, second) = parts .0 h in (range .0 inside, first, second),
+      λ (inside, first, second). parts .1 (range .1 inside, first, second),
+    )
+
 -- by whether a test holds
 pub by-test : {P : Type 0} (b : Bool) → (b ≡ true → P) → (b ≡ false → P) → P
 by-test true yes-case no-case = yes-case refl

@@ -14,7 +14,7 @@ use borrow.Author.Tests.{lt-ltb, le-ltb, ltb-true, ltb-false}
 use Rattle.definitions.specs.declared.Fault.{Fault}
 use Rattle.definitions.specs.declared.Fault.the-variants.{Ragged, Misprint, Range, Order, Backward}
 use Rattle.definitions.specs.declared.Fault.the-variants.{Orphan, Count, Foreign, Narrow, Long, Choices}
-use Rattle.definitions.specs.declared.Fault.the-variants.{Crowd, Tangle, Short, Utterance, State}
+use Rattle.definitions.specs.declared.Fault.the-variants.{Crowd, Tangle, Short, Utterance, State, Vocabulary}
 use Rattle.definitions.specs.declared.Refusal.{Refusal}
 use Rattle.definitions.specs.Lists.{every}
 use Rattle.definitions.specs.Faults.{numberOf}
@@ -55,8 +55,8 @@ program-read input =
 
 -- ---- the line of a refusal
 
--- a fault's number is at most 42, so it has room in a field
-pub fault-small : (fault : Fault) → numberOf fault ≤ 42
+-- a fault's number is at most 51, so it has room in a field
+pub fault-small : (fault : Fault) → numberOf fault ≤ 51
 fault-small Ragged = lit≤ tt
 fault-small Misprint = lit≤ tt
 fault-small Range = lit≤ tt
@@ -74,6 +74,7 @@ fault-small Tangle = lit≤ tt
 fault-small Short = lit≤ tt
 fault-small Utterance = lit≤ tt
 fault-small State = lit≤ tt
+fault-small Vocabulary = lit≤ tt
 
 pub refusal-length : (r : Refusal) → r .line ≤ 999999 → length (refusalText r) ≡ 32
 unfolding refusalText every

@@ -27,10 +27,11 @@ use Rattle.definitions.specs.Combinations.{combinations, combine}
 use Rattle.definitions.specs.Arcs.{Arc}
 use Rattle.definitions.specs.Growing.{Grown, Event, plain, enter, Machine, placeFrom, Room, addArc}
 use Rattle.definitions.specs.Growing.{addElement, addBoth, Done, finished, begun, perform, performAll}
-use Rattle.definitions.specs.Growing.{expand, turnsFrom, grow}
+use Rattle.definitions.specs.Growing.{grownIn, expand, turnsFrom, grow}
 use Rattle.definitions.specs.Connecting.{startEvents, arcInto, Built, machineOf}
 use Rattle.definitions.specs.Building.{Space, roomIn, build}
 use Rattle.definitions.specs.BookBuilding.{buildRead, buildBook}
+use Rattle.definitions.specs.Joining.{joining, joinIn}
 use Rattle.definitions.specs.laws.lists.Records.{records-length}
 use Rattle.definitions.specs.BookLines.{boundariesOf}
 use Rattle.definitions.specs.BookReading.{judgeBook, isChained}
@@ -219,6 +220,16 @@ build-line header tables space limit =
     steps-lines 0 (combine header tables (space .combinations)) _
     (judge-lines 0 0 _ (answered (combinations (tablesBook header tables))) (omega arith) tt)
     (λ found. grow-line (machineOf (tablesBook header tables) found) (roomIn (header .half) space) limit)
+
+-- the join, from arcs and words
+pub join-line : (arcs : List Arc) (words : List (List ℕ)) (room : Room) (r : Refusal)
+    → joinIn arcs words room ≡ refused r → r .line ≡ 0
+unfolding joinIn
+join-line arcs words room r e =
+    let grows =
+    steps-lines 0 (grow (joining arcs words) room (room .table)) (λ done. answered (grownIn done))
+    (grow-line (joining arcs words) room (room .table)) (λ done. tt) in
+    omega (arith, refused-line 0 (joinIn arcs words room) r (judge-lines 0 0 _ _ (omega arith) grows) e)
 
 -- ---- reading and building
 

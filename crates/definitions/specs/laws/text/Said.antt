@@ -9,7 +9,7 @@ use Rattle.definitions.specs.declared.Fault.the-variants.{Ragged, Mispri
 use Rattle.definitions.specs.declared.Fault.the-variants.{Orphan, Count}
 use Rattle.definitions.specs.declared.Fault.the-variants.{Foreign, Narrow, Chained, Long, Choices, Crowd}
 use Rattle.definitions.specs.declared.Fault.the-variants.{Tangle, Short}
-use Rattle.definitions.specs.declared.Fault.the-variants.{Utterance, State}
+use Rattle.definitions.specs.declared.Fault.the-variants.{Utterance, State, Vocabulary}
 use Rattle.definitions.specs.declared.Refusal.{Refusal}
 use Rattle.definitions.specs.Lists.{if_then_else_}
 use Rattle.definitions.specs.Faults.{numberOf}
@@ -19,10 +19,10 @@ use Rattle.definitions.specs.Said.{Said, refusalSaid}
 abbrev faults : List Fault
 faults =
     Ragged ∷ Misprint ∷ Range ∷ Order ∷ Backward ∷ Orphan ∷ Count ∷ Foreign ∷ Narrow ∷ Chained ∷ Long ∷ Choices ∷ Crowd
-    ∷ Tangle ∷ Short ∷ Utterance ∷ []
+    ∷ Tangle ∷ Short ∷ Utterance ∷ State ∷ []
 
 unfoldable pub faultIn : List Fault → (number : ℕ) → Fault
-faultIn [] number = State
+faultIn [] number = Vocabulary
 faultIn (fault ∷ more) number = if eqb (numberOf fault) number then fault else faultIn more number
 
 -- the answer that says so, by how an enum holds values and refusals
@@ -56,6 +56,7 @@ refusal-told answers refuses nothing r = go (r .fault) (r .line)
     go Short line = refl
     go Utterance line = refl
     go State line = refl
+    go Vocabulary line = refl
 
 -- two answers that say the same are the same, where each can be told from what it says
 pub said-same : {A E : Type 0} (said : E → Said A) (answers : A → E) (refuses : Refusal → E)
