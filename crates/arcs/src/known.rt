@@ -1,6 +1,8 @@
 // The test for foreign arcs (18): whether lent arcs, with their counts, are some that the network reader leaves.
 use definitions::ARC_SIZE;
 use definitions::Counts;
+use definitions::MOST_MODEL;
+use definitions::MOST_PHONE;
 use definitions::wide;
 use lines::Letters;
 use lines::Row;
@@ -11,8 +13,8 @@ ghost use mathlib.Core.Bool.{_&&_};
 ghost use mathlib.Core.List.{[], _∷_};
 ghost use Prim.Native.Nat.{_*_, _/_};
 ghost use lib.ListN.{length};
-ghost use Rattle.definitions.specs.Arcs.{arcSize, arcOf, arcsIn};
-ghost use Rattle.definitions.specs.Forms.{formW};
+ghost use Rattle.definitions.specs.Arcs.{arcSize, arcWords, arcOf, arcsIn};
+ghost use Rattle.definitions.specs.Forms.{formW, formA};
 ghost use Rattle.definitions.specs.Lines.{inRanges};
 ghost use Rattle.definitions.specs.Lists.{every};
 ghost use Rattle.definitions.specs.NetworkText.{isState, arcKnown, neverDescending, networkKnown};
@@ -44,25 +46,39 @@ pub fn is_state(counts: Counts, state: u32) -> bool
     wide(state) - 2 < states
 }
 
+// The greatest state that an A line names.
+const MOST_STATE: u32 = 196606;
+
+// Whether the four words of an arc lie in the fixed ranges of an A line. The ranges are written out, since every lent
+// arc is tested.
+fn arc_ranged(arc: &[u32]) -> bool
+    requires { ⌜ length (now arc) ≡ arcSize ⌝ }
+    ensures { λ r. ⌜ r ≡ inRanges (formA .fields) (arcWords (arcOf (now (arc .entry)))) ⌝ }
+{
+    if MOST_STATE < arc[0] {
+        return false;
+    }
+    if MOST_STATE < arc[1] {
+        return false;
+    }
+    if MOST_MODEL < arc[2] {
+        return false;
+    }
+    arc[3] <= MOST_PHONE
+}
+
 // Whether the four words of an arc are some that an A line leaves.
 fn arc_known(counts: Counts, arc: &[u32]) -> bool
     requires { ⌜ length (now arc) ≡ arcSize ⌝ }
     ensures { λ r. ⌜ r ≡ arcKnown counts (arcOf (now (arc .entry))) ⌝ }
 {
-    let from = arc[0];
-    let to = arc[1];
-    let row = Row {
-        letter: b'A',
-        used: 4,
-        numbers: [from, to, arc[2], arc[3], 0],
-    };
-    if !in_fixed_ranges(Letters::Network, row) {
+    if !arc_ranged(arc) {
         return false;
     }
-    if !is_state(counts, from) {
+    if !is_state(counts, arc[0]) {
         return false;
     }
-    is_state(counts, to)
+    is_state(counts, arc[1])
 }
 
 // Whether all arcs are such, and their sources never descend.

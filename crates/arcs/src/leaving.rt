@@ -22,7 +22,7 @@ ghost use Rattle.definitions.specs.Said.{saidOf, spanOf, noSpan};
 ghost use Rattle.arcs.specs.Standing.{standingSaid};
 
 // How many arcs have a source below a state, by bisection: sources never descend.
-fn arcs_below(arcs: &[u32], state: usize) -> usize
+pub fn arcs_below(arcs: &[u32], state: usize) -> usize
     requires { ⌜ T (neverDescending (arcsIn (length (now arcs) / arcSize) (now arcs))) ⌝ }
     ensures { λ r. ⌜
         r ≡ length (select (λ a. ltb (a .from) state)

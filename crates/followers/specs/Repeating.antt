@@ -15,10 +15,10 @@ use Rattle.definitions.specs.Metastates.{metastateSize}
 use Rattle.matrix.specs.Shapes.{shiftedWords}
 use Rattle.matrix.specs.Words.{firstSeven}
 use Rattle.index.specs.RecordWords.{recordOf}
-use Rattle.metastates.specs.declared.Sizes.{Sizes}
-use Rattle.metastates.specs.declared.Step.{Step}
-use Rattle.metastates.specs.declared.Step.the-variants as step
-use Rattle.metastates.specs.Networks.{arcRoom}
+use Rattle.growing.specs.declared.Sizes.{Sizes}
+use Rattle.growing.specs.declared.Step.{Step}
+use Rattle.growing.specs.declared.Step.the-variants as step
+use Rattle.growing.specs.Steps.{arcRoom}
 use Rattle.followers.specs.Spans.{copiesOf, SlotWithin, placeIn}
 
 -- the words of one copy, as the code reads them
@@ -61,7 +61,7 @@ pub record Repeated (sizes : Sizes) (first end from : ℕ) (arcs : List ℕ) (an
     : Type 0 where
   pub answers : answer
       ≡ (if leb (sizes .arcs + (end - first)) (arcRoom arcs)
-      then step.Next (record { metastates = sizes .metastates; arcs = sizes .arcs + (end - first) })
+      then step.Next (record { table = sizes .table; arcs = sizes .arcs + (end - first) })
       else step.Stop Tangle)
   pub words : arcs′
       ≡ (if leb (sizes .arcs + (end - first)) (arcRoom arcs)

@@ -11,9 +11,9 @@ use Rattle.definitions.specs.Faults.{Outcome, answered}
 use Rattle.matrix.specs.Shapes.{widthOf, matrixIn, HasWidth}
 use Rattle.index.specs.Combinations.{combinationsIn, nodesBook, Connectable}
 use Rattle.index.specs.Indexing.{Indexed}
-use Rattle.metastates.specs.declared.Sizes.{Sizes}
+use Rattle.growing.specs.declared.Sizes.{Sizes}
+use Rattle.growing.specs.declared.Step.{Step}
 use Rattle.metastates.specs.Networks.{networkHeld}
-use Rattle.metastates.specs.declared.Step.{Step}
 use Rattle.metastates.specs.Underway.{Underway}
 use Rattle.metastates.specs.Steps.{StepLeft}
 use Rattle.followers.specs.Spans.{spanSize, Spanned}
@@ -43,7 +43,7 @@ pub record BetweenTurns (header : Header) (nodes words index metastates arcs cha
 pub record Expandable (header : Header) (nodes words index metastates arcs chains spans : List ℕ)
     (sizes : Sizes) (place : ℕ) : Type 0 where
   pub between : BetweenTurns header nodes words index metastates arcs chains spans sizes
-  pub listed : place < sizes .metastates
+  pub listed : place < sizes .table
 
 -- and its shifted matrix, to go on to its followers
 pub record Onward (header : Header) (nodes words index metastates arcs chains spans : List ℕ) (sizes : Sizes)

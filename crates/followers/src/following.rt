@@ -2,6 +2,7 @@
 use crate::Source;
 use definitions::Header;
 use definitions::wide;
+use growing::Step;
 use index::Follower;
 use index::records::count_of;
 use index::records::matrix_of;
@@ -9,7 +10,6 @@ use index::rows::rows_for;
 use index::searching::next_follower;
 use matrix::Matrix;
 use matrix::meeting::meet;
-use metastates::Step;
 use metastates::adding::enter;
 ghost use Rattle.metastates.specs.Outcomes.{followedFrom};
 ghost use Rattle.metastates.specs.Steps.{StepLeft};

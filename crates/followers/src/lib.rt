@@ -2,8 +2,8 @@
 pub mod following;
 pub mod repeating;
 
+use growing::Sizes;
 use matrix::Matrix;
-use metastates::Sizes;
 
 // Where arcs leave from: a state, and how large the network is by now.
 pub struct Source {

@@ -13,13 +13,13 @@ use definitions::Header;
 use definitions::MOST_COLUMNS;
 use definitions::sizes::metastate_size;
 use definitions::wide;
+use growing::Sizes;
+use growing::Step;
+use growing::adding::arc_room;
 use index::records::metastate_at;
 use matrix::Matrix;
 use matrix::sets::all_phones;
 use matrix::shaping::shift;
-use metastates::Sizes;
-use metastates::Step;
-use metastates::adding::arc_room;
 use metastates::adding::last_state;
 use metastates::chains::key_of;
 ghost use mathlib.Core.Path.{_≡_};
@@ -92,7 +92,7 @@ fn repeat(arcs: &mut [u32], sizes: Sizes, first: usize, end: usize, from: u32) -
     }
     copy_span(arcs, sizes.arcs, first, many, from);
     Step::Next(Sizes {
-        metastates: sizes.metastates,
+        table: sizes.table,
         arcs: sizes.arcs + many,
     })
 }

@@ -1,7 +1,5 @@
--- Elements found by chains, a growing table in lent words, networks in lent words; what each step of a build
--- leads to, starts from and leaves.
-pub mod Chains
-pub mod Kept
+-- The key of a metastate, networks in lent words; what each step of a build leads to, starts from and leaves.
+pub mod Keys
 pub mod Networks
 pub mod Outcomes
 pub mod Steps

@@ -1,20 +1,20 @@
 -- A network in lent words: its metastates and arcs, read back and held.
-use mathlib.Core.Path.{_≡_}
 use mathlib.Core.List.{List, _∷_}
 use Prim.Native.Nat.{ℕ, _/_, _≤_, _<_, min}
 use lib.ListN.{length, take, drop}
-use Rattle.definitions.specs.Building.{mostMetastates, mostArcs, roomIn}
+use Rattle.definitions.specs.Building.{mostMetastates, roomIn}
 use Rattle.definitions.specs.Lists.{_!_, isIn}
-use Rattle.definitions.specs.Arcs.{arcSize}
 use Rattle.definitions.specs.Matrices.{matrixWords}
 use Rattle.definitions.specs.Metastates.{Metastate, metastateSize, metastateWords}
 use Rattle.definitions.specs.Growing.{Room}
 use Rattle.definitions.specs.Connecting.{Network, noMetastate}
 use Rattle.matrix.specs.Shapes.{widthOf, matrixIn}
 use Rattle.index.specs.RecordWords.{RecordWithin}
-use Rattle.metastates.specs.declared.Sizes.{Sizes}
-use Rattle.metastates.specs.Chains.{Code, keyOf, headsIn}
-use Rattle.metastates.specs.Kept.{grownHeld, Kept}
+use Rattle.growing.specs.declared.Sizes.{Sizes}
+use Rattle.growing.specs.Chains.{Code, headsIn}
+use Rattle.growing.specs.Kept.{Kept}
+use Rattle.growing.specs.Steps.{heldIn}
+use Rattle.metastates.specs.Keys.{keyOf}
 
 -- the metastate that a record holds, and the one of a combination's number and a matrix in seven words
 unfoldable pub metastateIn : (width : ℕ) → List ℕ → Metastate
@@ -36,16 +36,9 @@ metastateCode half =
 
 -- the network that so many records hold
 abbrev pub networkHeld : (half : ℕ) → Sizes → (metastates arcs : List ℕ) → Network
-networkHeld half sizes metastates arcs =
-    grownHeld (metastateCode half) (sizes .metastates) (sizes .arcs) metastates arcs
+networkHeld half sizes metastates arcs = heldIn (metastateCode half) sizes metastates arcs
 
-abbrev pub sizesOf : Network → Sizes
-sizesOf net = record { metastates = length (net .table); arcs = length (net .arcs) }
-
--- how many arcs, and how many metastates, lent words have room for
-abbrev pub arcRoom : (arcs : List ℕ) → ℕ
-arcRoom arcs = min (length arcs / arcSize) mostArcs
-
+-- how many metastates lent words have room for
 abbrev pub metastateRoom : (half : ℕ) → (metastates : List ℕ) → ℕ
 metastateRoom half metastates = min (length metastates / metastateSize half) mostMetastates
 
@@ -61,8 +54,11 @@ pub record HasPlace (half : ℕ) (metastates chains : List ℕ) (place : ℕ) : 
   pub few : place < mostMetastates
   pub narrow : half ≤ 3
 
--- lent words that hold a network; its metastates are numbered below `count` and have matrices of one width
+-- metastates that are numbered below `count`
+abbrev pub NumbersBelow : (count : ℕ) → List Metastate → Type 0
+NumbersBelow count table = (x : Metastate) → isIn x table → x .number < count
+
+-- lent words that hold a network, with metastates that are numbered below `count`
 pub record Holds (half count : ℕ) (net : Network) (metastates arcs chains : List ℕ) : Type 0 where
   pub kept : Kept (metastateCode half) (roomOf half metastates arcs) net metastates arcs chains
-  pub numbers : (x : Metastate) → isIn x (net .table) → x .number < count
-  pub widths : (x : Metastate) → isIn x (net .table) → length (x .carried) ≡ widthOf half
+  pub numbers : NumbersBelow count (net .table)

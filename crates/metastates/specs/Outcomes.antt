@@ -11,7 +11,7 @@ use Rattle.definitions.specs.Connecting.{startEvents, Network, Built, noNetwork
 use Rattle.matrix.specs.Shapes.{matrixIn}
 use Rattle.index.specs.declared.Follower.{Follower}
 use Rattle.index.specs.Combinations.{combinationsIn, rulesIn, machineIn}
-use Rattle.metastates.specs.declared.Sizes.{Sizes}
+use Rattle.growing.specs.declared.Sizes.{Sizes}
 use Rattle.metastates.specs.Networks.{metastateWith, networkHeld, roomOf}
 
 -- the metastate that a follower is

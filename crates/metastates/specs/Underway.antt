@@ -8,8 +8,9 @@ use Rattle.definitions.specs.declared.Header.{Header}
 use Rattle.matrix.specs.Shapes.{widthOf, HasWidth}
 use Rattle.index.specs.declared.Follower.{Follower}
 use Rattle.index.specs.Combinations.{combinationsIn, Connectable}
-use Rattle.metastates.specs.declared.Sizes.{Sizes}
-use Rattle.metastates.specs.Networks.{networkHeld, arcRoom, Holds}
+use Rattle.growing.specs.declared.Sizes.{Sizes}
+use Rattle.growing.specs.Steps.{arcRoom}
+use Rattle.metastates.specs.Networks.{networkHeld, Holds}
 
 -- a combination, and a place for a metastate of it
 pub record Placed (header : Header) (nodes words : List ℕ) (number place : ℕ) : Type 0 where

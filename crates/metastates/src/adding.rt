@@ -1,42 +1,31 @@
 // Adding arcs and metastates to a network within its room: 31 for a new metastate is judged before 32 for
 // the arc into it.
-use crate::Sizes;
-use crate::Step;
 use crate::chains::find;
-use crate::chains::link;
-use arcs::putting::put_arc;
-use definitions::ARC_SIZE;
+use crate::chains::key_of;
 use definitions::Fault;
 use definitions::Header;
-use definitions::MOST_ARCS;
 use definitions::MOST_METASTATES;
 use definitions::sizes::metastate_size;
 use definitions::wide;
+use growing::Sizes;
+use growing::Step;
+use growing::adding::add_arc;
+use growing::linking::link;
 use index::Follower;
 use index::records::model_of;
 use index::records::phone_of;
 use matrix::words::put_numbered;
 ghost use mathlib.Core.Path.{_≡_};
-ghost use Prim.Native.Nat.{_+_, _*_, _/_, _<_, min};
+ghost use Prim.Native.Nat.{_<_};
 ghost use lib.Dec.{T};
-ghost use Rattle.definitions.specs.Building.{mostMetastates, mostArcs};
-ghost use Rattle.definitions.specs.Arcs.{arcSize, lastState};
+ghost use Rattle.definitions.specs.Building.{mostMetastates};
+ghost use Rattle.definitions.specs.Arcs.{lastState};
 ghost use Rattle.definitions.specs.ForeignTables.{headerKnown};
+ghost use Rattle.growing.specs.Steps.{ArcAdded};
 ghost use Rattle.metastates.specs.Networks.{metastateRoom, HasPlace};
 ghost use Rattle.metastates.specs.Outcomes.{entered};
-ghost use Rattle.metastates.specs.Steps.{StepLeft, ArcAdded, MetastateAdded, intoArc};
+ghost use Rattle.metastates.specs.Steps.{StepLeft, MetastateAdded, intoArc};
 ghost use Rattle.metastates.specs.Underway.{PlacedArc, Entering};
-
-// How many arcs the lent words have room for.
-pub fn arc_room(words: usize) -> usize
-    ensures { λ r. ⌜ r ≡ min (words / arcSize) mostArcs ⌝ }
-{
-    let room = words / ARC_SIZE;
-    if MOST_ARCS < room {
-        return MOST_ARCS;
-    }
-    room
-}
 
 // How many metastates the lent words have room for.
 pub fn metastate_room(half: u32, metastates: &[u64]) -> usize
@@ -76,17 +65,10 @@ fn enter_at(
         (now (arcs .entry)) r (now (arcs .exit))
         ⌝ }
 {
-    if arc_room(arcs.len()) <= sizes.arcs {
-        return Step::Stop(Fault::Tangle);
-    }
     let to = 2 + place * wide(header.states);
     let model = model_of(header.half, nodes, combinations, number, 0);
     let phone = phone_of(header.half, combinations, number);
-    put_arc(arcs, sizes.arcs, from, to as u32, model, phone);
-    Step::Next(Sizes {
-        metastates: sizes.metastates,
-        arcs: sizes.arcs + 1,
-    })
+    add_arc(arcs, sizes, from, to as u32, model, phone)
 }
 
 // Puts a new metastate at the end of the table and at the front of its chain.
@@ -108,7 +90,7 @@ fn add_metastate(
     let number = follower.number as u64;
     let m = follower.met;
     put_numbered(&mut metastates[at..at + size], 0, number, m);
-    link(chains, place, number, m);
+    link(chains, place, key_of(number, m));
 }
 
 // Appends the arc from a state into a metastate, which is added first if it is new.
@@ -136,7 +118,7 @@ pub fn enter(
 {
     let number = follower.number;
     let m = follower.met;
-    let used = metastate_size(header.half) * sizes.metastates;
+    let used = metastate_size(header.half) * sizes.table;
     let found = find(header.half, &metastates[..used], chains, number as u64, m);
     if found != 0 {
         return enter_at(
@@ -150,13 +132,13 @@ pub fn enter(
             found - 1,
         );
     }
-    let place = sizes.metastates;
+    let place = sizes.table;
     if metastate_room(header.half, metastates) <= place {
         return Step::Stop(Fault::Crowd);
     }
     add_metastate(header.half, metastates, chains, place, follower);
     let next = Sizes {
-        metastates: place + 1,
+        table: place + 1,
         arcs: sizes.arcs,
     };
     enter_at(header, nodes, combinations, arcs, next, from, number, place)

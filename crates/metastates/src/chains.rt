@@ -1,20 +1,19 @@
-// Metastates are found through chains: the first half of `chains` has for each head the latest metastate of that head,
-// the second half for each metastate the one before it of the same head. Places in it count from 1; 0 ends a chain. A
-// metastate's head is its key, cut to the number of heads. A key takes in the columns one by one, turned by 26 bits
-// for each, so that the phones of neighbouring columns seldom meet; its remainder by 65521, the largest prime below
-// 65536, spreads.
+// Metastates are found through chains. A metastate's key takes in its columns one by one, turned by 26 bits for each,
+// so that the phones of neighbouring columns seldom meet; its remainder by 65521, the largest prime below 65536,
+// spreads.
 use definitions::MOST_COLUMNS;
 use definitions::sizes::metastate_size;
 use definitions::wide;
+use growing::linking::head_of;
 use index::records::record_at;
 use matrix::Matrix;
 use matrix::words::is_numbered;
 ghost use mathlib.Core.List.{_∷_};
 ghost use mathlib.Core.Path.{_≡_};
 ghost use Prim.Native.Nat.{_≤_, _<_};
-ghost use Rattle.definitions.specs.Building.{mostMetastates};
 ghost use Rattle.matrix.specs.Shapes.{widthOf, HasWidth};
-ghost use Rattle.metastates.specs.Chains.{elementsIn, keyOf, headOf, headsIn, linkedTo, Findable, Found};
+ghost use Rattle.growing.specs.Chains.{elementsIn, Findable, Found};
+ghost use Rattle.metastates.specs.Keys.{keyOf};
 ghost use Rattle.metastates.specs.Networks.{metastateWith, metastateCode};
 
 // The key of a metastate.
@@ -30,14 +29,6 @@ pub fn key_of(number: u64, m: Matrix) -> usize
     (key % 65521) as usize
 }
 
-// The head of a metastate's chain, of so many.
-fn head_of(heads: usize, number: u64, m: Matrix) -> usize
-    requires { ⌜ 0 < heads ⌝ }
-    ensures { λ r. ⌜ (r ≡ headOf heads (keyOf (number ∷ m .columns))) × (r < heads) ⌝ }
-{
-    key_of(number, m) & (heads - 1)
-}
-
 // The place of a metastate in the table, counted from 1, or 0 where it is new.
 pub fn find(half: u32, metastates: &[u64], chains: &[u32], number: u64, m: Matrix) -> usize
     requires { ⌜
@@ -51,7 +42,7 @@ pub fn find(half: u32, metastates: &[u64], chains: &[u32], number: u64, m: Matri
 {
     let size = metastate_size(half);
     let heads = chains.len() / 2;
-    let mut at = wide(chains[head_of(heads, number, m)]);
+    let mut at = wide(chains[head_of(heads, key_of(number, m))]);
     while at != 0 {
         if is_numbered(record_at(metastates, size, at - 1), number, m) {
             return at;
@@ -59,18 +50,4 @@ pub fn find(half: u32, metastates: &[u64], chains: &[u32], number: u64, m: Matri
         at = wide(chains[heads + at - 1]);
     }
     0
-}
-
-// Puts the metastate that stands at a place at the front of its chain.
-pub fn link(chains: &mut [u32], place: usize, number: u64, m: Matrix)
-    requires { ⌜ (place < headsIn (now chains)) × (place < mostMetastates) ⌝ }
-    ensures { λ r. ⌜
-        now (chains .exit)
-        ≡ linkedTo (headsIn (now (chains .entry))) (now (chains .entry)) place (keyOf (number ∷ m .columns))
-        ⌝ }
-{
-    let heads = chains.len() / 2;
-    let head = head_of(heads, number, m);
-    chains[heads + place] = chains[head];
-    chains[head] = (place + 1) as u32;
 }

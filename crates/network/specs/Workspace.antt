@@ -8,7 +8,7 @@ use Rattle.definitions.specs.Lists.{cleared}
 use Rattle.definitions.specs.Connecting.{noNetwork}
 use Rattle.index.specs.Combinations.{Connectable, Ending, combinationsIn}
 use Rattle.index.specs.Indexing.{endsSize, farthest}
-use Rattle.metastates.specs.Chains.{headsIn}
+use Rattle.growing.specs.Chains.{headsIn}
 use Rattle.metastates.specs.Networks.{metastateRoom, Holds}
 use Rattle.followers.specs.Spans.{spanSize}
 use Rattle.followers.specs.Turns.{Searchable}

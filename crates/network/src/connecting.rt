@@ -10,13 +10,13 @@ use definitions::wide;
 use followers::Source;
 use followers::following::follow;
 use followers::repeating::SPAN_SIZE;
+use growing::Sizes;
+use growing::Step;
 use index::indexing::BLOCK_SIZE;
 use index::indexing::ENDS_SIZE;
 use index::indexing::fill_index;
 use matrix::sets::all_phones;
 use matrix::shaping::around;
-use metastates::Sizes;
-use metastates::Step;
 use metastates::adding::metastate_room;
 use turns::Turn;
 use turns::expanding::expand;
@@ -70,10 +70,7 @@ fn start(
         ⌝ }
 {
     let before = around(header.half, 1, 1, all_phones(header.phones));
-    let none = Sizes {
-        metastates: 0,
-        arcs: 0,
-    };
+    let none = Sizes { table: 0, arcs: 0 };
     follow(
         header,
         nodes,
@@ -92,11 +89,11 @@ fn start(
 
 // What the answer says of a network: the turns done, and the counts.
 fn totals(header: Header, turns: u32, sizes: Sizes) -> Totals
-    requires { ⌜ (sizes .metastates < 4294967296) × (sizes .arcs < 4294967296) ⌝ }
+    requires { ⌜ (sizes .table < 4294967296) × (sizes .arcs < 4294967296) ⌝ }
     ensures { λ r. ⌜
         r ≡ record {
           turns = turns;
-          counts = record { states = header .states; metastates = sizes .metastates; arcs = sizes .arcs };
+          counts = record { states = header .states; metastates = sizes .table; arcs = sizes .arcs };
         }
         ⌝ }
 {
@@ -104,7 +101,7 @@ fn totals(header: Header, turns: u32, sizes: Sizes) -> Totals
         turns,
         counts: Counts {
             states: header.states,
-            metastates: sizes.metastates as u32,
+            metastates: sizes.table as u32,
             arcs: sizes.arcs as u32,
         },
     }
@@ -137,7 +134,7 @@ fn take_turns(
     let mut now = sizes;
     let mut turns = 0;
     while turns < limit {
-        if now.metastates <= wide(turns) {
+        if now.table <= wide(turns) {
             return Build::Finished(totals(header, turns, now));
         }
         let step = expand(
@@ -164,7 +161,7 @@ fn take_turns(
         }
         turns += 1;
     }
-    if now.metastates <= wide(turns) {
+    if now.table <= wide(turns) {
         return Build::Finished(totals(header, turns, now));
     }
     Build::Stopped(totals(header, turns, now))

@@ -1,12 +1,12 @@
 // Up to three arcs appended to lent arcs, within their room.
 use crate::Arcs;
 use definitions::ARC_SIZE;
-use metastates::adding::arc_room;
+use growing::adding::arc_room;
 ghost use mathlib.Core.Path.{_≡_};
 ghost use Prim.Native.Nat.{_+_, _*_, _≤_, _<_};
 ghost use lib.Dec.{leb};
 ghost use lib.ListN.{length, take};
-ghost use Rattle.metastates.specs.Networks.{arcRoom};
+ghost use Rattle.growing.specs.Steps.{arcRoom};
 ghost use Rattle.turns.specs.Arcs.{ArcsAppended};
 
 // Copies the words of new arcs.

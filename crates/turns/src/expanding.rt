@@ -8,6 +8,8 @@ use definitions::Header;
 use definitions::wide;
 use followers::Expanded;
 use followers::repeating::follow_on;
+use growing::Sizes;
+use growing::Step;
 use index::records::metastate_at;
 use index::records::model_of;
 use index::records::phone_of;
@@ -15,8 +17,6 @@ use matrix::Matrix;
 use matrix::sets::all_phones;
 use matrix::shaping::shift;
 use matrix::testing::ends_here;
-use metastates::Sizes;
-use metastates::Step;
 use metastates::adding::last_state;
 ghost use mathlib.Core.List.{List, [], _∷_, _++_};
 ghost use Prim.Native.Nat.{_<_};
@@ -132,7 +132,7 @@ pub fn expand(
         return Step::Stop(Fault::Tangle);
     }
     let next = Sizes {
-        metastates: sizes.metastates,
+        table: sizes.table,
         arcs: sizes.arcs + new.count,
     };
     let shifted = shift(q.met, 2 * wide(header.half), all_phones(header.phones));

@@ -2,7 +2,7 @@
 pub mod appending;
 pub mod expanding;
 
-use metastates::Sizes;
+use growing::Sizes;
 
 // A metastate whose turn it is: its place, and how large the network is before.
 pub struct Turn {

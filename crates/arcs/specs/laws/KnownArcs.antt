@@ -12,15 +12,17 @@ use lib.ListN.{length, take, drop, getD, length-drop, drop-of-length-le, List·g
 use lib.Seq.{drop-cons, getD-take, getD-drop, length-take-le}
 use borrow.Author.Tests.{lt-ltb, le-ltb, le-leb, lt-leb, ltb-true, ltb-false}
 use Rattle.definitions.specs.declared.Counts.{Counts}
+use Rattle.definitions.specs.Lines.{inRanges}
 use Rattle.definitions.specs.Lists.{_!_, every, records}
 use Rattle.definitions.specs.ForeignTables.{holdsOnly}
-use Rattle.definitions.specs.Arcs.{Arc, arcSize, arcOf, arcsIn}
+use Rattle.definitions.specs.Arcs.{Arc, arc, arcSize, arcOf, arcsIn}
 use Rattle.definitions.specs.NetworkText.{isState, arcKnown, neverDescending, networkKnown}
 use Rattle.definitions.specs.laws.lists.Tests.{by-test}
 use Rattle.definitions.specs.laws.lists.Records.{record-at, records-taken}
 use Rattle.definitions.specs.laws.books.AcceptedKnown.{holds-padded}
 use Rattle.definitions.specs.laws.networks.NetworkLines.{countsRanged, arcRanged}
 use Rattle.definitions.specs.laws.networks.KnownNetworks.{arcs-length, known-parts, known-holds}
+use Rattle.arcs.specs.Whole.{allArcs, arcAt}
 
 -- ---- states
 
@@ -42,6 +44,45 @@ module _ (counts : Counts) {state : ℕ} where
 
 -- ---- an arc by itself
 
+-- its words in the ranges of an A line, by the first that is beyond; none is below
+module _ (a : Arc) where
+  low : (n : ℕ) → leb 0 n ≡ true
+  low n = le-leb 0 n (omega arith)
+
+  pub source-far : 196606 < a .from → false ≡ arcRanged a
+  unfolding inRanges
+  source-far h = rw (low (a .from), lt-leb (a .from) 196606 h)
+
+  pub target-far : a .from ≤ 196606 → 196606 < a .to → false ≡ arcRanged a
+  unfolding inRanges
+  target-far e h = rw (low (a .from), le-leb (a .from) 196606 e, low (a .to), lt-leb (a .to) 196606 h)
+
+  module _ (e : a .from ≤ 196606) (f : a .to ≤ 196606) where
+    pub model-far : 65535 < a .model → false ≡ arcRanged a
+    unfolding inRanges
+    model-far h =
+        rw (
+          low (a .from),
+          le-leb (a .from) 196606 e,
+          low (a .to),
+          le-leb (a .to) 196606 f,
+          low (a .model),
+          lt-leb (a .model) 65535 h,
+        )
+
+    pub by-phone : a .model ≤ 65535 → leb (a .phone) 64 ≡ arcRanged a
+    unfolding inRanges
+    by-phone g =
+        rw (
+          low (a .from),
+          le-leb (a .from) 196606 e,
+          low (a .to),
+          le-leb (a .to) 196606 f,
+          low (a .model),
+          le-leb (a .model) 65535 g,
+          low (a .phone),
+        ) (by-test (leb (a .phone) 64) (λ t. rw t) (λ t. rw t))
+
 module _ (counts : Counts) (a : Arc) where
   pub arc-misranged : arcRanged a ≡ false → false ≡ arcKnown counts a
   unfolding arcKnown
@@ -58,28 +99,35 @@ module _ (counts : Counts) (a : Arc) where
 
 -- ---- arcs in words
 
--- the arcs that fill words
-abbrev pub allArcs : (words : List ℕ) → List Arc
-allArcs words = arcsIn (length words / arcSize) words
-
 -- the arc at a place
-abbrev pub arcAt : (words : List ℕ) → (i : ℕ) → Arc
-arcAt words i = arcOf (take arcSize (drop (arcSize * i) words))
-
 pub arc-at : (count : ℕ) (words : List ℕ) (i : ℕ) → i < count
     → getD (arcsIn count words) i (arcOf []) ≡ arcAt words i
 unfolding arcsIn
 arc-at count words i h =
     List·getD-map arcOf (records arcSize count words) i [] ∙ ap arcOf (record-at arcSize count words i h)
 
--- its source is its first word
+-- by its words; its source is the first
+word-at : (words : List ℕ) (i k : ℕ) → k < arcSize
+    → take arcSize (drop (arcSize * i) words) ! k ≡ words ! (arcSize * i + k)
+word-at words i k h =
+    getD-take arcSize (drop (arcSize * i) words) k 0 h ∙ getD-drop (arcSize * i) words k 0
+
 pub source-at : (words : List ℕ) (i : ℕ) → arcAt words i .from ≡ words ! (arcSize * i)
 unfolding arcOf
-source-at words i =
-    getD-take arcSize (drop (arcSize * i) words) 0 0 (omega arith)
-    ∙ getD-drop (arcSize * i) words 0 0 ∙ rw add-zero
+source-at words i = word-at words i 0 (omega arith) ∙ rw add-zero
 
-arcs-next : (count : ℕ) (words : List ℕ) (i : ℕ) → i < count
+pub arc-words-at : (words : List ℕ) (i : ℕ)
+    → arcAt words i
+    ≡ arc (words ! (arcSize * i)) (words ! (arcSize * i + 1)) (words ! (arcSize * i + 2)) (words ! (arcSize * i + 3))
+unfolding arcOf
+arc-words-at words i = λ j. record {
+  from = source-at words i j;
+  to = word-at words i 1 (omega arith) j;
+  model = word-at words i 2 (omega arith) j;
+  phone = word-at words i 3 (omega arith) j;
+}
+
+pub arcs-next : (count : ℕ) (words : List ℕ) (i : ℕ) → i < count
     → drop i (arcsIn count words) ≡ arcAt words i ∷ drop (i + 1) (arcsIn count words)
 arcs-next count words i h =
     let within : i < length (arcsIn count words) = rw (arcs-length count words) h in

@@ -1,13 +1,13 @@
 -- Laws about the arcs that leave a state. Sources never descend, so the arcs of smaller sources are the first
 -- ones: an arc's source tells on which side of their end it stands, which bisection needs and nothing more.
-use mathlib.Core.Path.{_≡_, refl, ap, _∙_}
+use mathlib.Core.Path.{_≡_, refl, sym, ap, _∙_}
 use mathlib.Core.List.{List, [], _∷_}
 use mathlib.Core.Bool.{Bool, true, false}
 use Prim.Native.Nat.{ℕ, zero, suc, _+_, _-_, _*_, _/_, _≤_, _<_}
 use native.Mathlib.Omega.{arith}
 use lib.Dec.{T, leb, ltb, eqb, leb→le}
 use lib.ListN.{length, take, drop, getD}
-use borrow.Author.Tests.{lt-ltb, le-ltb, ltb-true, ltb-false, eqb-true, eqb-false}
+use borrow.Author.Tests.{lt-ltb, le-ltb, ne-eqb, ltb-true, ltb-false, eqb-true, eqb-false}
 use Rattle.definitions.specs.declared.Counts.{Counts}
 use Rattle.definitions.specs.declared.Fault.the-variants.{Foreign, State}
 use Rattle.definitions.specs.declared.Refusal.{Refusal}
@@ -21,7 +21,8 @@ use Rattle.definitions.specs.laws.lists.Selected.{select-here, select-past}
 use Rattle.definitions.specs.laws.networks.KnownNetworks.{arcs-length}
 use Rattle.arcs.specs.declared.Standing.the-variants as standing
 use Rattle.arcs.specs.Standing.{standingOf}
-use Rattle.arcs.specs.laws.KnownArcs.{allArcs, arc-at, source-at, known-length, known-arcs}
+use Rattle.arcs.specs.laws.KnownArcs.{arc-at, source-at, known-length, known-arcs}
+use Rattle.arcs.specs.Whole.{allArcs}
 
 -- ---- sources that never descend
 
@@ -59,7 +60,7 @@ module _ (state : ℕ) where
   by-source a yes-case no-case =
       by-test (ltb (a .from) state) (λ e. yes-case (ltb-true _ _ e)) (λ e. no-case (ltb-false _ _ e))
 
-  below-within : (arcs : List Arc) → below state arcs ≤ length arcs
+  pub below-within : (arcs : List Arc) → below state arcs ≤ length arcs
   unfolding select
   below-within [] = omega arith
   below-within (a ∷ arcs) =
@@ -118,6 +119,48 @@ below-next state (a ∷ arcs) =
     by-source state a
     (λ h. omega (arith, rest, below-here (state + 1) a arcs (omega arith), below-here state a arcs h, past))
     (λ h. omega (arith, rest, below-past (state + 1) a arcs (omega arith), below-past state a arcs h, past)))
+
+-- ---- the arcs of a state stand after those of smaller sources, together
+
+abbrev pub leaves : (state : ℕ) → Arc → Bool
+leaves state a = eqb (a .from) state
+
+module _ (state : ℕ) where
+  pub own-after : (arcs : List Arc) → T (neverDescending arcs)
+      → select (leaves state) (drop (below state arcs) arcs) ≡ select (leaves state) arcs
+  unfolding select
+  own-after [] t = refl
+  own-after (a ∷ arcs) t =
+      by-source state a
+      (λ h. rw (below-here state a arcs h)
+      (own-after arcs (in-order-rest a arcs t)
+      ∙ sym (select-past (leaves state) a arcs (ne-eqb (a .from) state (omega arith)))))
+      (λ h. rw (none-below state a arcs t h))
+
+  -- none stands after an arc of a greater source
+  own-none : (a : Arc) (arcs : List Arc) → T (neverDescending (a ∷ arcs)) → state < a .from
+      → select (leaves state) (a ∷ arcs) ≡ []
+  unfolding select neverDescending
+  own-none a [] t h = select-past (leaves state) a [] (ne-eqb (a .from) state (omega arith))
+  own-none a (b ∷ arcs) t h =
+      let (first, others) = T-and (leb (a .from) (b .from)) (neverDescending (b ∷ arcs)) .0 t in
+      let up : a .from ≤ b .from = leb→le (a .from) (b .from) first in
+      select-past (leaves state) a (b ∷ arcs) (ne-eqb (a .from) state (omega arith))
+      ∙ own-none b arcs others (omega arith)
+
+  -- so none stands after the first arc of another state
+  pub own-past : (arcs : List Arc) (d : Arc) → T (neverDescending arcs) → (i : ℕ) → below state arcs ≤ i
+      → i < length arcs → (getD arcs i d .from ≡ state → ⊥) → select (leaves state) (drop i arcs) ≡ []
+  own-past [] d t i l k other = absurd (omega arith)
+  own-past (a ∷ arcs) d t zero l k other =
+      by-source state a
+      (λ h. absurd (omega (arith, below-here state a arcs h)))
+      (λ h. own-none a arcs t (omega arith))
+  own-past (a ∷ arcs) d t (suc i) l k other =
+      let from : below state arcs ≤ i = by-source state a
+      (λ h. omega (arith, below-here state a arcs h))
+      (λ h. omega (arith, below-past state a arcs h, none-below state a arcs t h)) in
+      own-past arcs d (in-order-rest a arcs t) i from (omega arith) other
 
 -- ---- bisection
 

@@ -14,7 +14,8 @@ use Rattle.definitions.specs.laws.networks.KnownNetworks.{arcs-length}
 use Rattle.definitions.specs.laws.lists.Records.{flat-length, arc-sized, arcs-read}
 use Rattle.lines.specs.Putting.{putAt}
 use Rattle.lines.specs.laws.Putting.{put-after}
-use Rattle.arcs.specs.laws.KnownArcs.{arcAt, arc-at}
+use Rattle.arcs.specs.laws.KnownArcs.{arc-at}
+use Rattle.arcs.specs.Whole.{arcAt}
 use Rattle.followers.specs.Spans.{leavingFrom, copiesOf}
 use Rattle.followers.specs.Repeating.{copyWords, withCopies, Copyable}
 

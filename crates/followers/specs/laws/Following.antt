@@ -8,28 +8,30 @@ use native.Mathlib.Numerals.{add-one}
 use lib.ListN.{length}
 use Rattle.definitions.specs.declared.Fault.{Fault}
 use Rattle.definitions.specs.declared.Header.{Header}
-use Rattle.definitions.specs.Faults.{Outcome, answered, refused, andThen}
+use Rattle.definitions.specs.Faults.{Outcome, answered, andThen}
 use Rattle.definitions.specs.Matrices.{Matrix, meet}
 use Rattle.definitions.specs.Combinations.{Combination}
-use Rattle.definitions.specs.Growing.{enter, perform, performAll}
-use Rattle.definitions.specs.Connecting.{Network, machineOf}
-use Rattle.definitions.specs.laws.text.Judging.{refused-not-answered}
-use Rattle.definitions.specs.Metastates.{numbered}
+use Rattle.definitions.specs.Metastates.{Metastate, numbered}
+use Rattle.definitions.specs.Building.{roomIn}
+use Rattle.definitions.specs.Growing.{enter, Room, perform, performAll}
+use Rattle.definitions.specs.Connecting.{Network}
 use Rattle.matrix.specs.Shapes.{matrixIn}
-use Rattle.index.specs.Combinations.{combinationsIn, nodesBook}
+use Rattle.index.specs.Combinations.{combinationsIn, machineIn}
 use Rattle.index.specs.Following.{followsAt, NextFollower}
 use Rattle.index.specs.Seeking.{Seeking}
-use Rattle.index.specs.laws.Followers.{followersAt, metAt, followers-skip, followers-found, followers-out}
-use Rattle.metastates.specs.declared.Sizes.{Sizes}
-use Rattle.metastates.specs.declared.Step.{Step}
-use Rattle.metastates.specs.declared.Step.the-variants as step
-use Rattle.metastates.specs.Networks.{networkHeld, roomOf, Holds}
+use Rattle.index.specs.laws.Followers.{followersAt, followers-skip, followers-found, followers-out}
+use Rattle.growing.specs.declared.Sizes.{Sizes}
+use Rattle.growing.specs.declared.Step.{Step}
+use Rattle.growing.specs.declared.Step.the-variants as step
+use Rattle.growing.specs.Kept.{Kept}
+use Rattle.growing.specs.Steps as growing
+use Rattle.growing.specs.laws.Steps.{next-answered, stop-refused}
+use Rattle.growing.specs.laws.Going.{Going, going-start, going-done, going-more, going-stop}
+use Rattle.metastates.specs.Networks.{metastateCode, networkHeld, roomOf, NumbersBelow}
 use Rattle.metastates.specs.Underway.{Underway}
-use Rattle.metastates.specs.Steps.{stepOf, AfterStep, StepLeft}
+use Rattle.metastates.specs.Steps.{StepLeft}
 use Rattle.metastates.specs.Outcomes.{enteringAll}
-use Rattle.metastates.specs.laws.HoldsMore.{held-sizes}
-use Rattle.metastates.specs.laws.HeldBack.{held-back}
-use Rattle.metastates.specs.laws.Steps.{step-next, step-stop}
+use Rattle.metastates.specs.laws.HeldBack.{same-room}
 use Rattle.followers.specs.Turns.{Following}
 
 -- what entering the followers from a combination on leads to
@@ -39,21 +41,21 @@ enteringFrom header nodes words columns from metastates arcs net number =
     enteringAll header nodes words from metastates arcs net
     (followersAt (matrixIn (header .half) columns) (combinationsIn header words) number)
 
--- before the arc to combination `number`, which is the next follower or past the last: the network so far is
--- held, and what is still to be performed leads to the same as all
+-- before the arc to combination `number`, which is the next follower or past the last: what is still to be performed
+-- with the network so far leads to the same as all
 pub record Followed (header : Header) (nodes words columns : List ℕ) (from : ℕ)
     (metastates₀ arcs₀ chains₀ : List ℕ) (sizes₀ : Sizes) (metastates arcs chains : List ℕ) (sizes : Sizes)
     (number : ℕ) : Type 0 where
   pub found : number < length (combinationsIn header words)
       → followsAt (matrixIn (header .half) columns) (combinationsIn header words) number ≡ true
-  pub underway : Underway header words sizes metastates arcs chains
-  pub metastates-sized : length metastates ≡ length metastates₀
-  pub arcs-sized : length arcs ≡ length arcs₀
-  pub chains-sized : length chains ≡ length chains₀
-  pub rest : enteringFrom header nodes words columns from metastates₀ arcs₀
-      (networkHeld (header .half) sizes₀ metastates₀ arcs₀) 0
-      ≡ enteringFrom header nodes words columns from metastates₀ arcs₀
-      (networkHeld (header .half) sizes metastates arcs) number
+  pub going : Going (metastateCode (header .half)) (roomOf (header .half) metastates₀ arcs₀)
+      metastates₀ arcs₀ chains₀
+      (enteringFrom header nodes words columns from metastates₀ arcs₀
+      (networkHeld (header .half) sizes₀ metastates₀ arcs₀) 0)
+      (λ net. enteringFrom header nodes words columns from metastates₀ arcs₀ net number)
+      sizes metastates arcs chains
+  pub numbers : NumbersBelow (length (combinationsIn header words))
+      (networkHeld (header .half) sizes metastates arcs .table)
 
 -- ---- before the first
 
@@ -73,16 +75,15 @@ pub followed-start : {header : Header} {words columns metastates arcs chains : L
     → NextFollower (matrixIn (header .half) columns) (combinationsIn header words) 0 number
     → Followed header nodes words columns from
     metastates arcs chains sizes metastates arcs chains sizes number
+unfolding roomIn
 followed-start {header} {words} {columns} {metastates} {arcs} {chains} {sizes} nodes from h next = record {
   found = next .found;
-  underway = h;
-  metastates-sized = refl;
-  arcs-sized = refl;
-  chains-sized = refl;
-  rest =
-      ap (enteringAll header nodes words from metastates arcs
+  going =
+      going-start _ _ (record { kept = h .kept; whole = refl })
+      (ap (enteringAll header nodes words from metastates arcs
       (networkHeld (header .half) sizes metastates arcs))
-      (followers-skip (matrixIn (header .half) columns) (combinationsIn header words) next);
+      (followers-skip (matrixIn (header .half) columns) (combinationsIn header words) next));
+  numbers = h .numbers;
 }
 
 module _ {header : Header} {nodes words columns : List ℕ} {from : ℕ} {metastates₀ arcs₀ chains₀ : List ℕ}
@@ -96,14 +97,28 @@ module _ {header : Header} {nodes words columns : List ℕ} {from : ℕ} {metast
     abbrev now : Network
     now = networkHeld (header .half) sizes metastates arcs
 
-    -- what the followers from the first on, or from one on, lead to
+    -- what the followers from the first on lead to, or those that are left
     abbrev all : Outcome Network
     all =
         enteringFrom header nodes words columns from metastates₀ arcs₀
         (networkHeld (header .half) sizes₀ metastates₀ arcs₀) 0
 
-    abbrev onward : (number : ℕ) → Network → Outcome Network
-    onward number net = enteringFrom header nodes words columns from metastates₀ arcs₀ net number
+    abbrev onward : List Metastate → Network → Outcome Network
+    onward left net = enteringAll header nodes words from metastates₀ arcs₀ net left
+
+    -- what the next arc asks: the room is the same
+    rooms : roomOf (header .half) metastates₀ arcs₀ ≡ roomOf (header .half) metastates arcs
+    rooms =
+        same-room (header .half) metastates₀ metastates arcs₀ arcs (t .going .table-sized) (t .going .arcs-sized)
+
+    pub followed-underway : Underway header words sizes metastates arcs chains
+    followed-underway =
+        record {
+          kept =
+              subst (λ room. Kept (metastateCode (header .half)) room now metastates arcs chains) rooms
+              (t .going .underway .kept);
+          numbers = t .numbers;
+        }
 
     -- ---- past the last
 
@@ -112,101 +127,68 @@ module _ {header : Header} {nodes words columns : List ℕ} {from : ℕ} {metast
 
     pub followed-end : length cs ≤ number
         → StepLeft header words metastates₀ arcs₀ chains₀ all (step.Next sizes) metastates arcs chains
-    unfolding performAll stepOf
-    followed-end h = record {
-      step = record {
-        answers = sym (ap stepOf done ∙ ap step.Next (held-sizes (header .half) sizes metastates arcs));
-        holds = λ net e.
-            subst (λ (n : Network). Holds (header .half) (length cs) n metastates arcs chains)
-            (answers-same (sym done ∙ e)) (t .underway);
-        metastates-sized = t .metastates-sized;
-        arcs-sized = t .arcs-sized;
-      };
-      chains-sized = t .chains-sized;
-    }
-      where
-        done : all ≡ answered now
-        done =
-            t .rest
-            ∙ ap (enteringAll header nodes words from metastates₀ arcs₀ now)
-            (followers-out (matrixIn (header .half) columns) cs number h)
+    unfolding performAll
+    followed-end h =
+        let done : onward (followersAt (matrixIn (header .half) columns) cs number) now ≡ answered now =
+        ap (λ l. onward l now) (followers-out (matrixIn (header .half) columns) cs number h) in
+        record {
+          step = going-done (t .going) done;
+          numbers = λ net e.
+              subst (λ (n : Network). NumbersBelow (length cs) (n .table))
+              (answers-same (sym (t .going .equal ∙ done) ∙ e)) (t .numbers);
+        }
 
     -- ---- a follower, and what entering it answers and leaves
 
     module _ (h : number < length cs) {met : Matrix}
         (m : met ≡ meet (matrixIn (header .half) columns) (numbered cs number .carried)) where
-      abbrev entered : Outcome Network
-      entered =
-          perform (machineOf (nodesBook header nodes) cs) (roomOf (header .half) metastates arcs) now
-          (enter from (record { number = number; carried = met }))
+      abbrev enteredIn : Room → Outcome Network
+      enteredIn room =
+          perform (machineIn header nodes words) room now (enter from (record { number = number; carried = met }))
 
       -- its arc first, then the others
-      first-then : all ≡ andThen entered (onward (suc number))
+      first-then : (later : List Metastate)
+          → followersAt (matrixIn (header .half) columns) cs (suc number) ≡ later
+          → onward (followersAt (matrixIn (header .half) columns) cs number) now
+          ≡ andThen (enteredIn (roomOf (header .half) metastates₀ arcs₀)) (onward later)
       unfolding performAll
-      first-then =
-          t .rest
-          ∙ ap (enteringAll header nodes words from metastates₀ arcs₀ now)
-          (followers-found (matrixIn (header .half) columns) cs number (t .found) h)
-          ∙ ap (λ (o : Outcome Network). andThen o (onward (suc number))) same
-        where
-          same-room : roomOf (header .half) metastates₀ arcs₀ ≡ roomOf (header .half) metastates arcs
-          same-room = rw (← t .metastates-sized, ← t .arcs-sized)
-
-          same : perform (machineOf (nodesBook header nodes) cs) (roomOf (header .half) metastates₀ arcs₀) now
-              (enter from (metAt (matrixIn (header .half) columns) cs number)) ≡ entered
-          same = rw (same-room, ← m)
+      first-then later e =
+          ap (λ l. onward l now) (followers-found (matrixIn (header .half) columns) cs number (t .found) h)
+          ∙ rw (e, ← m)
 
       module _ {answer : Step} {metastates′ arcs′ chains′ : List ℕ}
-          (left : StepLeft header words metastates arcs chains entered answer metastates′ arcs′ chains′)
+          (left : StepLeft header words metastates arcs chains (enteredIn (roomOf (header .half) metastates arcs))
+          answer metastates′ arcs′ chains′)
         where
-          leaves : AfterStep (header .half) (length cs) metastates arcs entered answer
+          in-room : growing.StepLeft (metastateCode (header .half)) (roomOf (header .half) metastates₀ arcs₀)
+              metastates arcs chains (enteredIn (roomOf (header .half) metastates₀ arcs₀)) answer
               metastates′ arcs′ chains′
-          leaves = left .step
+          in-room =
+              subst (λ room. growing.StepLeft (metastateCode (header .half)) room metastates arcs chains
+              (enteredIn room) answer metastates′ arcs′ chains′) (sym rooms) (left .step)
 
           -- it is refused
           pub followed-stop : {fault : Fault} → answer ≡ step.Stop fault
               → StepLeft header words metastates₀ arcs₀ chains₀ all (step.Stop fault)
               metastates′ arcs′ chains′
-          unfolding andThen stepOf
-          followed-stop {fault} stops =
-              let (r, o, f) = step-stop entered fault (sym stops ∙ leaves .answers) in
-              let over : all ≡ refused r =
-              first-then ∙ ap (λ (o : Outcome Network). andThen o (onward (suc number))) o in record {
-                step = record {
-                  answers = sym (ap stepOf over ∙ ap step.Stop f);
-                  holds = λ net e. absurd (refused-not-answered all (r .fault) (r .line) net over e);
-                  metastates-sized = leaves .metastates-sized ∙ t .metastates-sized;
-                  arcs-sized = leaves .arcs-sized ∙ t .arcs-sized;
-                };
-                chains-sized = left .chains-sized ∙ t .chains-sized;
-              }
+          followed-stop stops =
+              let later : List Metastate = followersAt (matrixIn (header .half) columns) cs (suc number) in
+              let stopped = going-stop (t .going) (onward later) in-room (first-then later refl) stops in
+              record { step = stopped; numbers = λ net e. absurd (stop-refused stopped refl net e) }
 
           -- it is entered, and the next is looked for
-          pub followed-next : {next : Sizes} {number′ : ℕ} → header .half ≤ 3 → answer ≡ step.Next next
+          pub followed-next : {next : Sizes} {number′ : ℕ} → answer ≡ step.Next next
               → NextFollower (matrixIn (header .half) columns) cs (number + 1) number′
               → Followed header nodes words columns from metastates₀ arcs₀ chains₀ sizes₀
               metastates′ arcs′ chains′ next number′
-          unfolding andThen
-          followed-next {next} {number′} few goes further =
-              let (net, o, s) = step-next entered next (sym goes ∙ leaves .answers) in
-              let held = leaves .holds net o in
-              let same : networkHeld (header .half) next metastates′ arcs′ ≡ net =
-              ap (λ (k : Sizes). networkHeld (header .half) k metastates′ arcs′) (sym s)
-              ∙ held-back held in
+          followed-next {next} {number′} goes further =
               let after : NextFollower (matrixIn (header .half) columns) cs (suc number) number′ =
               subst (λ (k : ℕ). NextFollower (matrixIn (header .half) columns) cs k number′) (add-one number)
-              further in record {
+              further in
+              record {
                 found = further .found;
-                underway =
-                    subst (λ (n : Network). Holds (header .half) (length cs) n metastates′ arcs′ chains′)
-                    (sym same) held;
-                metastates-sized = leaves .metastates-sized ∙ t .metastates-sized;
-                arcs-sized = leaves .arcs-sized ∙ t .arcs-sized;
-                chains-sized = left .chains-sized ∙ t .chains-sized;
-                rest =
-                    first-then
-                    ∙ ap (λ (o : Outcome Network). andThen o (onward (suc number))) o
-                    ∙ ap (enteringAll header nodes words from metastates₀ arcs₀ net)
-                    (followers-skip (matrixIn (header .half) columns) cs after)
-                    ∙ ap (onward number′) (sym same);
+                going =
+                    going-more (t .going) (onward (followersAt (matrixIn (header .half) columns) cs number′)) in-room
+                    (first-then _ (followers-skip (matrixIn (header .half) columns) cs after)) goes;
+                numbers = left .numbers _ (next-answered (left .step) goes);
               }

@@ -1,7 +1,6 @@
--- Laws about performing events: plain arcs are all appended where they have room, else refused; and events
--- after events.
-use mathlib.Core.Path.{_≡_, refl, sym, ap, _∙_}
-use mathlib.Core.List.{List, [], _∷_, _++_, map, append-nil, append-assoc}
+-- Laws about performing events: plain arcs are all appended where they have room, else refused.
+use mathlib.Core.Path.{_≡_, sym, ap, _∙_}
+use mathlib.Core.List.{List, [], _∷_, map, append-nil, append-assoc}
 use Prim.Native.Nat.{_+_, _≤_, _<_}
 use native.Mathlib.Omega.{arith}
 use lib.ListN.{length, length-append}
@@ -17,26 +16,11 @@ use Rattle.definitions.specs.Growing.{Event, plain, Room, addArc, perform, perf
 use Rattle.definitions.specs.Connecting.{Network, machineOf}
 use Rattle.definitions.specs.laws.lists.Tests.{by-test}
 use Rattle.definitions.specs.laws.networks.Limits.{withArc, no-room-arc}
-use Rattle.metastates.specs.laws.KeptMore.{withArcs}
+use Rattle.growing.specs.laws.KeptMore.{withArcs}
 
 module _ (book : Book) (combinations : List Combination) (room : Room) where
   abbrev all : List (Event Metastate) → Network → Outcome Network
   all events next = performAll (machineOf book combinations) room next events
-
-  pub performs-append : (net : Network) (events later : List (Event Metastate))
-      → performAll (machineOf book combinations) room net (events ++ later)
-      ≡ andThen (performAll (machineOf book combinations) room net events)
-      (λ next. performAll (machineOf book combinations) room next later)
-  unfolding performAll andThen
-  performs-append net [] later = refl
-  performs-append net (event ∷ events) later =
-      go (perform (machineOf book combinations) room net event) (λ next. performs-append next events later)
-    where
-      go : (o : Outcome Network)
-          → ((next : Network) → all (events ++ later) next ≡ andThen (all events next) (all later))
-          → andThen o (all (events ++ later)) ≡ andThen (andThen o (all events)) (all later)
-      go (answered next) rest = rest next
-      go (refused r) rest = refl
 
   arc-fits : (net : Network) (a : Arc) → length (net .arcs) < room .arcs
       → addArc room a net ≡ answered (withArc net a)

@@ -34,15 +34,15 @@ use Rattle.matrix.specs.Words.{firstSeven}
 use Rattle.index.specs.Combinations.{combinationsIn, nodesBook}
 use Rattle.index.specs.RecordWords.{recordOf, IsMetastate}
 use Rattle.index.specs.declared.Follower.{Follower}
-use Rattle.metastates.specs.declared.Sizes.{Sizes}
-use Rattle.metastates.specs.declared.Step.{Step}
-use Rattle.metastates.specs.declared.Step.the-variants as step
-use Rattle.metastates.specs.Networks.{networkHeld, arcRoom, roomOf, sizesOf, Holds}
-use Rattle.metastates.specs.Steps.{AfterStep, StepLeft, stepOf}
+use Rattle.growing.specs.declared.Sizes.{Sizes}
+use Rattle.growing.specs.declared.Step.{Step}
+use Rattle.growing.specs.declared.Step.the-variants as step
+use Rattle.growing.specs.Steps.{arcRoom, sizesOf, stepOf}
+use Rattle.growing.specs.laws.KeptMore.{withArcs, kept-arcs}
+use Rattle.growing.specs.laws.Steps.{held-sizes, next-kept, stop-refused, left-answered, left-refused}
+use Rattle.metastates.specs.Networks.{metastateCode, networkHeld, roomOf, NumbersBelow}
+use Rattle.metastates.specs.Steps.{StepLeft}
 use Rattle.metastates.specs.Outcomes.{followedFrom, followedOn}
-use Rattle.metastates.specs.laws.Steps.{step-stop, next-answered}
-use Rattle.metastates.specs.laws.HoldsMore.{held-sizes, holds-arcs}
-use Rattle.metastates.specs.laws.KeptMore.{withArcs}
 use Rattle.followers.specs.Turns.{TurnLeft, BetweenTurns, Expandable, Onward}
 use Rattle.followers.specs.Spans.{leavingFrom, copiesOf, spanSize, SlotWithin, placeIn, firstIn, endIn}
 use Rattle.followers.specs.Spans.{notedIn, followersAt, arcsTo, IsSpan, Spanned}
@@ -102,7 +102,7 @@ module _ {header : Header} {nodes words index metastates arcs chains spans : Lis
     outcome = followedOn header nodes words metastates arcs sizes place columns
 
     asked : sizesOf net ≡ sizes
-    asked = held-sizes (header .half) sizes metastates arcs
+    asked = held-sizes (metastateCode (header .half)) sizes metastates arcs
 
     arcs-asked : length (net .arcs) ≡ sizes .arcs
     arcs-asked = ap (λ (z : Sizes). z .arcs) asked
@@ -113,7 +113,7 @@ module _ {header : Header} {nodes words index metastates arcs chains spans : Lis
         omega (
           arith,
           s .expandable .listed,
-          ap (λ (z : Sizes). z .metastates) asked,
+          ap (λ (z : Sizes). z .table) asked,
           between .underway .kept .table-room,
         )
 
@@ -154,7 +154,7 @@ module _ {header : Header} {nodes words index metastates arcs chains spans : Lis
         let same : next ≡ sizesOf now = cc in
         let made : IsSpan book cs now place (length (net .arcs)) (length (now .arcs)) =
         span-made book cs room net now place
-        (omega (arith, s .expandable .listed, ap (λ (z : Sizes). z .metastates) asked))
+        (omega (arith, s .expandable .listed, ap (λ (z : Sizes). z .table) asked))
         (subst
         (λ (l : List Metastate). performAll (machineOf book cs) room net (map (enter from) l) ≡ answered now)
         (sym own-followers) e) in
@@ -176,13 +176,11 @@ module _ {header : Header} {nodes words index metastates arcs chains spans : Lis
             (followedFrom header nodes words metastates arcs sizes z columns)
             answer metastates′ arcs′ chains′) at left)
 
-        pub followed-few : header .half ≤ 3 → {next : Sizes} → answer ≡ step.Next next → next .arcs ≤ 999999
+        pub followed-few : {next : Sizes} → answer ≡ step.Next next → next .arcs ≤ 999999
         unfolding roomIn
-        followed-few few {next} e =
-            let now : Network = networkHeld (header .half) next metastates′ arcs′ in
-            let held = left .step .holds now (next-answered few (left .step) e) in
-            let sized = held-sizes (header .half) next metastates′ arcs′ in
-            omega (arith, held .kept .arc-room, ap (λ (z : Sizes). z .arcs) sized)
+        followed-few {next} e =
+            let sized = held-sizes (metastateCode (header .half)) next metastates′ arcs′ in
+            omega (arith, next-kept (left .step) e .arc-room, ap (λ (z : Sizes). z .arcs) sized)
 
         pub followed-noted : (slot : ℕ) {next : Sizes} {spans′ : List ℕ} → SlotWithin spans slot
             → answer ≡ step.Next next → spans′ ≡ notedIn spans slot place (sizes .arcs) (next .arcs)
@@ -199,12 +197,11 @@ module _ {header : Header} {nodes words index metastates arcs chains spans : Lis
         pub followed-refused : {fault : Fault} → answer ≡ step.Stop fault
             → TurnLeft header nodes words metastates arcs chains spans outcome (step.Stop fault)
             metastates′ arcs′ chains′ spans
-        followed-refused {fault} e =
-            let (r, is, _) = step-stop outcome fault (followed-on e .step .answers) in
+        followed-refused e =
             record {
               left = followed-on e;
               spans-sized = refl;
-              spanned = λ n k. absurd (refused-not-answered outcome (r .fault) (r .line) n is k);
+              spanned = λ n k. absurd (stop-refused (followed-on e .step) refl n k);
             }
 
     -- ---- copied
@@ -226,7 +223,7 @@ module _ {header : Header} {nodes words index metastates arcs chains spans : Lis
         there =
             record {
               between = between;
-              listed = omega (arith, span .listed, ap (λ (z : Sizes). z .metastates) asked);
+              listed = omega (arith, span .listed, ap (λ (z : Sizes). z .table) asked);
             }
 
         -- the metastate that is noted
@@ -275,13 +272,13 @@ module _ {header : Header} {nodes words index metastates arcs chains spans : Lis
             ∙ ap (λ (l : List Arc). performAll (machineOf book cs) room net (map plain l)) (sym copies-are)
 
         repeated : {answer : Step} {arcs′ : List ℕ} → Repeated sizes first end from arcs answer arcs′
-            → AfterStep (header .half) (length cs) metastates arcs outcome answer metastates arcs′ chains
-        unfolding roomIn stepOf
+            → StepLeft header words metastates arcs chains outcome answer metastates arcs′ chains
+        unfolding roomIn
         repeated {answer} {arcs′} r =
             by-test (leb (sizes .arcs + (end - first)) (arcRoom arcs)) goes stops
           where
             goes : leb (sizes .arcs + (end - first)) (arcRoom arcs) ≡ true
-                → AfterStep (header .half) (length cs) metastates arcs outcome answer metastates arcs′ chains
+                → StepLeft header words metastates arcs chains outcome answer metastates arcs′ chains
             goes t =
                 let few = leb-true (sizes .arcs + (end - first)) (arcRoom arcs) t in
                 let fits : length (net .arcs) + length copies ≤ arcRoom arcs =
@@ -290,24 +287,24 @@ module _ {header : Header} {nodes words index metastates arcs chains spans : Lis
                 r .words ∙ rw t in
                 let done : outcome ≡ answered (withArcs net copies) =
                 outcome-is ∙ performs-arcs book cs room net copies fits in
-                let sized : record { metastates = sizes .metastates; arcs = sizes .arcs + (end - first) }
+                let sized : record { table = sizes .table; arcs = sizes .arcs + (end - first) }
                 ≡ sizesOf (withArcs net copies) =
                 let more : sizes .arcs + (end - first) ≡ length (net .arcs ++ copies) =
                 omega (arith, arcs-asked, copies-many, length-append (net .arcs) copies) in
-                λ i. record { metastates = sym asked i .metastates; arcs = more i } in
+                λ i. record { table = sym asked i .table; arcs = more i } in
+                let (size, kept) = kept-arcs (between .underway .kept) copies fits w in
                 record {
-                  answers = r .answers ∙ rw t (ap (λ (z : Sizes). step.Next z) sized) ∙ sym (ap stepOf done);
-                  holds = λ n e.
+                  step =
+                      left-answered refl size refl (withArcs net copies) done
+                      (r .answers ∙ rw t (ap (λ (z : Sizes). step.Next z) sized)) kept;
+                  numbers = λ n e.
                       let both : answered (withArcs net copies) ≡ answered n = sym done ∙ e in
                       let same : withArcs net copies ≡ n = cc in
-                      subst (λ (z : Network). Holds (header .half) (length cs) z metastates arcs′ chains) same
-                      (holds-arcs (between .underway) copies fits w .1);
-                  metastates-sized = refl;
-                  arcs-sized = holds-arcs (between .underway) copies fits w .0;
+                      subst (λ (z : Network). NumbersBelow (length cs) (z .table)) same (between .underway .numbers);
                 }
 
             stops : leb (sizes .arcs + (end - first)) (arcRoom arcs) ≡ false
-                → AfterStep (header .half) (length cs) metastates arcs outcome answer metastates arcs′ chains
+                → StepLeft header words metastates arcs chains outcome answer metastates arcs′ chains
             stops t =
                 let many = leb-false (sizes .arcs + (end - first)) (arcRoom arcs) t in
                 let none : outcome ≡ refuse Tangle 0 =
@@ -315,10 +312,8 @@ module _ {header : Header} {nodes words index metastates arcs chains spans : Lis
                 (omega (arith, many, arcs-asked, copies-many)) in
                 let same : arcs′ ≡ arcs = r .words ∙ rw t in
                 record {
-                  answers = r .answers ∙ rw t (sym (ap stepOf none));
-                  holds = λ n e. absurd (refused-not-answered outcome Tangle 0 n none e);
-                  metastates-sized = refl;
-                  arcs-sized = ap length same;
+                  step = left-refused refl (ap length same) refl Tangle none (r .answers ∙ rw t);
+                  numbers = λ n e. absurd (refused-not-answered outcome Tangle 0 n none e);
                 }
 
         pub repeated-on : {f e state : ℕ} {answer : Step} {arcs′ : List ℕ}
@@ -327,13 +322,10 @@ module _ {header : Header} {nodes words index metastates arcs chains spans : Lis
             metastates arcs′ chains spans
         repeated-on {f} {e} {state} {answer} {arcs′} a b d r =
             record {
-              left = record {
-                step =
-                    repeated (subst (λ (z : ℕ). Repeated sizes first end z arcs answer arcs′) d
-                    (subst (λ (z : ℕ). Repeated sizes first z state arcs answer arcs′) b
-                    (subst (λ (z : ℕ). Repeated sizes z e state arcs answer arcs′) a r)));
-                chains-sized = refl;
-              };
+              left =
+                  repeated (subst (λ (z : ℕ). Repeated sizes first end z arcs answer arcs′) d
+                  (subst (λ (z : ℕ). Repeated sizes first z state arcs answer arcs′) b
+                  (subst (λ (z : ℕ). Repeated sizes z e state arcs answer arcs′) a r)));
               spans-sized = refl;
               spanned = spans-kept;
             }

@@ -20,12 +20,13 @@ use Rattle.matrix.specs.laws.Widths.{matrix-back, has-width}
 use Rattle.index.specs.declared.Follower.{Follower}
 use Rattle.index.specs.RecordWords.{RecordWithin, IsMetastate}
 use Rattle.index.specs.Combinations.{combinationsIn, nodesBook, Connectable}
-use Rattle.metastates.specs.declared.Sizes.{Sizes}
-use Rattle.metastates.specs.Networks.{networkHeld, arcRoom, sizesOf}
+use Rattle.growing.specs.declared.Sizes.{Sizes}
+use Rattle.growing.specs.Steps.{arcRoom, sizesOf}
+use Rattle.growing.specs.laws.Steps.{held-sizes}
+use Rattle.metastates.specs.Networks.{metastateCode, networkHeld}
 use Rattle.metastates.specs.Underway.{Placed, Underway}
-use Rattle.metastates.specs.laws.HoldsMore.{held-sizes}
-use Rattle.metastates.specs.laws.HeldRows.{metastates-few, held-within, arcs-within, held-in, held-number}
-use Rattle.metastates.specs.laws.HeldRows.{held-matrix}
+use Rattle.metastates.specs.laws.HeldRows.{metastates-few, held-within, arcs-within, held-in, held-wide}
+use Rattle.metastates.specs.laws.HeldRows.{held-number, held-matrix}
 use Rattle.followers.specs.Turns.{Expandable}
 
 module _ {header : Header} {nodes combinations index metastates arcs chains spans : List ℕ} {sizes : Sizes}
@@ -56,13 +57,13 @@ module _ {header : Header} {nodes combinations index metastates arcs chains span
     thin = ranges .half-range .high
 
     pub asked : sizesOf net ≡ sizes
-    asked = held-sizes (header .half) sizes metastates arcs
+    asked = held-sizes (metastateCode (header .half)) sizes metastates arcs
 
     pub arcs-asked : length (net .arcs) ≡ sizes .arcs
     arcs-asked = ap (λ (z : Sizes). z .arcs) asked
 
     pub inside : place < length (net .table)
-    inside = omega (arith, s .listed, ap (λ (z : Sizes). z .metastates) asked)
+    inside = omega (arith, s .listed, ap (λ (z : Sizes). z .table) asked)
 
     -- ---- the record of the metastate
 
@@ -76,7 +77,7 @@ module _ {header : Header} {nodes combinations index metastates arcs chains span
     number-known = underway .numbers x (held-in underway place inside)
 
     pub x-width : length (x .carried) ≡ widthOf (header .half)
-    x-width = underway .widths x (held-in underway place inside)
+    x-width = held-wide underway place inside thin
 
     pub arcs-fit : sizes .arcs ≤ arcRoom arcs
     arcs-fit = omega (arith, arcs-asked, arcs-within underway)

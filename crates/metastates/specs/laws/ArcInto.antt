@@ -1,22 +1,24 @@
--- Laws about the arc into a metastate: its words by what the lent words say, and what writing them leaves.
-use mathlib.Core.Path.{_≡_, refl, ap, _∙_}
-use mathlib.Core.List.{List, [], _∷_, _++_}
+-- Laws about the arc into a metastate: what is appended by what the lent words say is that arc.
+use mathlib.Core.Path.{_≡_, refl, ap, _∙_, subst}
+use mathlib.Core.List.{List, []}
 use Prim.Native.Nat.{ℕ, _+_, _*_, _<_}
 use native.Mathlib.Omega.{arith}
-use lib.ListN.{take, drop}
+use lib.ListN.{drop}
 use Rattle.definitions.specs.declared.Header.{Header}
 use Rattle.definitions.specs.Lists.{_!_}
 use Rattle.definitions.specs.BookReading.{nodeSize}
 use Rattle.definitions.specs.Tables.{nodeOf}
 use Rattle.definitions.specs.Metastates.{Metastate, phoneOf, combinationOf, modelsOf}
-use Rattle.definitions.specs.Arcs.{arcSize, arcWords, firstState}
+use Rattle.definitions.specs.Arcs.{arc, firstState}
 use Rattle.definitions.specs.Connecting.{arcInto}
 use Rattle.definitions.specs.laws.books.AcceptedKnown.{header-ranges}
-use Rattle.lines.specs.Putting.{putAt}
 use Rattle.tables.specs.Usable.{bookWith}
 use Rattle.index.specs.Combinations.{combinationsIn, nodesBook, Usable}
 use Rattle.index.specs.RecordWords.{phoneWord, modelWord}
 use Rattle.index.specs.laws.RecordWords.{phone-word, leaf-word, model-word}
+use Rattle.growing.specs.declared.Sizes.{Sizes}
+use Rattle.growing.specs.declared.Step.{Step}
+use Rattle.growing.specs.Steps.{ArcAdded}
 use Rattle.metastates.specs.Underway.{Placed}
 use Rattle.metastates.specs.Steps.{intoArc}
 
@@ -35,10 +37,9 @@ module _ {header : Header} {nodes words : List ℕ} {number place : ℕ}
     module _ (from : ℕ) {states model phone : ℕ} (e : states ≡ header .states)
         (f : model ≡ modelWord (header .half) words number nodes 0)
         (g : phone ≡ phoneWord (header .half) words number) where
-      into-words : from ∷ (2 + place * states) ∷ model ∷ phone ∷ []
-          ≡ arcWords (intoArc header nodes words from number place)
-      unfolding arcInto arcWords firstState bookWith phoneOf combinationOf
-      into-words =
+      into-arc : arc from (2 + place * states) model phone ≡ intoArc header nodes words from number place
+      unfolding arcInto firstState bookWith phoneOf combinationOf
+      into-arc =
           let first : model ≡ modelsOf (nodesBook header nodes) (combinationsIn header words) itself ! 0 =
           f
           ∙ ap (λ (k : ℕ). nodeOf (drop (nodeSize * k) nodes) .value)
@@ -48,11 +49,7 @@ module _ {header : Header} {nodes words : List ℕ} {number place : ℕ}
           let own = g ∙ phone-word header words usable number (p .listed) in
           rw (e, first, own)
 
-      pub into-put : (n : ℕ) (arcs : List ℕ) {arcs′ : List ℕ}
-          → arcs′ ≡ putAt (arcSize * n) (from ∷ (2 + place * states) ∷ model ∷ phone ∷ []) arcs
-          → arcs′ ≡ take (arcSize * n) arcs ++ arcWords (intoArc header nodes words from number place)
-          ++ drop (arcSize * n + arcSize) arcs
-      unfolding putAt
-      into-put n arcs e =
-          e ∙ ap (λ (l : List ℕ). take (arcSize * n) arcs ++ l ++ drop (arcSize * n + arcSize) arcs)
-          into-words
+      pub into-added : {sizes : Sizes} {answer : Step} {arcs arcs′ : List ℕ}
+          → ArcAdded sizes (arc from (2 + place * states) model phone) arcs answer arcs′
+          → ArcAdded sizes (intoArc header nodes words from number place) arcs answer arcs′
+      into-added {sizes} {answer} {arcs} {arcs′} = subst (λ a. ArcAdded sizes a arcs answer arcs′) into-arc

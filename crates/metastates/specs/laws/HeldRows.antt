@@ -11,12 +11,15 @@ use Rattle.definitions.specs.Building.{roomIn}
 use Rattle.definitions.specs.Connecting.{Network, noMetastate}
 use Rattle.definitions.specs.laws.lists.Members.{in-at}
 use Rattle.definitions.specs.laws.lists.Records.{record-within}
+use Rattle.matrix.specs.Shapes.{widthOf}
 use Rattle.matrix.specs.Words.{firstSeven}
 use Rattle.matrix.specs.laws.Words.{record-seven}
 use Rattle.index.specs.declared.Follower.{Follower}
 use Rattle.index.specs.RecordWords.{recordOf, RecordWithin, IsMetastate}
-use Rattle.metastates.specs.Networks.{arcRoom, Holds}
-use Rattle.metastates.specs.laws.KeptBack.{kept-words}
+use Rattle.growing.specs.Steps.{arcRoom}
+use Rattle.growing.specs.laws.KeptBack.{kept-words}
+use Rattle.metastates.specs.laws.HeldBack.{coded-wide}
+use Rattle.metastates.specs.Networks.{Holds}
 
 module _ {half count : ℕ} {net : Network} {metastates arcs chains : List ℕ}
     (holds : Holds half count net metastates arcs chains)
@@ -46,6 +49,9 @@ module _ {half count : ℕ} {net : Network} {metastates arcs chains : List ℕ}
       held-within =
           record-within (metastateSize half) place (omega (arith, h, holds .kept .table-room))
 
+      pub held-wide : half ≤ 3 → length (x .carried) ≡ widthOf half
+      held-wide few = coded-wide half few (holds .kept .coded x held-in)
+
       -- what is read there is the metastate
       module _ (few : half ≤ 3) {q : Follower} (is : IsMetastate half metastates place q) where
         held-record : recordOf (metastateSize half) metastates place ≡ metastateWords half x
@@ -59,4 +65,4 @@ module _ {half count : ℕ} {net : Network} {metastates arcs chains : List ℕ}
         unfolding metastateWords
         held-matrix =
             is .columns-are ∙ ap (λ (l : List ℕ). firstSeven (drop 1 l)) held-record
-            ∙ record-seven half few (x .carried) (holds .widths x held-in)
+            ∙ record-seven half few (x .carried) (held-wide few)

@@ -1,18 +1,14 @@
--- Laws about keys: a loop over columns takes them in one by one. And the head of a key is one of the heads.
+-- Laws about keys: a loop over columns takes them in one by one.
 use mathlib.Core.Path.{_≡_, refl, sym, _∙_}
 use mathlib.Core.List.{List, _∷_}
-use Prim.Native.Nat.{ℕ, _+_, _-_, _%_, _≤_, _<_}
+use Prim.Native.Nat.{ℕ, _+_, _%_, _≤_, _<_}
 use native.Mathlib.Numerals.{add-one}
 use native.Mathlib.Omega.{arith}
-use lib.Bits.{bitXor, and-le-r}
+use lib.Bits.{bitXor}
 use lib.ListN.{length, drop, drop-of-length-le}
 use lib.Seq.{drop-cons}
 use Rattle.definitions.specs.Lists.{_!_}
-use Rattle.metastates.specs.Chains.{turned, keyFrom, keyOf, headOf}
-
-pub head-below : {heads : ℕ} (key : ℕ) → 0 < heads → headOf heads key < heads
-unfolding headOf
-head-below {heads} key h = omega (arith, and-le-r key (heads - 1))
+use Rattle.metastates.specs.Keys.{turned, keyFrom, keyOf}
 
 -- the columns before c are taken in, the others are left
 pub record Keyed (number : ℕ) (columns : List ℕ) (c key : ℕ) : Type 0 where

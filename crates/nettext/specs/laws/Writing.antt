@@ -38,7 +38,8 @@ use Rattle.writing.specs.laws.Rows.{LineLeft, line-left}
 use Rattle.writing.specs.laws.Answering.{refusal, refused-left, answered-left}
 use Rattle.writing.specs.declared.Written.{Written}
 use Rattle.writing.specs.declared.Written.the-variants.{Bytes}
-use Rattle.arcs.specs.laws.KnownArcs.{allArcs, arcAt, arc-at, source-at, known-arcs, known-taken}
+use Rattle.arcs.specs.laws.KnownArcs.{arc-at, source-at, known-arcs, known-taken}
+use Rattle.arcs.specs.Whole.{allArcs, arcAt}
 use Rattle.nettext.specs.Writing.{arcInRange}
 
 -- ---- lines that fit

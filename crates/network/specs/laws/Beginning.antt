@@ -19,8 +19,8 @@ use Rattle.matrix.specs.laws.Shapes.{around-length, around-words}
 use Rattle.matrix.specs.Shapes.{widthOf, matrixIn, HasWidth, columnsAround}
 use Rattle.matrix.specs.laws.Widths.{matrix-back, has-width}
 use Rattle.index.specs.Combinations.{combinationsIn, Usable}
-use Rattle.metastates.specs.declared.Sizes.{Sizes}
-use Rattle.metastates.specs.declared.Step.{Step}
+use Rattle.growing.specs.declared.Sizes.{Sizes}
+use Rattle.growing.specs.declared.Step.{Step}
 use Rattle.metastates.specs.Networks.{networkHeld, Holds}
 use Rattle.metastates.specs.Outcomes.{enteringAll, followedFrom, startedIn}
 use Rattle.metastates.specs.Steps.{StepLeft}
@@ -28,7 +28,7 @@ use Rattle.network.specs.laws.Starting.{beforeStart, starts-follow}
 
 -- no records hold no network
 abbrev none : Sizes
-none = record { metastates = 0; arcs = 0 }
+none = record { table = 0; arcs = 0 }
 
 none-held : (half : ℕ) (metastates arcs : List ℕ) → networkHeld half none metastates arcs ≡ noNetwork
 unfolding arcsIn records
@@ -66,7 +66,8 @@ module _ {header : Header} {combinations : List ℕ} (usable : Usable header com
         matrix-back (columnsAround (header .half) 1 1 all) before-length before-words
         ∙ ap (columnsAround (header .half) 1 1) (a ∙ ap allPhones phones)
 
-    pub started : all ≡ allPhones (min (header .phones) 64) → (nodes : List ℕ) {metastates arcs chains metastates′ arcs′ chains′ : List ℕ} {answer : Step}
+    pub started : all ≡ allPhones (min (header .phones) 64) → (nodes : List ℕ)
+        {metastates arcs chains metastates′ arcs′ chains′ : List ℕ} {answer : Step}
         → StepLeft header combinations metastates arcs chains
         (followedFrom header nodes combinations metastates arcs none 0 columns)
         answer metastates′ arcs′ chains′

@@ -21,16 +21,17 @@ use Rattle.index.specs.Combinations.{combinationsIn, nodesBook}
 use Rattle.index.specs.Indexing.{endsSize, farthest}
 use Rattle.index.specs.Filling.{Fillable, Filled}
 use Rattle.index.specs.laws.RecordWords.{combinations-length}
-use Rattle.index.specs.laws.Followers.{narrow}
 use Rattle.index.specs.laws.Filling.{indexed}
-use Rattle.metastates.specs.declared.Sizes.{Sizes}
-use Rattle.metastates.specs.declared.Step.{Step}
-use Rattle.metastates.specs.declared.Step.the-variants as step
-use Rattle.metastates.specs.Chains.{headsIn}
-use Rattle.metastates.specs.Networks.{networkHeld, metastateRoom, roomOf, Holds}
+use Rattle.growing.specs.declared.Sizes.{Sizes}
+use Rattle.growing.specs.declared.Step.{Step}
+use Rattle.growing.specs.declared.Step.the-variants as step
+use Rattle.growing.specs.Chains.{headsIn}
+use Rattle.growing.specs.Steps as growing
+use Rattle.growing.specs.laws.Steps.{step-stop, next-answered}
+use Rattle.metastates.specs.Networks.{metastateCode, networkHeld, metastateRoom, roomOf, Holds}
 use Rattle.metastates.specs.Outcomes.{startedIn, turnedFrom, connectedIn}
-use Rattle.metastates.specs.Steps.{AfterStep, StepLeft}
-use Rattle.metastates.specs.laws.Steps.{step-stop, next-answered}
+use Rattle.metastates.specs.Steps.{StepLeft}
+use Rattle.metastates.specs.laws.Steps.{left-holds}
 use Rattle.metastates.specs.laws.HeldBack.{held-empty}
 use Rattle.followers.specs.Spans.{spanSize}
 use Rattle.followers.specs.Turns.{BetweenTurns}
@@ -103,8 +104,8 @@ module _ {header : Header} {nodes combinations index metastates arcs chains : Li
     (after : StepLeft header combinations metastates arcs chains
     (startedIn header nodes combinations metastates arcs) answer metastates′ arcs′ chains′)
   where
-    left : AfterStep (header .half) (length (combinationsIn header combinations)) metastates arcs
-        (startedIn header nodes combinations metastates arcs) answer metastates′ arcs′ chains′
+    left : growing.StepLeft (metastateCode (header .half)) (roomOf (header .half) metastates arcs)
+        metastates arcs chains (startedIn header nodes combinations metastates arcs) answer metastates′ arcs′ chains′
     left = after .step
 
     abbrev book : Book
@@ -121,7 +122,7 @@ module _ {header : Header} {nodes combinations index metastates arcs chains : Li
 
     same-room : roomOf (header .half) metastates′ arcs′ ≡ room
     unfolding roomIn
-    same-room = rw (left .metastates-sized, left .arcs-sized)
+    same-room = rw (left .table-sized, left .arcs-sized)
 
     -- ---- the start answers
 
@@ -130,7 +131,7 @@ module _ {header : Header} {nodes combinations index metastates arcs chains : Li
       begun = networkHeld (header .half) sizes metastates′ arcs′
 
       is-begun : first ≡ answered begun
-      is-begun = next-answered (narrow (s .searchable .connectable .usable)) left a
+      is-begun = next-answered left a
 
       -- the first turn may be taken, and no spans are noted yet
       pub start-between : {index₀ spans : List ℕ} → Workspace (header .half) metastates chains spans index₀
@@ -138,7 +139,7 @@ module _ {header : Header} {nodes combinations index metastates arcs chains : Li
       start-between w =
           record {
             searchable = s .searchable;
-            underway = left .holds begun is-begun;
+            underway = left-holds after is-begun;
             slots = w .slots;
             spanned = no-spans-in book cs begun (w .spans-clear);
           }
@@ -162,10 +163,10 @@ module _ {header : Header} {nodes combinations index metastates arcs chains : Li
             answers = c .answers ∙ ap (buildOf (header .states)) (turns-are limit);
             metastate-words = λ built k. c .metastate-words built (turns-are limit ∙ k)
                 ∙ ap (λ (n : ℕ). padded n (concatMap (metastateWords (header .half)) (networkIn built .table)))
-                (left .metastates-sized);
+                (left .table-sized);
             arc-words = λ built k. c .arc-words built (turns-are limit ∙ k)
                 ∙ ap (λ (n : ℕ). padded n (concatMap arcWords (networkIn built .arcs))) (left .arcs-sized);
-            metastates-sized = c .metastates-sized ∙ left .metastates-sized;
+            metastates-sized = c .metastates-sized ∙ left .table-sized;
             arcs-sized = c .arcs-sized ∙ left .arcs-sized;
           }
 
@@ -182,4 +183,4 @@ module _ {header : Header} {nodes combinations index metastates arcs chains : Li
         (ap (λ (o : Outcome Network). andThen o (λ next. turnsFrom (machineOf book cs) room limit 0 next)) is)
         same
         (performs-line (machineOf book cs) room noNetwork (startEvents (rulesOf book cs)) r is)
-        (left .metastates-sized) (left .arcs-sized)
+        (left .table-sized) (left .arcs-sized)

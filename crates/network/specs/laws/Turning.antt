@@ -2,12 +2,11 @@
 -- answer.
 use mathlib.Core.Path.{_≡_, refl, sym, ap, ap₂, _∙_}
 use mathlib.Core.List.{List}
-use Prim.Native.Nat.{ℕ, zero, suc, _+_, _-_, _≤_, _<_}
+use Prim.Native.Nat.{ℕ, suc, _+_, _-_, _≤_, _<_}
 use native.Mathlib.Nat.{sub-zero}
 use native.Mathlib.Numerals.{add-one}
 use native.Mathlib.Omega.{arith}
 use lib.ListN.{length}
-use borrow.Author.Tests.{lt-ltb, le-ltb}
 use Rattle.definitions.specs.declared.Header.{Header}
 use Rattle.definitions.specs.declared.Fault.{Fault}
 use Rattle.definitions.specs.Faults.{Outcome, answered, andThen}
@@ -21,16 +20,16 @@ use Rattle.definitions.specs.Growing.{Room, finished, stopped, grownIn, expand,
 use Rattle.definitions.specs.Connecting.{Network, Built, machineOf}
 use Rattle.definitions.specs.laws.text.RefusalLines.{performs-line}
 use Rattle.index.specs.Combinations.{combinationsIn, nodesBook, machineIn}
-use Rattle.index.specs.laws.Followers.{narrow}
-use Rattle.metastates.specs.declared.Sizes.{Sizes}
-use Rattle.metastates.specs.declared.Step.{Step}
-use Rattle.metastates.specs.declared.Step.the-variants as step
-use Rattle.metastates.specs.Networks.{networkHeld, roomOf}
+use Rattle.growing.specs.declared.Sizes.{Sizes}
+use Rattle.growing.specs.declared.Step.{Step}
+use Rattle.growing.specs.declared.Step.the-variants as step
+use Rattle.growing.specs.Steps as growing
+use Rattle.growing.specs.laws.Turning.{none-left, one-left, one-turn}
+use Rattle.growing.specs.laws.Steps.{held-sizes, step-stop, next-answered}
+use Rattle.metastates.specs.Networks.{metastateCode, networkHeld, roomOf}
 use Rattle.metastates.specs.Underway.{Underway}
 use Rattle.metastates.specs.Outcomes.{expandedAt, turnedFrom}
-use Rattle.metastates.specs.Steps.{AfterStep}
-use Rattle.metastates.specs.laws.Steps.{step-stop, next-answered}
-use Rattle.metastates.specs.laws.HoldsMore.{held-sizes}
+use Rattle.metastates.specs.laws.Steps.{left-holds}
 use Rattle.followers.specs.Turns.{BetweenTurns, TurnLeft}
 use Rattle.network.specs.declared.Totals.{Totals}
 use Rattle.network.specs.declared.Build.{Build}
@@ -39,27 +38,6 @@ use Rattle.network.specs.Answers.{totalsOf, buildOf}
 use Rattle.network.specs.Connected.{Connected}
 use Rattle.network.specs.laws.Refused.{refused-left}
 
--- ---- the turns of the definition
-
-module _ (book : Book) (combinations : List Combination) (room : Room) where
-  none-left : (limit turns : ℕ) (net : Network) → length (net .table) ≤ turns
-      → turnsFrom (machineOf book combinations) room limit turns net ≡ answered (finished turns net)
-  unfolding turnsFrom
-  none-left zero turns net h = rw (le-ltb turns (length (net .table)) h)
-  none-left (suc limit) turns net h = rw (le-ltb turns (length (net .table)) h, turnsFrom)
-
-  one-left : (turns : ℕ) (net : Network) → turns < length (net .table)
-      → turnsFrom (machineOf book combinations) room 0 turns net ≡ answered (stopped turns net)
-  unfolding turnsFrom
-  one-left turns net h = rw (lt-ltb turns (length (net .table)) h)
-
-  one-turn : (limit turns : ℕ) (net : Network) → turns < length (net .table)
-      → turnsFrom (machineOf book combinations) room (suc limit) turns net
-      ≡ andThen (expand (machineOf book combinations) room turns net)
-      (λ next. turnsFrom (machineOf book combinations) room limit (suc turns) next)
-  unfolding turnsFrom
-  one-turn limit turns net h = rw (lt-ltb turns (length (net .table)) h, turnsFrom)
-
 -- ---- the turns of the code
 
 -- the answer's numbers
@@ -67,7 +45,7 @@ abbrev totalsAt : (states turns : ℕ) → Sizes → Totals
 totalsAt states turns sizes =
     record {
       turns = turns;
-      counts = record { states = states; metastates = sizes .metastates; arcs = sizes .arcs };
+      counts = record { states = states; metastates = sizes .table; arcs = sizes .arcs };
     }
 
 -- after so many turns: what the words hold, and what is left of the build
@@ -123,18 +101,18 @@ module _ {header : Header} {nodes combinations index metastates₀ arcs₀ chain
     abbrev net : Network
     net = networkHeld (header .half) sizes metastates arcs
 
-    metastates-are : length (net .table) ≡ sizes .metastates
-    metastates-are = ap (λ (z : Sizes). z .metastates) (held-sizes (header .half) sizes metastates arcs)
+    metastates-are : length (net .table) ≡ sizes .table
+    metastates-are = ap (λ (z : Sizes). z .table) (held-sizes (metastateCode (header .half)) sizes metastates arcs)
 
     arcs-are : length (net .arcs) ≡ sizes .arcs
-    arcs-are = ap (λ (z : Sizes). z .arcs) (held-sizes (header .half) sizes metastates arcs)
+    arcs-are = ap (λ (z : Sizes). z .arcs) (held-sizes (metastateCode (header .half)) sizes metastates arcs)
 
     same-room : roomOf (header .half) metastates arcs ≡ room
     unfolding roomIn
     same-room = rw (t .metastates-sized, t .arcs-sized)
 
     -- the counts are words
-    pub metastates-word : sizes .metastates < 4294967296
+    pub metastates-word : sizes .table < 4294967296
     unfolding roomIn
     metastates-word = omega (arith, metastates-are, underway .kept .table-room)
 
@@ -148,7 +126,7 @@ module _ {header : Header} {nodes combinations index metastates₀ arcs₀ chain
         → total ≡ totalsOf (header .states) turns net
     unfolding totalsOf countsIn
     totals-are e =
-        e ∙ ap (totalsAt (header .states) turns) (sym (held-sizes (header .half) sizes metastates arcs))
+        e ∙ ap (totalsAt (header .states) turns) (sym (held-sizes (metastateCode (header .half)) sizes metastates arcs))
 
     answered-left : {answer : Build} (built : Built) → networkIn built ≡ net → whole ≡ answered built
         → answer ≡ buildOf (header .states) (answered built)
@@ -172,17 +150,17 @@ module _ {header : Header} {nodes combinations index metastates₀ arcs₀ chain
         the-same : (other : Built) → whole ≡ answered other → built ≡ other
         the-same other k = let both : answered built ≡ answered other = sym e ∙ k in cc
 
-    pub turn-finished : {place : ℕ} {total : Totals} → place ≡ turns → sizes .metastates ≤ place
+    pub turn-finished : {place : ℕ} {total : Totals} → place ≡ turns → sizes .table ≤ place
         → total ≡ totalsAt (header .states) turns sizes
         → Connected header metastates₀ arcs₀ whole (build.Finished total) metastates arcs
     unfolding grownIn buildOf
     turn-finished e h total =
         answered-left (finished turns net) refl
-        (t .rest ∙ none-left book cs room (limit - turns) turns net (omega (arith, e, h, metastates-are)))
+        (t .rest ∙ none-left (machineOf book cs) room (limit - turns) turns net (omega (arith, e, h, metastates-are)))
         (ap (λ z. build.Finished z) (totals-are total))
 
     pub turn-stopped : {place : ℕ} {total : Totals} → place ≡ turns → limit ≤ turns
-        → place < sizes .metastates
+        → place < sizes .table
         → total ≡ totalsAt (header .states) turns sizes
         → Connected header metastates₀ arcs₀ whole (build.Stopped total) metastates arcs
     unfolding grownIn buildOf
@@ -190,19 +168,19 @@ module _ {header : Header} {nodes combinations index metastates₀ arcs₀ chain
         let none : limit - turns ≡ 0 = omega arith in
         answered-left (stopped turns net) refl
         (t .rest ∙ ap (λ (n : ℕ). turnsFrom (machineOf book cs) room n turns net) none
-        ∙ one-left book cs room turns net (omega (arith, e, h, metastates-are)))
+        ∙ one-left (machineOf book cs) room turns net (omega (arith, e, h, metastates-are)))
         (ap (λ z. build.Stopped z) (totals-are total))
 
     -- ---- one more turn
 
-    module _ (h : turns < limit) {place : ℕ} (e : place ≡ turns) (g : place < sizes .metastates)
+    module _ (h : turns < limit) {place : ℕ} (e : place ≡ turns) (g : place < sizes .table)
         {answer : Step} {metastates′ arcs′ chains′ spans′ : List ℕ}
         (turn : TurnLeft header nodes combinations metastates arcs chains spans
         (expandedAt header nodes combinations metastates arcs sizes place) answer
         metastates′ arcs′ chains′ spans′)
       where
-        left : AfterStep (header .half) (length cs) metastates arcs
-            (expandedAt header nodes combinations metastates arcs sizes place)
+        left : growing.StepLeft (metastateCode (header .half)) (roomOf (header .half) metastates arcs)
+            metastates arcs chains (expandedAt header nodes combinations metastates arcs sizes place)
             answer metastates′ arcs′ chains′
         left = turn .left .step
 
@@ -217,7 +195,7 @@ module _ {header : Header} {nodes combinations index metastates₀ arcs₀ chain
         goes-on =
             let more : limit - turns ≡ suc (limit - (turns + 1)) = omega arith in
             t .rest ∙ ap (λ (n : ℕ). turnsFrom (machineOf book cs) room n turns net) more
-            ∙ one-turn book cs room (limit - (turns + 1)) turns net (omega (arith, e, g, metastates-are))
+            ∙ one-turn (machineOf book cs) room (limit - (turns + 1)) turns net (omega (arith, e, g, metastates-are))
 
         pub turned-more : {next : Sizes} → answer ≡ step.Next next
             → Turned header nodes combinations index metastates₀ arcs₀ chains₀ spans₀ sizes₀ limit
@@ -225,18 +203,17 @@ module _ {header : Header} {nodes combinations index metastates₀ arcs₀ chain
         unfolding andThen
         turned-more {next} a =
             let now : Network = networkHeld (header .half) next metastates′ arcs′ in
-            let few : header .half ≤ 3 = narrow (t .between .searchable .connectable .usable) in
             let is : expandedAt header nodes combinations metastates arcs sizes place ≡ answered now =
-            next-answered few left a in
+            next-answered left a in
             record {
               within = omega arith;
-              metastates-sized = left .metastates-sized ∙ t .metastates-sized;
+              metastates-sized = left .table-sized ∙ t .metastates-sized;
               arcs-sized = left .arcs-sized ∙ t .arcs-sized;
-              chains-sized = turn .left .chains-sized ∙ t .chains-sized;
+              chains-sized = left .chains-sized ∙ t .chains-sized;
               spans-sized = turn .spans-sized ∙ t .spans-sized;
               between = record {
                 searchable = t .between .searchable;
-                underway = left .holds now is;
+                underway = left-holds (turn .left) is;
                 slots = omega (arith, t .between .slots, turn .spans-sized);
                 spanned = turn .spanned now is;
               };
@@ -255,4 +232,4 @@ module _ {header : Header} {nodes combinations index metastates₀ arcs₀ chain
             refused-left header r
             (goes-on ∙ ap (λ (o : Outcome Network). andThen o later) (sym outcome-is ∙ is)) same
             (performs-line (machineOf book cs) room net _ r (sym outcome-is ∙ is))
-            (left .metastates-sized ∙ t .metastates-sized) (left .arcs-sized ∙ t .arcs-sized)
+            (left .table-sized ∙ t .metastates-sized) (left .arcs-sized ∙ t .arcs-sized)

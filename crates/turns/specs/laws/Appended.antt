@@ -7,9 +7,10 @@ use Rattle.definitions.specs.Arcs.{Arc, arcSize, arcWords}
 use Rattle.definitions.specs.Building.{roomIn}
 use Rattle.definitions.specs.Connecting.{Network}
 use Rattle.definitions.specs.laws.lists.Records.{flat-length, arc-sized}
-use Rattle.metastates.specs.Networks.{arcRoom, Holds}
-use Rattle.metastates.specs.laws.KeptMore.{withArcs, put-arcs}
-use Rattle.metastates.specs.laws.HoldsMore.{holds-arcs}
+use Rattle.growing.specs.Steps.{arcRoom}
+use Rattle.growing.specs.laws.KeptMore.{withArcs, put-arcs}
+use Rattle.metastates.specs.Networks.{Holds}
+use Rattle.metastates.specs.laws.HeldBack.{holds-arcs}
 use Rattle.turns.specs.declared.Arcs.{Arcs}
 use Rattle.turns.specs.Arcs.{AreArcs}
 

@@ -28,19 +28,23 @@ use Rattle.matrix.specs.Shapes.{matrixIn, shiftedWords}
 use Rattle.index.specs.declared.Follower.{Follower}
 use Rattle.index.specs.RecordWords.{IsMetastate}
 use Rattle.index.specs.Combinations.{combinationsIn, nodesBook}
-use Rattle.metastates.specs.declared.Sizes.{Sizes}
-use Rattle.metastates.specs.declared.Step.{Step}
-use Rattle.metastates.specs.declared.Step.the-variants as step
-use Rattle.metastates.specs.Networks.{networkHeld, arcRoom, roomOf, sizesOf, Holds}
-use Rattle.metastates.specs.Steps.{stepOf}
+use Rattle.growing.specs.declared.Sizes.{Sizes}
+use Rattle.growing.specs.declared.Step.{Step}
+use Rattle.growing.specs.declared.Step.the-variants as step
+use Rattle.growing.specs.Kept.{Kept}
+use Rattle.growing.specs.Steps.{arcRoom, sizesOf, stepOf}
+use Rattle.growing.specs.laws.KeptBack.{kept-back}
+use Rattle.growing.specs.laws.KeptMore.{withArcs}
+use Rattle.growing.specs.laws.Steps.{left-refused}
+use Rattle.metastates.specs.Networks.{metastateCode, networkHeld, roomOf, Holds}
 use Rattle.metastates.specs.Outcomes.{metastateOf, followedOn, expandedAt}
-use Rattle.metastates.specs.laws.HeldBack.{held-back}
-use Rattle.metastates.specs.laws.KeptMore.{withArcs}
+use Rattle.metastates.specs.laws.HeldBack.{same-room}
 use Rattle.metastates.specs.laws.HeldRows.{held-number}
 use Rattle.followers.specs.Turns.{TurnLeft, Expandable, Onward}
 use Rattle.followers.specs.Spans.{Spanned}
 use Rattle.followers.specs.laws.Spans.{spans-stay}
-use Rattle.followers.specs.laws.PerformedArcs.{performs-append, performs-arcs, performs-over}
+use Rattle.growing.specs.laws.Performing.{performed-parts}
+use Rattle.followers.specs.laws.PerformedArcs.{performs-arcs, performs-over}
 use Rattle.followers.specs.laws.Turns.{connectable, underway, thin, asked, arcs-asked, inside, number-known}
 use Rattle.followers.specs.laws.Turns.{place-few, matrix-is, shifted-is, shifted-wide}
 use Rattle.turns.specs.declared.Arcs.{Arcs}
@@ -101,7 +105,7 @@ module _ {header : Header} {nodes combinations index metastates arcs chains span
             ap (λ (l : List (Event Metastate)). performAll (machineOf book cs) room net (l ++ onward))
             (sym (map-append plain (ownOf header nodes combinations place x)
             (finalArcs (rulesOf book cs) place x)))
-            ∙ performs-append book cs room net (map plain added) onward
+            ∙ performed-parts (machineOf book cs) room net (map plain added) onward
 
         abbrev room : Room
         room = roomOf (header .half) metastates arcs
@@ -129,18 +133,12 @@ module _ {header : Header} {nodes combinations index metastates arcs chains span
             pub turn-stops : not roomy ≡ true
                 → TurnLeft header nodes combinations metastates arcs chains spans outcome (step.Stop Tangle)
                 metastates arcs′ chains spans
-            unfolding stepOf
             turn-stops t =
                 let same : arcs′ ≡ arcs = w ∙ rw (not-true roomy t) in
                 record {
                   left = record {
-                    step = record {
-                      answers = sym (ap stepOf (no-turn t));
-                      holds = λ next e. absurd (refused-not-answered outcome Tangle 0 next (no-turn t) e);
-                      metastates-sized = refl;
-                      arcs-sized = ap length same;
-                    };
-                    chains-sized = refl;
+                    step = left-refused refl (ap length same) refl Tangle (no-turn t) refl;
+                    numbers = λ next e. absurd (refused-not-answered outcome Tangle 0 next (no-turn t) e);
                   };
                   spans-sized = refl;
                   spanned = λ next e. absurd (refused-not-answered outcome Tangle 0 next (no-turn t) e);
@@ -150,7 +148,7 @@ module _ {header : Header} {nodes combinations index metastates arcs chains span
 
             module _ (t : not roomy ≡ false) where
               abbrev next : Sizes
-              next = record { metastates = sizes .metastates; arcs = sizes .arcs + new .count }
+              next = record { table = sizes .table; arcs = sizes .arcs + new .count }
 
               fits : length (net .arcs) + length added ≤ arcRoom arcs
               fits =
@@ -179,12 +177,12 @@ module _ {header : Header} {nodes combinations index metastates arcs chains span
               sizes-are =
                   let more : sizes .arcs + new .count ≡ length (net .arcs ++ added) =
                   omega (arith, (arcs-asked s), are .counted, length-append (net .arcs) added) in
-                  λ i. record { metastates = sym (asked s) i .metastates; arcs = more i }
+                  λ i. record { table = sym (asked s) i .table; arcs = more i }
 
               net-is : networkHeld (header .half) next metastates arcs′ ≡ withArcs net added
               net-is =
                   ap (λ (z : Sizes). networkHeld (header .half) z metastates arcs′) sizes-are
-                  ∙ held-back held-next
+                  ∙ kept-back (held-next .kept)
 
               next-holds : Holds (header .half) (length cs)
                   (networkHeld (header .half) next metastates arcs′) metastates arcs′ chains
@@ -243,17 +241,21 @@ module _ {header : Header} {nodes combinations index metastates arcs chains span
                       (following shifted) answer metastates″ arcs″ chains″ spans″
                       → TurnLeft header nodes combinations metastates arcs chains spans outcome answer
                       metastates″ arcs″ chains″ spans″
-                  turn-goes turn =
+                  turn-goes {metastates″ = metastates″} {arcs″} {chains″} turn =
                       let after = turn .left .step in
                       record {
                         left = record {
                           step = record {
                             answers = after .answers ∙ ap stepOf same;
-                            holds = λ n k. after .holds n (same ∙ k);
-                            metastates-sized = after .metastates-sized;
+                            holds = λ n k.
+                                subst (λ r. Kept (metastateCode (header .half)) r n metastates″ arcs″ chains″)
+                                (same-room (header .half) metastates metastates arcs′ arcs refl (sym as-long))
+                                (after .holds n (same ∙ k));
+                            table-sized = after .table-sized;
                             arcs-sized = after .arcs-sized ∙ as-long;
+                            chains-sized = after .chains-sized;
                           };
-                          chains-sized = turn .left .chains-sized;
+                          numbers = λ n k. turn .left .numbers n (same ∙ k);
                         };
                         spans-sized = turn .spans-sized;
                         spanned = λ n k. turn .spanned n (same ∙ k);

@@ -9,9 +9,9 @@ use Rattle.definitions.specs.Metastates.{numbered}
 use Rattle.matrix.specs.Shapes.{widthOf, matrixIn}
 use Rattle.index.specs.Combinations.{combinationsIn}
 use Rattle.index.specs.laws.RecordWords.{combinations-length, is-listed}
-use Rattle.index.specs.laws.Followers.{narrow, follower-matrix, follower-width}
-use Rattle.followers.specs.laws.Following.{Followed, seeks, followed-start, followed-end, followed-stop}
-use Rattle.followers.specs.laws.Following.{followed-next}
+use Rattle.index.specs.laws.Followers.{follower-matrix, follower-width}
+use Rattle.followers.specs.laws.Following.{Followed, seeks, followed-start, followed-underway}
+use Rattle.followers.specs.laws.Following.{followed-end, followed-stop, followed-next}
 use Rattle.followers.proofs.following.follow.Statement.{statement}
 use Rattle.followers.proofs.following.follow.Tie as tie
 
@@ -118,7 +118,7 @@ enter-requires c κs =
     let connectable = s .searchable .connectable in
     record {
       connectable = connectable;
-      underway = turn .before .loop .inv .underway;
+      underway = followed-underway (turn .before .loop .inv);
       listed = here turn;
       shaped =
           follower-width (connectable .usable) (s .shaped) (here turn) (met .before .matrix-of .ensures)
@@ -169,8 +169,7 @@ loop-again c =
     let call = called (c .before .before .before .before) in
     let turn = inside call in
     followed-next (turn .before .loop .inv) (here turn) (matrix (entered call)) (call .enter .ensures)
-    (narrow (start turn .pre .searchable .connectable .usable)) (c .before .before .step .given .1)
-    (c .next-follower2 .ensures)
+    (c .before .before .step .given .1) (c .next-follower2 .ensures)
 
 same-length-4 : tie.Need-same-length-4 Inv-loop μ-loop
 same-length-4 c = search needs

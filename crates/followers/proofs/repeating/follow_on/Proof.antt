@@ -148,8 +148,7 @@ note-span-requires c κs =
       place-few = onward-place (start .pre);
       first-few = omega (arith, onward-arcs (start .pre));
       end-few =
-          followed-few (start .pre) (last .last-state .ensures) (call .follow .ensures) (thin start)
-          (arm .step .given .1);
+          followed-few (start .pre) (last .last-state .ensures) (call .follow .ensures) (arm .step .given .1);
     }
 
 same-length-4 : tie.Need-same-length-4

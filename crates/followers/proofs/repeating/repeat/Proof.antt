@@ -6,7 +6,7 @@ use native.Mathlib.Omega.{arith}
 use lib.Dec.{leb}
 use borrow.Author.Tests.{le-leb, lt-leb}
 use borrow.Author.Needs.{needs}
-use Rattle.metastates.specs.Networks.{arcRoom}
+use Rattle.growing.specs.Steps.{arcRoom}
 use Rattle.followers.proofs.repeating.repeat.Statement.{statement}
 use Rattle.followers.proofs.repeating.repeat.Tie as tie
 

@@ -9,6 +9,7 @@ use Rattle.definitions.specs.laws.matrices.Sizes.{words-few}
 use Rattle.lines.specs.laws.Putting.{part-length, part-put}
 use Rattle.matrix.specs.laws.Words.{overwritten-all}
 use Rattle.index.specs.laws.CutRecords.{cut-within}
+use Rattle.growing.specs.Chains.{headsIn, linkedTo}
 use Rattle.metastates.proofs.adding.add_metastate.Statement.{statement}
 use Rattle.metastates.proofs.adding.add_metastate.Tie as tie
 
@@ -50,10 +51,13 @@ part-put-numbered-end c = within (c .before)
 put-numbered-requires : tie.Need-put-numbered-requires
 put-numbered-requires c κs = search needs
 
+key-of-requires : tie.Need-key-of-requires
+key-of-requires c κs = search needs
+
 link-requires : tie.Need-link-requires
 link-requires c κs =
-    let start = entry (c .before .before .before .before .before .before) in
-    (start .pre .link, start .pre .few)
+    let start = entry (c .before .before .before .before .before .before .before) in
+    (start .pre .link, omega (arith, start .pre .few))
 
 same-length : tie.Need-same-length
 same-length c = search needs
@@ -63,7 +67,8 @@ same-length-2 c = search needs
 
 returns : tie.Need-returns
 returns c =
-    let put = c .before .before .before .before .before .before in
+    let keyed = c .before .before .before in
+    let put = keyed .before .before .before .before in
     let sized = put .before .before .before in
     let a = entry sized .args in
     let size : ℕ = sized .metastate-size .result in
@@ -79,7 +84,10 @@ returns c =
           part-put words _ _ from size refl (put .put-numbered .ensures ∙ overwritten-all _ row long few)
           ∙ ap (λ (n : ℕ). take (n * a .place) words ++ take n row ++ drop (n * a .place + n) words)
           (sized .metastate-size .ensures);
-      linked = c .before .before .link .ensures;
+      linked =
+          c .before .before .link .ensures
+          ∙ ap (λ (k : ℕ). linkedTo (headsIn (a .chains .now)) (a .chains .now) (a .place) k)
+          (keyed .key-of .ensures .0);
     }
 
 pub add-metastate-spec : {M : Type 1} → statement M
@@ -94,6 +102,7 @@ add-metastate-spec =
     part-put-numbered-start
     part-put-numbered-end
     put-numbered-requires
+    key-of-requires
     link-requires
     same-length
     same-length-2

@@ -8,7 +8,7 @@ use borrow.Author.Needs.{needs}
 use Rattle.definitions.specs.Metastates.{metastateSize}
 use Rattle.index.specs.laws.CutRecords.{cut-used}
 use Rattle.index.specs.laws.Followers.{narrow}
-use Rattle.metastates.specs.Chains.{Findable, Found, elementsIn}
+use Rattle.growing.specs.Chains.{Findable, Found, elementsIn}
 use Rattle.metastates.specs.Networks.{metastateCode, metastateWith, metastateRoom}
 use Rattle.metastates.specs.laws.Entering.{enter-used, enter-searchable, enter-arcs, enter-placed}
 use Rattle.metastates.specs.laws.Entering.{enter-place-for, enter-known, enter-crowded, enter-new}
@@ -27,22 +27,22 @@ module _ (c : tie.After-struct-known) where
   sized : c .before .metastate-size .result ≡ metastateSize (entry c .args .header .half)
   sized = c .before .metastate-size .ensures
 
-  used-few : c .before .metastate-size .result * entry c .args .sizes .metastates
+  used-few : c .before .metastate-size .result * entry c .args .sizes .table
       ≤ length (entry c .args .metastates .now)
-  used-few = cut-used sized (entry c .args .sizes .metastates) (enter-used (entry c .pre))
+  used-few = cut-used sized (entry c .args .sizes .table) (enter-used (entry c .pre))
 
 -- what the search found among the words in use
 found-in : (c : tie.After-find)
     → Found (metastateCode (searched c .args .header .half))
     (elementsIn (metastateCode (searched c .args .header .half))
-    (take (metastateSize (searched c .args .header .half) * searched c .args .sizes .metastates)
+    (take (metastateSize (searched c .args .header .half) * searched c .args .sizes .table)
     (searched c .args .metastates .now)))
     (metastateWith (searched c .args .header .half) (searched c .args .follower .number)
     (searched c .args .follower .met .columns)) (c .find .result)
 found-in c =
     let a = searched c .args in
     let code = metastateCode (a .header .half) in
-    subst (λ (n : ℕ). Found code (elementsIn code (take (n * a .sizes .metastates) (a .metastates .now)))
+    subst (λ (n : ℕ). Found code (elementsIn code (take (n * a .sizes .table) (a .metastates .now)))
     (metastateWith (a .header .half) (a .follower .number) (a .follower .met .columns)) (c .find .result))
     (sized (c .before .before .before)) (c .find .ensures)
 
@@ -66,7 +66,7 @@ find-requires c κs =
     let s = entry known .pre in
     let findable =
     subst (λ (n : ℕ). Findable (metastateCode (a .header .half))
-    (take (n * a .sizes .metastates) (a .metastates .now)) (a .chains .now)) (sym (sized known))
+    (take (n * a .sizes .table) (a .metastates .now)) (a .chains .now)) (sym (sized known))
     (enter-searchable s) in
     (findable, s .shaped, narrow (s .connectable .usable))
 
@@ -76,8 +76,11 @@ sub-enter-at c = search needs
 enter-at-requires : tie.Need-enter-at-requires
 enter-at-requires c κs =
     let test = c .before in
-    let s = searched (test .before) .pre in
-    record { placed = enter-placed s (found-in (test .before)) (test .if1 .taken); fit = enter-arcs s }
+    let start = searched (test .before) in
+    record {
+      placed = enter-placed (start .pre) (start .args .from) (found-in (test .before)) (test .if1 .taken);
+      fit = enter-arcs (start .pre);
+    }
 
 same-length : tie.Need-same-length
 same-length c = search needs
@@ -93,7 +96,7 @@ returns c =
     let call = c .before .before in
     let test = call .before .before in
     let start = searched (test .before) in
-    enter-known (start .pre) (found-in (test .before)) (start .args .from) (test .if1 .taken)
+    enter-known (start .pre) (start .args .from) (found-in (test .before)) (test .if1 .taken)
     (call .enter-at .ensures)
 
 metastate-room-requires : tie.Need-metastate-room-requires
@@ -110,16 +113,16 @@ returns-2 c =
     let test = c .before .before .before in
     let start = searched (test .before) in
     let a = start .args in
-    let room : metastateRoom (a .header .half) (a .metastates .now) ≤ a .sizes .metastates =
+    let room : metastateRoom (a .header .half) (a .metastates .now) ≤ a .sizes .table =
     omega (arith, c .if2 .taken, c .before .metastate-room .ensures) in
-    enter-crowded (start .pre) (found-in (test .before)) (a .from) (test .if1 .left) room
+    enter-crowded (start .pre) (a .from) (found-in (test .before)) (test .if1 .left) room
 
 add-metastate-requires : tie.Need-add-metastate-requires
 add-metastate-requires c κs =
     let test = c .before .before in
     let start = searched (test .before .before .before .before) in
     let a = start .args in
-    let room : a .sizes .metastates < metastateRoom (a .header .half) (a .metastates .now) =
+    let room : a .sizes .table < metastateRoom (a .header .half) (a .metastates .now) =
     omega (arith, test .if2 .left, test .before .metastate-room .ensures) in
     enter-place-for (start .pre) room
 
@@ -132,7 +135,7 @@ enter-at-requires-2 c κs =
     let room = test .before in
     let start = searched (room .before .before .before) in
     let s = start .pre in
-    let few : start .args .sizes .metastates < 65535 =
+    let few : start .args .sizes .table < 65535 =
     omega (arith, test .if2 .left, room .metastate-room .ensures) in
     record {
       placed = record { connectable = s .connectable; listed = s .listed; few = few };
@@ -156,9 +159,9 @@ returns-3 c =
     let found = test .before .before .before in
     let start = searched (found .before) in
     let a = start .args in
-    let room : a .sizes .metastates < metastateRoom (a .header .half) (a .metastates .now) =
+    let room : a .sizes .table < metastateRoom (a .header .half) (a .metastates .now) =
     omega (arith, test .if2 .left, test .before .metastate-room .ensures) in
-    enter-new (start .pre) (found-in (found .before)) (a .from) (found .if1 .left) room
+    enter-new (start .pre) (a .from) (found-in (found .before)) (found .if1 .left) room
     (add .add-metastate .ensures) (call .enter-at2 .ensures)
 
 pub enter-spec : {M : Type 1} → statement M

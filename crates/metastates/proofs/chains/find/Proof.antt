@@ -10,11 +10,12 @@ use Rattle.definitions.specs.Lists.{same}
 use Rattle.definitions.specs.Metastates.{Metastate, metastateSize, metastateWords}
 use Rattle.index.specs.RecordWords.{recordOf}
 use Rattle.index.specs.laws.CutRecords.{cut-within, cut-is}
-use Rattle.metastates.specs.Chains.{Coded, elementsIn, keyOf, headOf, headsIn}
+use Rattle.growing.specs.Chains.{Coded, elementsIn, headOf, headsIn}
+use Rattle.growing.specs.laws.Finding.{Passed, find-start, find-here, find-end, link-within, find-less, find-next}
+use Rattle.growing.specs.laws.Finding.{part-within, part-is, part-other}
+use Rattle.metastates.specs.Keys.{keyOf}
 use Rattle.metastates.specs.Networks.{metastateCode, metastateWith}
 use Rattle.metastates.specs.laws.HeldBack.{metastate-coded, metastate-wide, metastate-row, metastate-key}
-use Rattle.metastates.specs.laws.Finding.{Passed, find-start, find-here, find-end, link-within, find-less}
-use Rattle.metastates.specs.laws.Finding.{find-next, part-within, part-is, part-other}
 use Rattle.metastates.proofs.chains.find.Statement.{statement}
 use Rattle.metastates.proofs.chains.find.Tie as tie
 
@@ -50,7 +51,7 @@ module _ (start : tie.Start Inv-loop μ-loop) where
 
 -- where the size was computed, and where a turn of the loop began
 abbrev sized-of : tie.After-wide Inv-loop μ-loop → tie.After-metastate-size Inv-loop μ-loop
-sized-of c = c .before .before .before
+sized-of c = c .before .before .before .before
 
 abbrev entry : tie.In-loop Inv-loop μ-loop → tie.Start Inv-loop μ-loop
 entry turn = sized-of (turn .before .before) .before .before .before
@@ -76,16 +77,19 @@ compared c =
 metastate-size-requires : tie.Need-metastate-size-requires Inv-loop μ-loop
 metastate-size-requires c κs = search needs
 
+key-of-requires : tie.Need-key-of-requires Inv-loop μ-loop
+key-of-requires c κs = search needs
+
 head-of-requires : tie.Need-head-of-requires Inv-loop μ-loop
 head-of-requires c κs =
-    let linked = c .before .before .before .pre .0 .linked in omega (arith, linked .few)
+    let linked = c .before .before .before .before .pre .0 .linked in omega (arith, linked .few)
 
 mul-wide : tie.Need-mul-wide Inv-loop μ-loop
 mul-wide c = search needs
 
 shared-slice-read-wide : tie.Need-shared-slice-read-wide Inv-loop μ-loop
 shared-slice-read-wide c =
-    let linked = c .before .before .before .before .before .pre .0 .linked in
+    let linked = c .before .before .before .before .before .before .pre .0 .linked in
     omega (arith, linked .sized, c .before .head-of .ensures .1)
 
 wide-requires : tie.Need-wide-requires Inv-loop μ-loop
@@ -94,9 +98,10 @@ wide-requires c κs = search needs
 loop-holds : tie.Need-loop-holds Inv-loop μ-loop
 loop-holds c =
     let start = sized-of c .before .before .before in
-    let heads = headsIn (start .args .chains .now) in
+    let headed = c .before .before in
     find-start (start .pre .0 .linked) (sought start)
-    (c .before .before .head-of .ensures .0 ∙ ap (headOf heads) (key-is start))
+    (headed .head-of .ensures .0
+    ∙ ap (headOf (headsIn (start .args .chains .now))) (headed .before .key-of .ensures .0 ∙ key-is start))
     (c .wide .ensures)
 
 sub-record-at : tie.Need-sub-record-at Inv-loop μ-loop
@@ -166,6 +171,7 @@ find-spec =
     Inv-loop
     μ-loop
     metastate-size-requires
+    key-of-requires
     head-of-requires
     mul-wide
     shared-slice-read-wide

@@ -10,7 +10,7 @@ use Rattle.definitions.specs.Arcs.{arcSize}
 use Rattle.definitions.specs.laws.networks.KnownNetworks.{arcs-length}
 use Rattle.lines.specs.laws.Filling.{Filled, filled-start, filled-end}
 use Rattle.writing.specs.laws.WrittenLines.{part-put}
-use Rattle.arcs.specs.laws.KnownArcs.{allArcs}
+use Rattle.arcs.specs.Whole.{allArcs}
 use Rattle.nettext.specs.laws.Writing.{arcsText, texts-length, arc-written}
 use Rattle.nettext.proofs.writer.write_arcs.Statement.{statement}
 use Rattle.nettext.proofs.writer.write_arcs.Tie as tie

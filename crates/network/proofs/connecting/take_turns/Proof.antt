@@ -35,12 +35,12 @@ inside c = c .before .before .before
 
 -- the counts are words
 words : (c : tie.At-loop Inv-loop μ-loop)
-    → (c .loop .now .metastates < 4294967296) × (c .loop .now .arcs < 4294967296)
+    → (c .loop .now .table < 4294967296) × (c .loop .now .arcs < 4294967296)
 words c = (metastates-word (c .loop .inv), arcs-word (c .loop .inv))
 
 -- the metastate whose turn it is stands in the table
 listed : (c : tie.After-wide2 Inv-loop μ-loop)
-    → c .wide2 .result < inside (unexpanded c) .before .loop .now .metastates
+    → c .wide2 .result < inside (unexpanded c) .before .loop .now .table
 listed c =
     let left = unexpanded c in
     omega (arith, c .wide2 .ensures, left .before .before .wide .ensures, left .if1 .left)
@@ -95,7 +95,7 @@ same-length-6 c = search needs
 same-length-7 : tie.Need-same-length-7 Inv-loop μ-loop
 same-length-7 c =
     let call = called (c .before .before .before) in
-    call .expand .ensures .left .chains-sized
+    call .expand .ensures .left .step .chains-sized
     ∙ inside (unexpanded (call .before)) .before .loop .inv .chains-sized
 
 same-length-8 : tie.Need-same-length-8 Inv-loop μ-loop

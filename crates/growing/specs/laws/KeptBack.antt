@@ -13,18 +13,18 @@ use Rattle.definitions.specs.laws.lists.Lists.{padded-none, padded-take, map-at
 use Rattle.definitions.specs.laws.lists.Members.{map-back}
 use Rattle.definitions.specs.laws.lists.Records.{record-at, written-length, written-records, written-all}
 use Rattle.definitions.specs.laws.lists.Records.{arcs-read}
-use Rattle.metastates.specs.Chains.{Code, Coded, elementsOf, elementsIn, Flat, headsIn, Linked}
-use Rattle.metastates.specs.Kept.{grownHeld, Kept}
-use Rattle.metastates.specs.laws.Linking.{no-chains}
+use Rattle.growing.specs.Chains.{Code, Coded, elementsOf, elementsIn, Flat, headsIn, Linked}
+use Rattle.growing.specs.Kept.{grownHeld, Kept}
+use Rattle.growing.specs.laws.Linking.{no-chains}
 
 -- ---- elements
 
 module _ {X : Type 0} (code : Code X) (xs : List X) (coded : (x : X) → isIn x xs → Coded code x) where
-  pub elements-back : map (code .read) (map (code .words) xs) ≡ xs
+  elements-back : map (code .read) (map (code .words) xs) ≡ xs
   elements-back = map-back (code .words) (code .read) xs (λ x i. coded x i .back)
 
   -- those at the front of words
-  pub elements-read : (size : ℕ) → elementsOf code (length xs) (padded size (concatMap (code .words) xs)) ≡ xs
+  elements-read : (size : ℕ) → elementsOf code (length xs) (padded size (concatMap (code .words) xs)) ≡ xs
   unfolding padded
   elements-read size =
       ap (map (code .read)) (written-records (code .words) (code .size) xs (λ x i. coded x i .sized)
@@ -32,7 +32,7 @@ module _ {X : Type 0} (code : Code X) (xs : List X) (coded : (x : X) → isIn x 
       ∙ elements-back
 
   -- those in words that hold nothing else
-  pub elements-all : 0 < code .size → elementsIn code (concatMap (code .words) xs) ≡ xs
+  elements-all : 0 < code .size → elementsIn code (concatMap (code .words) xs) ≡ xs
   elements-all some =
       ap (map (code .read)) (written-all (code .words) (code .size) xs (λ x i. coded x i .sized) some)
       ∙ elements-back

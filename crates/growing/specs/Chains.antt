@@ -3,10 +3,10 @@
 -- links between elements. Places count from 1, and 0 ends a chain. What an element is, how many words it takes
 -- and which key it has are the code's affair alone.
 use mathlib.Core.Path.{_≡_}
-use mathlib.Core.List.{List, [], _∷_, map}
-use Prim.Native.Nat.{ℕ, suc, _+_, _-_, _*_, _/_, _%_, _^_, _≤_, _<_}
-use lib.Bits.{bitAnd, bitXor}
-use lib.ListN.{length, set, drop, getD}
+use mathlib.Core.List.{List, map}
+use Prim.Native.Nat.{ℕ, suc, _+_, _-_, _*_, _/_, _≤_, _<_}
+use lib.Bits.{bitAnd}
+use lib.ListN.{length, set, getD}
 use Rattle.definitions.specs.Lists.{_!_, records, concatMap, isIn}
 
 -- ---- elements in words
@@ -39,20 +39,6 @@ elementsIn code words = elementsOf code (length words / code .size) words
 pub record Flat {X : Type 0} (code : Code X) (table : List X) (words : List ℕ) : Type 0 where
   pub filled : words ≡ concatMap (code .words) table
   pub coded : (x : X) → isIn x table → Coded code x
-
--- ---- keys
-
--- a word turned by 26 bits
-abbrev pub turned : (word : ℕ) → ℕ
-turned word = bitXor (word * 2 ^ 26 % 2 ^ 64) (word / 2 ^ 38)
-
--- a key, below 65521, of a number and columns
-unfoldable pub keyFrom : (key : ℕ) → (columns : List ℕ) → ℕ
-keyFrom key [] = key % 65521
-keyFrom key (column ∷ columns) = keyFrom (bitXor (turned key) column) columns
-
-unfoldable pub keyOf : (row : List ℕ) → ℕ
-keyOf row = keyFrom (row ! 0) (drop 1 row)
 
 -- ---- chains
 

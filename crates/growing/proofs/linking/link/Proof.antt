@@ -1,13 +1,13 @@
--- `chains::link` meets its contract: the two words that change.
+-- `linking::link` meets its contract: the two words that change.
 use mathlib.Core.Path.{ap}
 use Prim.Native.Nat.{ℕ, _+_}
 use native.Mathlib.Omega.{arith}
 use lib.ListN.{set, length-set}
 use borrow.Author.Needs.{needs}
 use Rattle.definitions.specs.Lists.{_!_}
-use Rattle.metastates.specs.Chains.{headsIn}
-use Rattle.metastates.proofs.chains.link.Statement.{statement}
-use Rattle.metastates.proofs.chains.link.Tie as tie
+use Rattle.growing.specs.Chains.{headsIn}
+use Rattle.growing.proofs.linking.link.Statement.{statement}
+use Rattle.growing.proofs.linking.link.Tie as tie
 
 head-of-requires : tie.Need-head-of-requires
 head-of-requires c κs = search needs

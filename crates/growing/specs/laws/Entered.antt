@@ -16,7 +16,7 @@ use Rattle.definitions.specs.laws.text.Judging.{allPass, judge-passing}
 use Rattle.definitions.specs.Lists.{isIn, distinct, placeOf}
 use Rattle.definitions.specs.laws.lists.Members.{in-at}
 use Rattle.definitions.specs.laws.networks.Limits.{withElement, element-first}
-use Rattle.metastates.specs.Chains.{Code, Found}
+use Rattle.growing.specs.Chains.{Code, Found}
 
 module _ {X E : Type 0} (code : Code X) (m : Machine X E) (tells : Tells (m .same)) (room : Room) (net : Grown X)
     (from : ℕ) (e : E) (passes : allPass (m .tests e)) {found : ℕ}

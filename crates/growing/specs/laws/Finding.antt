@@ -14,8 +14,8 @@ use Rattle.definitions.specs.laws.lists.Tests.{by-test}
 use Rattle.definitions.specs.laws.lists.Lists.{same-lists, same-self, map-at}
 use Rattle.definitions.specs.laws.lists.Members.{in-at, place-of}
 use Rattle.definitions.specs.laws.lists.Records.{record-at, written-length, written-records}
-use Rattle.metastates.specs.Chains.{Code, Coded, Flat, headOf, headAt, Latest, Linked, Found}
-use Rattle.metastates.specs.laws.Keys.{head-below}
+use Rattle.growing.specs.Chains.{Code, Coded, Flat, headOf, headAt, Latest, Linked, Found}
+use Rattle.growing.specs.laws.Heads.{head-below}
 
 -- the element stands nowhere from a place on, which counts from 1 and has its head
 pub record Passed {X : Type 0} (code : Code X) (heads : ℕ) (table : List X) (x : X) (at : ℕ) : Type 0 where
@@ -90,14 +90,14 @@ module _ {X : Type 0} {code : Code X} {heads : ℕ} {chains : List ℕ} {table :
 -- the words of the element at a place
 module _ {X : Type 0} {code : Code X} {table : List X} {words : List ℕ} (flat : Flat code table words)
     {i : ℕ} (h : i < length table) where
-  pub words-within : code .size * i + code .size ≤ length words
+  words-within : code .size * i + code .size ≤ length words
   words-within =
       let all : length words ≡ code .size * length table =
       ap length (flat .filled) ∙ written-length (code .words) (code .size) table (λ x j. flat .coded x j .sized) in
       let most : code .size * suc i ≤ code .size * length table = mul-le-mul-left (code .size) h in
       omega (arith, all, most, mul-suc (code .size) i)
 
-  pub words-at : take (code .size) (drop (code .size * i) words) ≡ code .words (getD table i (code .nothing))
+  words-at : take (code .size) (drop (code .size * i) words) ≡ code .words (getD table i (code .nothing))
   words-at =
       let rows = written-records (code .words) (code .size) table (λ x j. flat .coded x j .sized) [] in
       let own : records (code .size) (length table) words ≡ map (code .words) table =

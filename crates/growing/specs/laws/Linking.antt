@@ -10,8 +10,8 @@ use lib.Seq.{getD-set-same, getD-set-other, getD-at}
 use borrow.Author.Tests.{ltb-true, ltb-false, eqb-true, eqb-false}
 use Rattle.definitions.specs.Lists.{_!_, cleared}
 use Rattle.definitions.specs.laws.lists.Tests.{by-test}
-use Rattle.metastates.specs.Chains.{Code, headOf, headAt, Latest, Linked, linkedTo}
-use Rattle.metastates.specs.laws.Keys.{head-below}
+use Rattle.growing.specs.Chains.{Code, headOf, headAt, Latest, Linked, linkedTo}
+use Rattle.growing.specs.laws.Heads.{head-below}
 
 -- ---- the latest place of a head
 

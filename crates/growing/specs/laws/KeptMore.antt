@@ -16,9 +16,9 @@ use Rattle.definitions.specs.laws.lists.Lists.{padded-length}
 use Rattle.definitions.specs.laws.lists.Members.{of-append, of-single, distinct-more}
 use Rattle.definitions.specs.laws.networks.Limits.{withElement}
 use Rattle.definitions.specs.laws.lists.Records.{flat-length, written-length, arc-sized}
-use Rattle.metastates.specs.Chains.{Code, Coded, headsIn, Linked, linkedTo}
-use Rattle.metastates.specs.Kept.{Kept}
-use Rattle.metastates.specs.laws.Linking.{chained-length, linked-more}
+use Rattle.growing.specs.Chains.{Code, Coded, headsIn, Linked, linkedTo}
+use Rattle.growing.specs.Kept.{Kept}
+use Rattle.growing.specs.laws.Linking.{chained-length, linked-more}
 
 -- ---- words after the used ones
 

@@ -6,7 +6,7 @@ use lib.ListN.{length}
 use Rattle.definitions.specs.Lists.{concatMap, padded, isIn, distinct}
 use Rattle.definitions.specs.Arcs.{arcSize, arcsIn, arcWords}
 use Rattle.definitions.specs.Growing.{Grown, Room}
-use Rattle.metastates.specs.Chains.{Code, Coded, elementsOf, headsIn, Linked}
+use Rattle.growing.specs.Chains.{Code, Coded, elementsOf, headsIn, Linked}
 
 -- what so many elements and arcs at the front of words make
 abbrev pub grownHeld : {X : Type 0} → Code X → (elements count : ℕ) → (table arcs : List ℕ) → Grown X
