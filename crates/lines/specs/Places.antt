@@ -4,17 +4,17 @@ use mathlib.Core.List.{List, [], _∷_, _++_}
 use mathlib.Core.Option.{Option, none, some}
 use Prim.Native.Nat.{_-_, _≤_, ℕ, zero, suc}
 use lib.ListN.{take, drop, getD}
-use Rattle.definitions.specs.Forms.{Range, Form, _‥_, bookForms, networkForms}
+use Rattle.definitions.specs.Forms.{Range, Form, _‥_, bookForms, networkForms, wordForms}
 use Rattle.lines.specs.declared.Letters.{Letters}
 use Rattle.lines.specs.Rows.{formsOf}
 
 -- the tables of all letters
 abbrev pub allForms : List Form
-allForms = bookForms ++ networkForms
+allForms = bookForms ++ networkForms ++ wordForms
 
 -- how many there are
 abbrev pub formCount : ℕ
-formCount = 8
+formCount = 9
 
 unfoldable pub formIn : List Form → (place : ℕ) → Option Form
 formIn [] place = none

@@ -4,10 +4,10 @@ use mathlib.Core.Bool.{true, false}
 use mathlib.Core.Option.{Option, none, some}
 use lib.ListN.{length, take}
 use Rattle.definitions.specs.Lists.{padded}
-use Rattle.definitions.specs.Forms.{Form, bookForms, networkForms}
+use Rattle.definitions.specs.Forms.{Form, bookForms, networkForms, wordForms}
 use Rattle.definitions.specs.Lines.{Line, Field, blank, malformed, number}
 use Rattle.lines.specs.declared.Letters.{Letters}
-use Rattle.lines.specs.declared.Letters.the-variants.{Book, Network}
+use Rattle.lines.specs.declared.Letters.the-variants.{Book, Network, Words}
 use Rattle.lines.specs.declared.Field as declared
 use Rattle.lines.specs.declared.Field.the-variants.{Blank, Malformed, Number}
 use Rattle.lines.specs.declared.Row.{Row}
@@ -17,6 +17,7 @@ use Rattle.lines.specs.declared.Parsed.{Parsed}
 abbrev pub formsOf : Letters → List Form
 formsOf Book = bookForms
 formsOf Network = networkForms
+formsOf Words = wordForms
 
 -- a field as the code answers it, as a field of document 01
 unfoldable pub fieldIn : declared.Field → Field

@@ -13,7 +13,7 @@ ghost use Rattle.lines.specs.Rows.{formsOf};
 struct Range(u32, u32);
 
 // How many letters the table has.
-const FORM_COUNT: usize = 8;
+const FORM_COUNT: usize = 9;
 
 // The place of a letter that the table does not have.
 pub const NO_LETTER: usize = FORM_COUNT;
@@ -27,7 +27,7 @@ struct Form {
     ranges: [Range; 5],
 }
 
-// The letters of a tree book, then those of network text.
+// The letters of a tree book, those of network text, then that of a word book.
 const FORMS: [Form; FORM_COUNT] = [
     // half-width, states per phone, phones, classes, nodes
     Form {
@@ -101,6 +101,12 @@ const FORMS: [Form; FORM_COUNT] = [
             UNUSED,
         ],
     },
+    // word, place, phone
+    Form {
+        letter: b'V',
+        used: 3,
+        ranges: [Range(1, 9999), Range(1, 64), Range(1, 64), UNUSED, UNUSED],
+    },
 ];
 
 // Where the letters of a kind of text begin and end among all letters.
@@ -114,8 +120,9 @@ fn block_of(letters: Letters) -> Block
 {
     match letters {
         Letters::Book => Block { from: 0, end: 6 },
-        Letters::Network => Block {
-            from: 6,
+        Letters::Network => Block { from: 6, end: 8 },
+        Letters::Words => Block {
+            from: 8,
             end: FORM_COUNT,
         },
     }

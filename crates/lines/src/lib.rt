@@ -1,5 +1,5 @@
-// The line of 32 bytes that tree books and network text share, read by the table of its letter; the clearing of lent
-// buffers; and places of what is counted from 1.
+// The line of 32 bytes that tree books, network text and word books share, read by the table of its letter; the
+// clearing of lent buffers; and places of what is counted from 1.
 pub mod clearing;
 pub mod counting;
 mod fields;
@@ -14,6 +14,7 @@ use definitions::Fault;
 pub enum Letters {
     Book,
     Network,
+    Words,
 }
 
 // A line's letter and the numbers in its used fields, which come first; the other numbers are 0.

@@ -20,7 +20,7 @@ use Rattle.definitions.specs.laws.lists.Lists.{padded-none}
 use Rattle.definitions.specs.laws.lists.Records.{read-at}
 use Rattle.definitions.specs.laws.text.Lines.{line-known, line-unknown, form-letter, fields-five}
 use Rattle.lines.specs.declared.Letters.{Letters}
-use Rattle.lines.specs.declared.Letters.the-variants.{Book, Network}
+use Rattle.lines.specs.declared.Letters.the-variants.{Book, Network, Words}
 use Rattle.lines.specs.Places.{formIn, formAt, rangesAt, formCount}
 use Rattle.lines.specs.Rows.{formsOf, rowOf, parsedOf}
 use Rattle.lines.specs.Entries.{fieldAt, fieldEntry}
@@ -179,6 +179,7 @@ no-line : (letters : Letters) (s : List ℕ) → length s ≡ 0 → lineOf (form
 unfolding lineOf formOf
 no-line Book [] h = refl
 no-line Network [] h = refl
+no-line Words [] h = refl
 no-line letters (b ∷ s) h = absurd (omega arith)
 
 pub parsed-empty : (letters : Letters) (s : List ℕ) → length s ≡ 0
