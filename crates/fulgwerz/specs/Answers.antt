@@ -13,11 +13,15 @@ use Rattle.definitions.specs.BookReading.{Lent, readBook}
 use Rattle.definitions.specs.Arcs.{arcsIn}
 use Rattle.definitions.specs.Paths.{finalLast}
 use Rattle.definitions.specs.Said.{Said, Progress, Span}
+use Rattle.definitions.specs.WordBooks.{wordsIn}
 use Rattle.definitions.specs.demand.Demand.{Demand3}
+use Rattle.definitions.specs.joined.JoinedPaths.{JoinedPaths}
+use Rattle.joining.specs.declared.JoinedCounts.{JoinedCounts}
 use Rattle.fulgwerz.specs.declared.ReadAnswer.{ReadAnswer}
 use Rattle.fulgwerz.specs.declared.LeafAnswer.{LeafAnswer}
 use Rattle.fulgwerz.specs.declared.CountAnswer.{CountAnswer}
 use Rattle.fulgwerz.specs.declared.BuildAnswer.{BuildAnswer}
+use Rattle.fulgwerz.specs.declared.JoinAnswer.{JoinAnswer}
 use Rattle.fulgwerz.specs.declared.NetworkAnswer.{NetworkAnswer}
 use Rattle.fulgwerz.specs.declared.PartAnswer.{PartAnswer}
 
@@ -42,6 +46,11 @@ partAnswer s =
 abbrev pub networkAnswer : Said Counts → NetworkAnswer
 networkAnswer s = record { fault = s .fault; line = s .line; counts = s .values }
 
+-- how many joined states and arcs there are
+abbrev pub joinAnswer : Said JoinedCounts → JoinAnswer
+joinAnswer s =
+    record { fault = s .fault; line = s .line; states = s .values .states; arcs = s .values .arcs }
+
 -- whether it is finished, the turns done, and the counts, with k
 abbrev pub buildAnswer : Said Progress → BuildAnswer
 buildAnswer s =
@@ -64,3 +73,11 @@ MeetsDemand3 lent text answer arcs =
 abbrev pub KeepsFinalLast : BuildAnswer → (arcs : List ℕ) → Type 0
 KeepsFinalLast answer arcs =
     answer .finished ≡ true → T (finalLast (arcsIn (answer .counts .arcs) arcs))
+
+-- The path statement of an answer and the words in the buffer of joined arcs: where there is no fault, for every book
+-- of which demand 3 holds of the lent arcs, and if no arc leaves FINAL.
+abbrev pub KeepsPaths : Counts → (arcs : List ℕ) → (count : ℕ) → (words : List ℕ) → JoinAnswer → (joined : List ℕ)
+    → Type 0
+KeepsPaths counts arcs count words answer joined =
+    answer .fault ≡ 0 → (lines : List BookLine) → Demand3 lines counts arcs
+    → T (finalLast (arcsIn (counts .arcs) arcs)) → JoinedPaths lines (wordsIn count words) (answer .arcs) joined

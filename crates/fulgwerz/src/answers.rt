@@ -2,6 +2,7 @@
 // beside a refusal's number and line, all else.
 use crate::BuildAnswer;
 use crate::CountAnswer;
+use crate::JoinAnswer;
 use crate::LeafAnswer;
 use crate::NetworkAnswer;
 use crate::PartAnswer;
@@ -30,7 +31,9 @@ ghost use Rattle.arcs.specs.Standing.{standingSaid};
 ghost use Rattle.network.specs.Answers.{soFar, buildSaid};
 ghost use Rattle.nettext.specs.Answers.{readingSaid as networkSaid};
 ghost use Rattle.fulgwerz.specs.Answers.{readAnswer, leafAnswer, countAnswer, partAnswer};
-ghost use Rattle.fulgwerz.specs.Answers.{networkAnswer, buildAnswer};
+ghost use Rattle.words.specs.Answers.{readingSaid as wordsSaid};
+ghost use Rattle.joining.specs.Answers.{joiningSaid};
+ghost use Rattle.fulgwerz.specs.Answers.{networkAnswer, joinAnswer, buildAnswer};
 
 // What a refusal says: the number of its fault, and its line.
 struct Cause {
@@ -234,6 +237,50 @@ pub fn build_answer(answer: Build) -> BuildAnswer
                 finished: false,
                 turns: 0,
                 counts: no_counts(),
+            }
+        }
+    }
+}
+
+// How many words there are.
+pub fn words_answer(reading: words::Reading) -> CountAnswer
+    ensures { λ r. ⌜ r ≡ countAnswer (wordsSaid reading) ⌝ }
+{
+    match reading {
+        words::Reading::Accepted(count) => CountAnswer {
+            fault: 0,
+            line: 0,
+            count,
+        },
+        words::Reading::Refused(refusal) => {
+            let cause = cause_of(refusal);
+            CountAnswer {
+                fault: cause.fault,
+                line: cause.line,
+                count: 0,
+            }
+        }
+    }
+}
+
+// How many joined states and arcs there are.
+pub fn join_answer(answer: joining::Answer) -> JoinAnswer
+    ensures { λ r. ⌜ r ≡ joinAnswer (joiningSaid answer) ⌝ }
+{
+    match answer {
+        joining::Answer::Joined(counted) => JoinAnswer {
+            fault: 0,
+            line: 0,
+            states: counted.states,
+            arcs: counted.arcs,
+        },
+        joining::Answer::Refused(refusal) => {
+            let cause = cause_of(refusal);
+            JoinAnswer {
+                fault: cause.fault,
+                line: cause.line,
+                states: 0,
+                arcs: 0,
             }
         }
     }

@@ -3,6 +3,7 @@
 mod answers;
 mod books;
 mod building;
+mod lessons;
 mod lookups;
 mod networks;
 
@@ -51,6 +52,15 @@ pub struct NetworkAnswer {
     pub fault: u32,
     pub line: usize,
     pub counts: Counts,
+}
+
+// Of joining a network with words.
+#[repr(C)]
+pub struct JoinAnswer {
+    pub fault: u32,
+    pub line: usize,
+    pub states: usize,
+    pub arcs: usize,
 }
 
 // Where a part of the lent arcs stands, in words.
