@@ -1,9 +1,10 @@
 /*
- * Fulgwerz: reads tree books, builds speech recognition networks, and puts both to work.
+ * Fulgwerz: reads tree books, builds speech recognition networks, joins them with words, and puts all to work.
  *
  * These are the entries of libfulgwerz.a, which `rt staticlib fulgwerz` proves and writes. Each calls one proved
  * function and is proved to answer what that function answers. What a book, a network and their numbers mean is
- * said in docs/document-01.md, what a book's plain form and its boundary phones are in docs/document-02.md (P1, P2).
+ * said in docs/document-01.md, what a book's plain form, its boundary phones, a word book and a joined network are in
+ * docs/document-02.md (P1, P2, P4).
  * The archive is for Linux on x86-64; it needs memcpy and its like (memset, memmove, memcmp), which every C library
  * has, and nothing else.
  *
@@ -27,17 +28,17 @@
  *   Where fault is 0, line is 0 too, and in a buffer that was filled every element after the answer is 0.
  *
  * What may be lent
- *   Anything: no entry asks more of its caller than pointers and lengths that are true. Headers, counts, tables
- *   and arcs that no reading leaves are refused (18). Tables and arcs that a call filled may be lent again whole,
- *   or cut to what their header or counts say; elements beyond that must be 0.
+ *   Anything: no entry asks more of its caller than pointers and lengths that are true. Headers, counts, tables,
+ *   arcs and words that no reading leaves are refused (18). Tables, arcs and words that a call filled may be lent
+ *   again whole, or cut to what their header or counts say; elements beyond that must be 0.
  *
  * Threads and stack
  *   No entry keeps a pointer, allocates, prints or has a state of its own: any number of threads may call at once,
  *   as long as none fills a buffer that another uses.
  *   fulgwerz_combine, fulgwerz_build and fulgwerz_build_book keep their working space on the stack of the calling
- *   thread, about 3.6 million bytes at most; fulgwerz_write_book takes about 500,000 there, the others take less than
- *   100,000. (Measured, not proved.) A main thread with the usual 8 MiB has enough; other threads may have less unless
- *   they are given more.
+ *   thread, about 3.6 million bytes at most; fulgwerz_write_book takes about 500,000 there and fulgwerz_join about
+ *   600,000, the others take less than 100,000. (Measured, not proved.) A main thread with the usual 8 MiB has enough;
+ *   other threads may have less unless they are given more.
  */
 #ifndef FULGWERZ_H
 #define FULGWERZ_H
@@ -50,24 +51,25 @@
 extern "C" {
 #endif
 
-/* The faults, by the words of document 01; 21 is document 02's. (22 is given by the build program alone.) */
+/* The faults, by the words of document 01; 21 and 51 are document 02's. (22 is given by the build program alone.) */
 enum {
-    FULGWERZ_RAGGED = 11,    /* length 0 or not a multiple of 32, or a 32nd byte that is no line feed */
-    FULGWERZ_MISPRINT = 12,  /* a letter that this kind of text never has, or a malformed field */
-    FULGWERZ_RANGE = 13,     /* a number outside its stated range or the header's counts */
-    FULGWERZ_ORDER = 14,     /* a letter in the wrong place, or numbers out of order */
-    FULGWERZ_BACKWARD = 15,  /* a child not greater than its node */
-    FULGWERZ_ORPHAN = 16,    /* a node named twice or never */
-    FULGWERZ_COUNT = 17,     /* the lines end too early, or go on */
-    FULGWERZ_FOREIGN = 18,   /* lent tables or arcs, with their header or counts, that the readers never leave */
-    FULGWERZ_NARROW = 20,    /* a table too short for the header */
-    FULGWERZ_CHAINED = 21,   /* a plain phone that is itself a boundary phone in the book */
-    FULGWERZ_CHOICES = 30,   /* more combinations than the lent space or 65535 */
-    FULGWERZ_CROWD = 31,     /* a new metastate beyond the lent space or 65535 */
-    FULGWERZ_TANGLE = 32,    /* an arc beyond the lent space or 999999 */
-    FULGWERZ_SHORT = 33,     /* an output text or model buffer too short */
-    FULGWERZ_UTTERANCE = 41, /* a sequence empty, with a phone out of range, or not silence at both ends */
-    FULGWERZ_STATE = 42      /* a state number not in the network */
+    FULGWERZ_RAGGED = 11,      /* length 0 or not a multiple of 32, or a 32nd byte that is no line feed */
+    FULGWERZ_MISPRINT = 12,    /* a letter that this kind of text never has, or a malformed field */
+    FULGWERZ_RANGE = 13,       /* a number outside its stated range or the header's counts */
+    FULGWERZ_ORDER = 14,       /* a letter in the wrong place, or numbers out of order */
+    FULGWERZ_BACKWARD = 15,    /* a child not greater than its node */
+    FULGWERZ_ORPHAN = 16,      /* a node named twice or never */
+    FULGWERZ_COUNT = 17,       /* the lines end too early, or go on */
+    FULGWERZ_FOREIGN = 18,     /* lent tables, arcs or words, with header or counts, that the readers never leave */
+    FULGWERZ_NARROW = 20,      /* a table too short for the header */
+    FULGWERZ_CHAINED = 21,     /* a plain phone that is itself a boundary phone in the book */
+    FULGWERZ_CHOICES = 30,     /* more combinations than the lent space or 65535 */
+    FULGWERZ_CROWD = 31,       /* a new metastate, or a new joined state, beyond the lent space or 65535 */
+    FULGWERZ_TANGLE = 32,      /* an arc beyond the lent space or 999999 */
+    FULGWERZ_SHORT = 33,       /* an output text or model buffer too short */
+    FULGWERZ_UTTERANCE = 41,   /* a sequence empty, with a phone out of range, or not silence at both ends */
+    FULGWERZ_STATE = 42,       /* a state number not in the network */
+    FULGWERZ_VOCABULARY = 51   /* more words than the lent table holds */
 };
 
 /* How many elements a record takes. */
@@ -75,13 +77,15 @@ enum {
     FULGWERZ_NODE = 5,         /* 32-bit words: 1 question or 2 leaf; class or model; position; yes; no */
     FULGWERZ_COMBINATION = 11, /* 64-bit words: phone, three leaf nodes, seven columns */
     FULGWERZ_METASTATE = 8,    /* 64-bit words: combination number, seven columns */
-    FULGWERZ_ARC = 4,          /* 32-bit words: from, to, model, phone */
+    FULGWERZ_ARC = 4,          /* 32-bit words: from, to, model, phone; of a joined arc: from, to, model, word */
+    FULGWERZ_WORD = 65,        /* 32-bit words: length, phones, then 0 */
+    FULGWERZ_JOINED = 3,       /* 32-bit words: network state, word, mark */
     FULGWERZ_LINE = 32         /* bytes of a line of text */
 };
 
 /*
  * The most that there can be. Tables of 4096 nodes, 255 classes, 192 roots and 64 plain phones are never too short for
- * a book.
+ * a book, a table of 9999 words never for a word book.
  */
 enum {
     FULGWERZ_MAX_NODES = 4096,
@@ -90,7 +94,9 @@ enum {
     FULGWERZ_MAX_PLAINS = 64, /* one for each phone */
     FULGWERZ_MAX_COMBINATIONS = 65535,
     FULGWERZ_MAX_METASTATES = 65535, /* so there are never more turns than this */
-    FULGWERZ_MAX_ARCS = 999999
+    FULGWERZ_MAX_ARCS = 999999, /* of a network, and of a joined one */
+    FULGWERZ_MAX_WORDS = 9999,
+    FULGWERZ_MAX_JOINED = 65535
 };
 
 /* What the table of roots holds where no R line gives a root; no node has this number. */
@@ -136,7 +142,7 @@ typedef struct {
 typedef struct {
     uint32_t fault;
     size_t line;
-    size_t count;  /* of models, combinations or bytes, as the entry says */
+    size_t count;  /* of models, combinations, bytes or words, as the entry says */
 } fulgwerz_count_answer;
 
 typedef struct {
@@ -159,6 +165,13 @@ typedef struct {
     size_t start;   /* where the part begins in the lent arcs, in words */
     size_t length;  /* how many words it has */
 } fulgwerz_part_answer;
+
+typedef struct {
+    uint32_t fault;
+    size_t line;
+    size_t states;  /* joined states, 0 and 1 included */
+    size_t arcs;    /* joined arcs */
+} fulgwerz_join_answer;
 
 /*
  * Reads a tree book. Fills nodes (5 words each), classes (a word each, phone p being the bit worth 2^(p-1)), roots
@@ -299,6 +312,34 @@ fulgwerz_count_answer fulgwerz_write(
 fulgwerz_network_answer fulgwerz_read_network(
     const uint8_t *text, size_t text_length,
     uint32_t *arcs, size_t arcs_length);
+
+/*
+ * Reads a word book. Fills words (65 elements for each word: how many phones it has, its phones, then 0); count is how
+ * many words there are.
+ * Faults: 11 to 14, 51.
+ */
+fulgwerz_count_answer fulgwerz_read_words(
+    const uint8_t *text, size_t text_length,
+    uint32_t *words, size_t words_length);
+
+/*
+ * Joins a network with the words of a word book; word_count is how many there are. Fills states (3 elements each: a
+ * state of the network, a word, a mark) and joined (4 elements each: from, to, model, word); from and to are joined
+ * states, by their numbers.
+ * State 0 is INITIAL with 0, 0, state 1 is FINAL with 0, 2. The mark is how many phones of the word were met; where
+ * the word is 0, it is 0 before the first silence, 1 between words and 2 after the last silence. An arc has a word
+ * where the word's first phone is met, else 0. Of a finished network a model sequence and a word sequence have a path
+ * from 0 to 1 exactly when the network carries the models with silence, the phones of the words in order, and silence.
+ * There may be states from which no path goes on to 1. Any arcs that are not foreign are joined.
+ * Faults: 18 (arcs, then words), 31, 32.
+ */
+fulgwerz_join_answer fulgwerz_join(
+    fulgwerz_counts counts,
+    const uint32_t *arcs, size_t arcs_length,
+    size_t word_count,
+    const uint32_t *words, size_t words_length,
+    uint32_t *states, size_t states_length,
+    uint32_t *joined, size_t joined_length);
 
 #ifdef __cplusplus
 }

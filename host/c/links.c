@@ -156,6 +156,44 @@ static const uint32_t DIALECT_ARCS[] = {
     4, 2, 10, 1,  4, 3, 20, 2,  4, 4, 21, 3,
 };
 
+/*
+ * A word book: word 1 is phone 2, word 2 is phone 2 twice. And the example's network joined with it: states are network
+ * state, word, mark; arcs are from, to, model, word.
+ */
+static const char WORD_BOOK[] =
+    "V     1     1     2            \n"
+    "V     2     1     2            \n"
+    "V     2     2     2            \n";
+
+enum { WORD_BOOK_BYTES = 3 * FULGWERZ_LINE };
+
+static const uint32_t WORDS[2 * FULGWERZ_WORD] = {[0] = 1, [1] = 2, [FULGWERZ_WORD] = 2, 2, 2};
+
+static const uint32_t JOINED_STATES[] = {
+    0, 0, 0,
+    1, 0, 2,
+    2, 0, 1, /* after the first silence */
+    2, 0, 2, /* after the last */
+    3, 0, 1, /* word 1 is said */
+    3, 2, 1, /* one phone of word 2 */
+    4, 0, 2,
+    5, 0, 1,
+    5, 2, 1,
+};
+
+static const uint32_t JOINED_ARCS[] = {
+    0, 2, 10, 0,
+    2, 3, 10, 0,  2, 4, 20, 1,  2, 5, 20, 2,
+    3, 1, 0, 0,
+    4, 6, 10, 0,  4, 7, 21, 1,  4, 8, 21, 2,
+    5, 7, 21, 0,
+    6, 1, 0, 0,
+    7, 6, 10, 0,  7, 7, 21, 1,  7, 8, 21, 2,
+    8, 7, 21, 0,
+};
+
+enum { JOINED_STATE_COUNT = 9, JOINED_ARC_COUNT = 14 };
+
 /* Lent buffers, each longer than the examples need, and not by whole records. */
 
 static uint32_t nodes[COUNT(NODES) + 7];
@@ -166,6 +204,9 @@ static uint64_t combinations[COUNT(COMBINATIONS) + 13];
 static uint64_t metastates[COUNT(METASTATES) + 9];
 static uint32_t arcs[COUNT(ARCS) + 5];
 static uint32_t models[9];
+static uint32_t words[COUNT(WORDS) + 66];
+static uint32_t states[COUNT(JOINED_STATES) + 4];
+static uint32_t joined[COUNT(JOINED_ARCS) + 6];
 static uint8_t text[NETWORK_BYTES + 40];
 
 /* Fills every buffer with other words. */
@@ -178,6 +219,9 @@ static void spoil(void) {
     memset(metastates, 0xa5, sizeof metastates);
     memset(arcs, 0xa5, sizeof arcs);
     memset(models, 0xa5, sizeof models);
+    memset(words, 0xa5, sizeof words);
+    memset(states, 0xa5, sizeof states);
+    memset(joined, 0xa5, sizeof joined);
     memset(text, 0xa5, sizeof text);
 }
 
@@ -271,6 +315,20 @@ static fulgwerz_build_answer build_book(
         turn_limit);
 }
 
+static fulgwerz_count_answer read_words(const char *book, size_t length, size_t words_length) {
+    spoil();
+    return fulgwerz_read_words(bytes(book), length, words, words_length);
+}
+
+static fulgwerz_join_answer join(
+    fulgwerz_counts counts, size_t word_count, const uint32_t *own_words, size_t words_length,
+    size_t state_room, size_t arc_room) {
+    spoil();
+    return fulgwerz_join(
+        counts, ARCS, COUNT(ARCS), word_count, own_words, words_length,
+        states, state_room * FULGWERZ_JOINED, joined, arc_room * FULGWERZ_ARC);
+}
+
 /* Sizes and places of all fields, as the archive has them. */
 
 static void check_small_layouts(void) {
@@ -329,6 +387,12 @@ static void check_answer_layouts(void) {
     CHECK(offsetof(fulgwerz_part_answer, line) == 8);
     CHECK(offsetof(fulgwerz_part_answer, start) == 16);
     CHECK(offsetof(fulgwerz_part_answer, length) == 24);
+
+    CHECK(sizeof(fulgwerz_join_answer) == 32);
+    CHECK(offsetof(fulgwerz_join_answer, fault) == 0);
+    CHECK(offsetof(fulgwerz_join_answer, line) == 8);
+    CHECK(offsetof(fulgwerz_join_answer, states) == 16);
+    CHECK(offsetof(fulgwerz_join_answer, arcs) == 24);
 }
 
 static void check_read(void) {
@@ -722,9 +786,107 @@ static void check_read_network(void) {
     check_network_refused(NETWORK_BYTES, 0, FULGWERZ_NARROW, 1);
 }
 
+static void check_words_refused(const char *book, size_t length, size_t words_length, uint32_t fault, size_t line) {
+    fulgwerz_count_answer read = read_words(book, length, words_length);
+    CHECK(read.fault == fault);
+    CHECK(read.line == line);
+    CHECK(read.count == 0);
+    CHECK(holds(words, words_length * sizeof words[0], "", 0));
+    CHECK(words_length == COUNT(words) || words[words_length] == 0xa5a5a5a5);
+}
+
+/* The word book with one line changed; lines count from 1. */
+static const char *with_word_line(size_t number, const char *line) {
+    static char book[sizeof WORD_BOOK];
+    memcpy(book, WORD_BOOK, sizeof WORD_BOOK);
+    memcpy(book + (number - 1) * FULGWERZ_LINE, line, FULGWERZ_LINE);
+    return book;
+}
+
+static void check_read_words(void) {
+    fulgwerz_count_answer read = read_words(WORD_BOOK, WORD_BOOK_BYTES, COUNT(words));
+    CHECK(read.fault == 0 && read.line == 0 && read.count == 2);
+    CHECK(HOLDS(words, WORDS));
+    read = read_words(WORD_BOOK, WORD_BOOK_BYTES, COUNT(WORDS));
+    CHECK(read.fault == 0 && read.line == 0 && read.count == 2);
+    CHECK(memcmp(words, WORDS, sizeof WORDS) == 0 && words[COUNT(WORDS)] == 0xa5a5a5a5);
+
+    check_words_refused(WORD_BOOK, 0, COUNT(words), FULGWERZ_RAGGED, 0);
+    check_words_refused(WORD_BOOK, WORD_BOOK_BYTES - 1, COUNT(words), FULGWERZ_RAGGED, 0);
+    const char *misprint = with_word_line(2, "W     2     1     2            \n");
+    check_words_refused(misprint, WORD_BOOK_BYTES, COUNT(words), FULGWERZ_MISPRINT, 2);
+    const char *range = with_word_line(2, "V     2     1    65            \n");
+    check_words_refused(range, WORD_BOOK_BYTES, COUNT(words), FULGWERZ_RANGE, 2);
+    const char *order = with_word_line(3, "V     2     3     2            \n");
+    check_words_refused(order, WORD_BOOK_BYTES, COUNT(words), FULGWERZ_ORDER, 3);
+    check_words_refused(order, WORD_BOOK_BYTES, FULGWERZ_WORD, FULGWERZ_ORDER, 3);
+    check_words_refused(WORD_BOOK, WORD_BOOK_BYTES, COUNT(WORDS) - 1, FULGWERZ_VOCABULARY, 0);
+    check_words_refused(WORD_BOOK, WORD_BOOK_BYTES, 0, FULGWERZ_VOCABULARY, 0);
+}
+
+static void check_joined(fulgwerz_join_answer answer, size_t state_room, size_t arc_room) {
+    CHECK(answer.fault == 0 && answer.line == 0);
+    CHECK(answer.states == JOINED_STATE_COUNT && answer.arcs == JOINED_ARC_COUNT);
+    CHECK(holds(states, state_room * FULGWERZ_JOINED * sizeof states[0], JOINED_STATES, sizeof JOINED_STATES));
+    CHECK(holds(joined, arc_room * FULGWERZ_ARC * sizeof joined[0], JOINED_ARCS, sizeof JOINED_ARCS));
+}
+
+static void check_join_refused(
+    fulgwerz_join_answer answer, size_t state_room, size_t arc_room, uint32_t fault) {
+    CHECK(answer.fault == fault);
+    CHECK(answer.line == 0 && answer.states == 0 && answer.arcs == 0);
+    CHECK(holds(states, state_room * FULGWERZ_JOINED * sizeof states[0], "", 0));
+    CHECK(holds(joined, arc_room * FULGWERZ_ARC * sizeof joined[0], "", 0));
+}
+
+static void check_join(void) {
+    check_joined(join(COUNTS, 2, WORDS, COUNT(WORDS), 9, 14), 9, 14);
+    CHECK(states[COUNT(JOINED_STATES)] == 0xa5a5a5a5 && joined[COUNT(JOINED_ARCS)] == 0xa5a5a5a5);
+    check_joined(join(COUNTS, 2, WORDS, COUNT(WORDS), 10, 15), 10, 15);
+
+    /* Lengths that are no whole records, and words as reading left them. */
+    read_words(WORD_BOOK, WORD_BOOK_BYTES, COUNT(words));
+    memset(states, 0xa5, sizeof states);
+    memset(joined, 0xa5, sizeof joined);
+    fulgwerz_join_answer answer = fulgwerz_join(
+        COUNTS, ARCS, COUNT(ARCS), 2, words, COUNT(words), states, COUNT(states), joined, COUNT(joined));
+    CHECK(answer.fault == 0 && answer.states == JOINED_STATE_COUNT && answer.arcs == JOINED_ARC_COUNT);
+    CHECK(HOLDS(states, JOINED_STATES) && HOLDS(joined, JOINED_ARCS));
+
+    check_join_refused(join(COUNTS, 2, WORDS, COUNT(WORDS), 8, 14), 8, 14, FULGWERZ_CROWD);
+    check_join_refused(join(COUNTS, 2, WORDS, COUNT(WORDS), 1, 14), 1, 14, FULGWERZ_CROWD);
+    check_join_refused(join(COUNTS, 2, WORDS, COUNT(WORDS), 0, 0), 0, 0, FULGWERZ_CROWD);
+    check_join_refused(join(COUNTS, 2, WORDS, COUNT(WORDS), 9, 13), 9, 13, FULGWERZ_TANGLE);
+    check_join_refused(join(COUNTS, 2, WORDS, COUNT(WORDS), 9, 0), 9, 0, FULGWERZ_TANGLE);
+
+    static const fulgwerz_counts ten = {1, 4, 10};
+    static const uint32_t empty[FULGWERZ_WORD] = {0}, gap[FULGWERZ_WORD] = {1, 2, 2}, beyond[FULGWERZ_WORD] = {1, 65};
+    check_join_refused(join(ten, 2, WORDS, COUNT(WORDS), 9, 14), 9, 14, FULGWERZ_FOREIGN);
+    check_join_refused(join(COUNTS, 0, WORDS, 0, 9, 14), 9, 14, FULGWERZ_FOREIGN);
+    check_join_refused(join(COUNTS, 1, WORDS, COUNT(WORDS), 9, 14), 9, 14, FULGWERZ_FOREIGN);
+    check_join_refused(join(COUNTS, 2, WORDS, COUNT(WORDS) - 1, 9, 14), 9, 14, FULGWERZ_FOREIGN);
+    check_join_refused(join(COUNTS, SIZE_MAX, WORDS, COUNT(WORDS), 9, 14), 9, 14, FULGWERZ_FOREIGN);
+    check_join_refused(join(COUNTS, 1, empty, COUNT(empty), 9, 14), 9, 14, FULGWERZ_FOREIGN);
+    check_join_refused(join(COUNTS, 1, gap, COUNT(gap), 9, 14), 9, 14, FULGWERZ_FOREIGN);
+    check_join_refused(join(COUNTS, 1, beyond, COUNT(beyond), 0, 0), 0, 0, FULGWERZ_FOREIGN);
+}
+
+/* An arc that leaves FINAL, which is there though nothing reaches it. */
+static void check_join_from_final(void) {
+    static const fulgwerz_counts one = {1, 1, 1};
+    static const uint32_t from_final[] = {1, 2, 5, 0};
+    static const uint32_t three[] = {0, 0, 0, 1, 0, 2, 2, 0, 2};
+    spoil();
+    fulgwerz_join_answer answer = fulgwerz_join(
+        one, from_final, COUNT(from_final), 2, WORDS, COUNT(WORDS), states, COUNT(states), joined, COUNT(joined));
+    CHECK(answer.fault == 0 && answer.line == 0 && answer.states == 3 && answer.arcs == 1);
+    CHECK(HOLDS(states, three) && HOLDS(joined, from_final));
+}
+
 int main(void) {
     CHECK(sizeof BOOK == BOOK_BYTES + 1 && sizeof NETWORK == NETWORK_BYTES + 1);
     CHECK(sizeof PLAIN == PLAIN_BYTES + 1 && sizeof DIALECT == DIALECT_BYTES + 1);
+    CHECK(sizeof WORD_BOOK == WORD_BOOK_BYTES + 1);
     check_small_layouts();
     check_answer_layouts();
     check_read();
@@ -745,6 +907,9 @@ int main(void) {
     check_leaving();
     check_write();
     check_read_network();
+    check_read_words();
+    check_join();
+    check_join_from_final();
     printf("%u checks, %u failed\n", checks, failed);
     return failed == 0 ? 0 : 1;
 }

@@ -1,20 +1,26 @@
-//! Compares the proved build with the plain one, on the same books in the same run, and the writing of books likewise.
+//! Compares the proved build with the plain one, on the same books in the same run, and the writing of books and the
+//! joining with words likewise.
 //!
-//!     benchmark [--largest] [NAME..]          builds of all books and the writing of books, or builds of those named
+//!     benchmark [--largest] [NAME..]          builds of all books, writing and joining; or builds of those named
 //!     benchmark --writing                     the writing of books alone
+//!     benchmark --joining                     the joining with words alone
 //!     benchmark --list                        the names
 //!     benchmark --only proved|plain NAME N    one side builds one book N times, for a profiler
 
 mod builds;
 mod catalogue;
 mod clock;
+mod joining;
+mod joins;
 mod measuring;
 mod memory;
+mod openfst;
 mod tables;
 mod writing;
 
 use builds::{build, Buffers, ReadBook, Room, Side};
 use catalogue::{catalogue, Measured};
+use joins::MeasuredJoin;
 use std::env;
 use std::process::exit;
 
@@ -27,6 +33,7 @@ fn main() {
     match words[..] {
         ["--list"] => catalogue().iter().for_each(|measured| println!("{}", measured.name)),
         ["--writing"] => compare_writing(),
+        ["--joining"] => compare_joining(),
         ["--only", side, name, times] => repeat(side, name, times),
         ["--largest", ref names @ ..] => compare(names, true),
         ref names => compare(names, false),
@@ -93,6 +100,8 @@ fn compare(names: &[&str], largest_room: bool) {
     if names.is_empty() {
         println!();
         compare_writing();
+        println!();
+        compare_joining();
     }
 }
 
@@ -106,4 +115,35 @@ fn compare_writing() {
             println!("{}", tables::writing_row(&name, book.header, &writing::measure(&book)));
         }
     });
+}
+
+fn compare_joining() {
+    println!("Both sides join the same network with the same words, in turn, each into the records that it needs.");
+    println!("Answers and buffers are compared. The proved side takes no heap.\n");
+    println!("{}", tables::joining_head());
+    let joins = joins::joins();
+    memory::on_large_stack(|| {
+        for measured in &joins {
+            println!("{}", tables::joining_row(measured, &joining::measure(measured)));
+        }
+    });
+    compose(&joins);
+}
+
+/// OpenFst's composition beside them, where it is installed.
+fn compose(joins: &[MeasuredJoin]) {
+    if let Some(tool) = openfst::missing_tool() {
+        println!("\nOpenFst's composition is not measured: its tool {tool} is not installed.");
+        return;
+    }
+    println!("\nOpenFst composes the same, without trimming. Its time is that of a whole process, which reads two");
+    println!("files and writes one; it is the best of five, by the clock on the wall. It enters FINAL also before");
+    println!("all is said, where a join has no arc, so that it has a little more.\n");
+    println!("{}", tables::composing_head());
+    for measured in joins {
+        match openfst::compose(measured) {
+            Ok(composed) => println!("{}", tables::composing_row(measured.name, &composed)),
+            Err(error) => println!("{} is not composed: {error}", measured.name),
+        }
+    }
 }

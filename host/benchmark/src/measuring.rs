@@ -58,8 +58,8 @@ fn need_of(book: &ReadBook) -> Room {
 
 /// Both sides in turn, so that a disturbance meets both: at least five times each, and on until this many milliseconds
 /// have passed or each ran two hundred times.
-pub fn best_of<Lent>(
-    milliseconds: u64, book: &ReadBook, buffers: &mut [Lent; 2], run: impl Fn(Side, &ReadBook, &mut Lent),
+pub fn best_of<Given, Lent>(
+    milliseconds: u64, given: &Given, buffers: &mut [Lent; 2], run: impl Fn(Side, &Given, &mut Lent),
 ) -> [Duration; 2] {
     let mut best = [Duration::MAX; 2];
     let begin = Instant::now();
@@ -68,7 +68,7 @@ pub fn best_of<Lent>(
             break;
         }
         for side in [Side::Proved, Side::Plain] {
-            let time = time_of(|| run(side, book, &mut buffers[side as usize]));
+            let time = time_of(|| run(side, given, &mut buffers[side as usize]));
             best[side as usize] = best[side as usize].min(time);
         }
     }

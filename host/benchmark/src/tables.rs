@@ -1,6 +1,9 @@
 //! The tables that are printed: plain text, aligned, and Markdown as they stand.
 
+use crate::joining::JoinCosts;
+use crate::joins::MeasuredJoin;
 use crate::measuring::Measurement;
+use crate::openfst::Composed;
 use crate::writing::Written;
 use fulgwerz::Header;
 use std::time::Duration;
@@ -56,6 +59,27 @@ const WRITING: [Column; 15] = [
     ("heap kB", 7),
 ];
 
+const JOINING: [Column; 16] = [
+    ("join", 20),
+    ("n", 1),
+    ("k", 1),
+    ("phones", 6),
+    ("network arcs", 12),
+    ("words", 5),
+    ("states", 6),
+    ("arcs", 6),
+    ("proved ms", 9),
+    ("plain ms", 8),
+    ("proved ns/arc", 13),
+    ("plain ns/arc", 12),
+    ("proved/plain", 12),
+    ("proved: stack kB", 16),
+    ("plain: stack kB", 15),
+    ("heap kB", 7),
+];
+
+const COMPOSING: [Column; 4] = [("join", 20), ("states", 6), ("arcs", 6), ("whole process ms", 16)];
+
 pub fn speed_head() -> String {
     head(&SPEED)
 }
@@ -66,6 +90,42 @@ pub fn parts_head() -> String {
 
 pub fn writing_head() -> String {
     head(&WRITING)
+}
+
+pub fn joining_head() -> String {
+    head(&JOINING)
+}
+
+pub fn joining_row(measured: &MeasuredJoin, costs: &JoinCosts) -> String {
+    let JoinCosts { answer, proved, plain } = costs;
+    let per_arc = |time: Duration| format!("{:.1}", time.as_secs_f64() * 1e9 / answer.arcs as f64);
+    row(&JOINING, &[
+        measured.name.into(),
+        measured.half.to_string(),
+        measured.counts.states.to_string(),
+        measured.phones.to_string(),
+        measured.counts.arcs.to_string(),
+        measured.words.words.len().to_string(),
+        answer.states.to_string(),
+        answer.arcs.to_string(),
+        milliseconds(proved.time),
+        milliseconds(plain.time),
+        per_arc(proved.time),
+        per_arc(plain.time),
+        ratio(proved.time, plain.time),
+        kilobytes(proved.stack),
+        kilobytes(plain.stack),
+        kilobytes(plain.heap),
+    ])
+}
+
+pub fn composing_head() -> String {
+    head(&COMPOSING)
+}
+
+pub fn composing_row(name: &str, composed: &Composed) -> String {
+    let Composed { time, states, arcs } = composed;
+    row(&COMPOSING, &[name.into(), states.clone(), arcs.clone(), milliseconds(*time)])
 }
 
 pub fn writing_row(name: &str, header: Header, written: &Written) -> String {

@@ -1,12 +1,12 @@
-//! Damaged texts: what a careless hand or a bad copy does to a tree book or a network text.
+//! Damaged texts: what a careless hand or a bad copy does to a tree book, a network text or a word book.
 
 use crate::damage_boundaries::damage_boundaries;
 use plain::limits::LINE;
 use plain::random::Random;
 
 const FIELD: usize = 6;
-const LETTERS: &[u8] = b"HQNLBRWAX hqnlbr";
-const BYTES: &[u8] = b"0123456789 \n\r\tHQNLBRWA-+.\0\xff";
+const LETTERS: &[u8] = b"HQNLBRWAVX hqnlbrv";
+const BYTES: &[u8] = b"0123456789 \n\r\tHQNLBRWAV-+.\0\xff";
 
 /// Damages a text in one place, sometimes in several.
 pub fn damage(random: &mut Random, text: &mut Vec<u8>) {
@@ -60,7 +60,7 @@ fn change_number(random: &mut Random, text: &mut [u8]) {
     let near = match random.below(4) {
         0 | 1 => number_at(text, at).unwrap_or(0),
         2 => number_at(text, 1 + FIELD * random.below(5)).unwrap_or(1),
-        _ => *random.pick(&[0, 3, 6, 64, 255, 4095, 4096, 65535, 196607, 999_998, 999_999]),
+        _ => *random.pick(&[0, 3, 6, 64, 255, 4095, 4096, 9999, 65535, 196607, 999_998, 999_999]),
     };
     let number = (near + random.below(4) as u32).saturating_sub(2).min(999_999);
     text[at..at + FIELD].copy_from_slice(format!("{number:6}").as_bytes());

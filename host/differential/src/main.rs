@@ -2,11 +2,12 @@
 //!
 //!     differential [CASES [SEED]]       random cases (200000), then the fixed ones
 //!     differential --case NUMBER SEED   one case again, printed in full
-//!     differential --fixed NUMBER       one of the fixed cases: at the ceilings, and small books
+//!     differential --fixed NUMBER       one of the fixed cases: at the ceilings, small books, and small joins
 
 mod cases;
 mod damage;
 mod damage_boundaries;
+mod damage_words;
 mod lending;
 mod lengths;
 mod lent_tables;

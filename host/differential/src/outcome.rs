@@ -11,7 +11,7 @@ pub enum Side {
     Library,
     /// The plain implementation.
     Plain,
-    /// What is written for speed: `build`, `combine` and `write_book`.
+    /// What is written for speed: `build`, `combine`, `write_book` and `join`.
     Fast,
 }
 

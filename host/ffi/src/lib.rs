@@ -57,7 +57,7 @@ pub struct LeafAnswer {
 pub struct CountAnswer {
     pub fault: u32,
     pub line: usize,
-    /// Models, combinations or bytes, as the entry says.
+    /// Models, combinations, bytes or words, as the entry says.
     pub count: usize,
 }
 
@@ -90,6 +90,17 @@ pub struct PartAnswer {
     pub length: usize,
 }
 
+#[repr(C)]
+#[derive(Clone, Copy, Debug, Default, PartialEq, Eq)]
+pub struct JoinAnswer {
+    pub fault: u32,
+    pub line: usize,
+    /// Joined states, 0 and 1 included.
+    pub states: usize,
+    /// Joined arcs.
+    pub arcs: usize,
+}
+
 /// The tables that reading leaves, lent to be read.
 #[derive(Clone, Copy)]
 pub struct Tables<'a> {
@@ -112,6 +123,19 @@ pub struct TablesMut<'a> {
 pub struct Space<'a> {
     pub combinations: &'a mut [u64],
     pub metastates: &'a mut [u64],
+    pub arcs: &'a mut [u32],
+}
+
+/// The words of a word book as reading leaves them, lent to be read.
+#[derive(Clone, Copy)]
+pub struct Words<'a> {
+    pub count: usize,
+    pub table: &'a [u32],
+}
+
+/// The space of a join, lent to be filled.
+pub struct Joined<'a> {
+    pub states: &'a mut [u32],
     pub arcs: &'a mut [u32],
 }
 
@@ -207,6 +231,20 @@ mod raw {
             text: *const u8, text_length: usize,
             arcs: *mut u32, arcs_length: usize,
         ) -> NetworkAnswer;
+
+        pub fn fulgwerz_read_words(
+            text: *const u8, text_length: usize,
+            words: *mut u32, words_length: usize,
+        ) -> CountAnswer;
+
+        pub fn fulgwerz_join(
+            counts: Counts,
+            arcs: *const u32, arcs_length: usize,
+            word_count: usize,
+            words: *const u32, words_length: usize,
+            states: *mut u32, states_length: usize,
+            joined: *mut u32, joined_length: usize,
+        ) -> JoinAnswer;
     }
 }
 
@@ -347,4 +385,25 @@ pub fn write(counts: Counts, arcs: &[u32], text: &mut [u8]) -> CountAnswer {
 /// Reads network text into arcs.
 pub fn read_network(text: &[u8], arcs: &mut [u32]) -> NetworkAnswer {
     unsafe { raw::fulgwerz_read_network(text.as_ptr(), text.len(), arcs.as_mut_ptr(), arcs.len()) }
+}
+
+/// Reads a word book into a table of words.
+pub fn read_words(text: &[u8], table: &mut [u32]) -> CountAnswer {
+    unsafe { raw::fulgwerz_read_words(text.as_ptr(), text.len(), table.as_mut_ptr(), table.len()) }
+}
+
+/// Joins a network with the words of a word book.
+pub fn join(counts: Counts, arcs: &[u32], words: Words, space: Joined) -> JoinAnswer {
+    let Words { count, table } = words;
+    let Joined { states, arcs: joined } = space;
+    unsafe {
+        raw::fulgwerz_join(
+            counts,
+            arcs.as_ptr(), arcs.len(),
+            count,
+            table.as_ptr(), table.len(),
+            states.as_mut_ptr(), states.len(),
+            joined.as_mut_ptr(), joined.len(),
+        )
+    }
 }

@@ -14,6 +14,8 @@ pub enum Command {
     Same { one: OsString, other: OsString },
     Transcribe { book: OsString, phones: Vec<u32> },
     Arcs { network: OsString, state: u32 },
+    Words { words: OsString },
+    Join { network: OsString, words: OsString, joined: OsString },
     Help(Option<Verb>),
     Version,
 }
@@ -27,6 +29,8 @@ pub enum Verb {
     Same,
     Transcribe,
     Arcs,
+    Words,
+    Join,
 }
 
 impl Verb {
@@ -38,6 +42,8 @@ impl Verb {
             "same" => Some(Verb::Same),
             "transcribe" => Some(Verb::Transcribe),
             "arcs" => Some(Verb::Arcs),
+            "words" => Some(Verb::Words),
+            "join" => Some(Verb::Join),
             _ => None,
         }
     }
@@ -99,6 +105,13 @@ fn command(verb: Verb, rest: &[OsString]) -> Result<Command, Failure> {
             Ok(Command::Transcribe { book: book.clone(), phones })
         }
         (Verb::Arcs, [network, state]) => Ok(Command::Arcs { network: network.clone(), state: number(verb, state)? }),
+        (Verb::Words, [words]) => Ok(Command::Words { words: words.clone() }),
+        (Verb::Join, [network, words]) if network == "-" && words == "-" => {
+            Err(usage(verb, "only one of NETWORK and WORDBOOK can be standard input"))
+        }
+        (Verb::Join, [network, words]) => {
+            Ok(Command::Join { network: network.clone(), words: words.clone(), joined: output })
+        }
         _ => Err(usage(verb, help::wanted(verb))),
     }
 }

@@ -11,7 +11,12 @@ use crate::inputs::{self, LINE};
 use crate::outputs;
 use crate::showing;
 use crate::stages::Stage;
+use crate::word_books::WordBook;
+use crate::word_buffers;
+use crate::word_faults;
+use fulgwerz::Counts;
 use std::ffi::OsStr;
+use std::fmt::Write;
 use std::process::ExitCode;
 
 pub fn perform(command: Command) -> Result<ExitCode, Failure> {
@@ -22,6 +27,8 @@ pub fn perform(command: Command) -> Result<ExitCode, Failure> {
         Command::Same { one, other } => return same(&one, &other),
         Command::Transcribe { book, phones } => transcribe(&book, &phones),
         Command::Arcs { network, state } => arcs(&network, state),
+        Command::Words { words } => words_accepted(&words),
+        Command::Join { network, words, joined } => join(&network, &words, &joined),
         Command::Help(verb) => outputs::to_stdout(help::text(verb).as_bytes()),
         Command::Version => outputs::to_stdout(concat!("hc ", env!("CARGO_PKG_VERSION"), "\n").as_bytes()),
     };
@@ -29,16 +36,15 @@ pub fn perform(command: Command) -> Result<ExitCode, Failure> {
 }
 
 fn build(book: &OsStr, network: &OsStr) -> Result<(), Failure> {
-    keep_book(book, network, "network")?;
+    keep(book, network, "the network would replace its book")?;
     let text = build_text(&inputs::read(book)?)?;
     outputs::write(network, &text)
 }
 
-/// Refuses to write what is made from a book in its place.
-fn keep_book(book: &OsStr, output: &OsStr, what: &str) -> Result<(), Failure> {
-    if book != "-" && output != "-" && outputs::is_same_file(book, output) {
-        let name = showing::name(output);
-        return Err(Failure::because(format!("{name}: the {what} would replace its book")));
+/// Refuses to write what is made from a text in its place.
+fn keep(text: &OsStr, output: &OsStr, why: &str) -> Result<(), Failure> {
+    if text != "-" && output != "-" && outputs::is_same_file(text, output) {
+        return Err(Failure::because(format!("{}: {why}", showing::name(output))));
     }
     Ok(())
 }
@@ -75,7 +81,7 @@ fn check(book: &OsStr) -> Result<(), Failure> {
 }
 
 fn plain_form(book: &OsStr, plain: &OsStr) -> Result<(), Failure> {
-    keep_book(book, plain, "plain form")?;
+    keep(book, plain, "the plain form would replace its book")?;
     outputs::write(plain, &Book::read(book)?.plain_form()?)
 }
 
@@ -104,14 +110,19 @@ fn transcribe(book: &OsStr, phones: &[u32]) -> Result<(), Failure> {
     outputs::to_stdout(format!("{}\n", models.join(" ")).as_bytes())
 }
 
-/// Prints the A lines of a state's arcs as they stand in the text.
-fn arcs(network: &OsStr, state: u32) -> Result<(), Failure> {
+/// A network that was read and accepted: its text, its counts and its arcs.
+fn read_network(network: &OsStr) -> Result<(inputs::Text, Counts, Vec<u32>), Failure> {
     let text = inputs::read(network)?;
     let (answer, arcs) = buffers::read_network(&text.bytes);
     if answer.fault != 0 {
         return Err(faults::explain(&text, answer.fault, answer.line));
     }
-    let counts = answer.counts;
+    Ok((text, answer.counts, arcs))
+}
+
+/// Prints the A lines of a state's arcs as they stand in the text.
+fn arcs(network: &OsStr, state: u32) -> Result<(), Failure> {
+    let (text, counts, arcs) = read_network(network)?;
     let part = fulgwerz::leaving(counts, &arcs, state);
     if part.fault != 0 {
         let range = format!("(the states of this network are 0 to {})", 1 + counts.states * counts.metastates);
@@ -120,4 +131,34 @@ fn arcs(network: &OsStr, state: u32) -> Result<(), Failure> {
     // The line of the counts comes first, then a line for each arc.
     let line_of = |word: usize| LINE * (1 + word / ARC);
     outputs::to_stdout(&text.bytes[line_of(part.start)..line_of(part.start + part.length)])
+}
+
+fn words_accepted(words: &OsStr) -> Result<(), Failure> {
+    let book = WordBook::read(words)?;
+    outputs::to_stdout(format!("{}: accepted: {}\n", book.text.name, book.describe()).as_bytes())
+}
+
+fn join(network: &OsStr, words: &OsStr, joined: &OsStr) -> Result<(), Failure> {
+    keep(network, joined, "the joined network would replace its network")?;
+    keep(words, joined, "the joined network would replace its word book")?;
+    let (network, counts, arcs) = read_network(network)?;
+    let words = WordBook::read(words)?;
+    let stage = Stage::begin("joining the network with the words".to_string());
+    let (answer, arcs) = word_buffers::join(counts, &arcs, &words.table);
+    if answer.fault != 0 {
+        return Err(word_faults::explain_join(&network.name, &words.text.name, answer.fault));
+    }
+    let text = joined_text(&arcs);
+    drop(stage);
+    outputs::write(joined, text.as_bytes())
+}
+
+/// A line for each joined arc, with tabs between its numbers, and the line of the final state.
+fn joined_text(arcs: &[u32]) -> String {
+    let mut text = String::new();
+    for arc in arcs.chunks_exact(ARC) {
+        let [from, to, model, word]: [u32; ARC] = arc.try_into().expect("an arc has four words");
+        writeln!(text, "{from}\t{to}\t{model}\t{word}").expect("a string takes all that is written");
+    }
+    text + "1\n"
 }

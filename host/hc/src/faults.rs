@@ -8,6 +8,9 @@ use crate::showing;
 
 /// The faults that are treated apart.
 const RAGGED: u32 = 11;
+pub const MISPRINT: u32 = 12;
+pub const RANGE: u32 = 13;
+pub const ORDER: u32 = 14;
 pub const NARROW: u32 = 20;
 const CHAINED: u32 = 21;
 pub const CHOICES: u32 = 30;
@@ -18,7 +21,7 @@ pub const TANGLE: u32 = 32;
 struct Fault(u32, &'static str, &'static str);
 
 /// Every fault that the library gives. (22 is the build program's alone, for a book longer than it takes.)
-const FAULTS: [Fault; 16] = [
+const FAULTS: [Fault; 17] = [
     Fault(11, "ragged", "every line must have 31 characters and then a line end"),
     Fault(
         12,
@@ -55,16 +58,22 @@ const FAULTS: [Fault; 16] = [
     Fault(33, "short", "the library was lent too little space for its answer: a mistake in hc, not in the text"),
     Fault(41, "utterance", "the phones must begin and end with silence, which is phone 1, and be phones of the book"),
     Fault(42, "state", "the network has no such state"),
+    Fault(51, "vocabulary", "the library was lent a table for too few words: a mistake in hc, not in the text"),
 ];
 
 const UNKNOWN: Fault = Fault(0, "unknown", "the library gave a number that hc does not know");
 
 /// Says what is wrong with a text, and shows the line that is meant; line 0 means none.
 pub fn explain(text: &Text, fault: u32, line: usize) -> Failure {
+    let phones = if fault == CHAINED { chained::describe(&text.bytes, line) } else { None };
+    explain_by(text, fault, line, phones.as_deref())
+}
+
+/// The same, with words that fit better than those for all texts, if there are such.
+pub fn explain_by(text: &Text, fault: u32, line: usize, better: Option<&str>) -> Failure {
     let Fault(_, word, meaning) = FAULTS.iter().find(|known| known.0 == fault).unwrap_or(&UNKNOWN);
     let place = if line == 0 { String::new() } else { format!(", at line {line}") };
-    let phones = if fault == CHAINED { chained::describe(&text.bytes, line) } else { None };
-    let meaning = phones.as_deref().unwrap_or(meaning);
+    let meaning = better.unwrap_or(meaning);
     let failure = Failure::because(format!("{}: fault {fault}, {word}{place}: {meaning}", text.name));
     if fault == RAGGED {
         failure.adding(&ragged::describe(&text.bytes))
@@ -89,7 +98,8 @@ mod tests {
 
     const DOCUMENT: &str = include_str!("../../../docs/document-01.md");
     const LATER: &str = include_str!("../../../docs/document-02.md");
-    const GUIDE: &str = include_str!("../../../docs/tree-books.md");
+    const GUIDES: &str =
+        concat!(include_str!("../../../docs/tree-books.md"), include_str!("../../../docs/word-books.md"));
     const HEADER: &str = include_str!("../../../include/fulgwerz.h");
 
     /// The rows of document 01's table that have a fault's number and word, but 22.
@@ -103,20 +113,24 @@ mod tests {
     }
 
     /// Document 02 gives its faults a number and no word.
+    const GIVEN_LATER: [(u32, &str); 2] = [(CHAINED, "Number 21 refuses "), (51, "and 51, with line 0, refuses ")];
+
     #[test]
     fn every_fault_has_the_word_of_document_01_or_the_number_of_document_02() {
         let words: Vec<(u32, &str)> = FAULTS.iter().map(|fault| (fault.0, fault.1)).collect();
-        let (later, first): (Vec<_>, Vec<_>) = words.into_iter().partition(|word| word.0 == CHAINED);
+        let is_later = |word: &(u32, &str)| GIVEN_LATER.iter().any(|later| later.0 == word.0);
+        let (later, first): (Vec<_>, Vec<_>) = words.into_iter().partition(is_later);
         assert_eq!(first, documented());
-        for (number, _) in later {
-            assert!(LATER.contains(&format!("Number {number} refuses ")), "{number}");
+        assert_eq!(later.len(), GIVEN_LATER.len());
+        for (number, sentence) in GIVEN_LATER {
+            assert!(LATER.contains(sentence), "{number}");
         }
     }
 
     #[test]
-    fn the_guide_has_a_section_for_each() {
+    fn the_guides_have_a_section_for_each() {
         for Fault(number, word, _) in FAULTS {
-            assert!(GUIDE.contains(&format!("\n### {number} {word}\n")), "{number} {word}");
+            assert!(GUIDES.contains(&format!("\n### {number} {word}\n")), "{number} {word}");
         }
     }
 

@@ -10,14 +10,18 @@ usage:
   hc same BOOK BOOK            says whether two books are the same, or where not
   hc transcribe BOOK PHONE..   prints the models that the trees give to phones
   hc arcs NETWORK STATE        prints the arcs that leave a state of a network
+  hc words WORDBOOK            says whether a word book is right, or what is not
+  hc join NETWORK WORDBOOK [-o FILE]
+                               joins a network with the words of a word book
   hc help [COMMAND]            prints help, or more about a command
   hc --version                 prints the version";
 
 const GENERAL: &str = "
 
-A BOOK or NETWORK named - is standard input. A fault is shown on standard error:
-its number and word, what it means, and the line of the text. The guide
-docs/tree-books.md tells how to write a book and how to mend each fault.
+A BOOK, NETWORK or WORDBOOK named - is standard input. A fault is shown on
+standard error: its number and word, what it means, and the line of the text.
+The guides docs/tree-books.md and docs/word-books.md tell how to write books and
+how to mend each fault.
 The exit status is 0, or 1 where something is wrong; for hc same it is 0, or 1
 where the books are not the same, or 2 where something is wrong.
 
@@ -29,6 +33,8 @@ examples:
   hc same welsh.book cardiff.book
   hc transcribe welsh.book 1 2 2 1
   hc arcs welsh.network 0
+  hc words orders.words
+  hc join welsh.network orders.words -o welsh.joined
 ";
 
 const BUILD: &str = "
@@ -118,6 +124,39 @@ examples:
   hc build welsh.book | hc arcs - 2
 ";
 
+const WORDS: &str = "
+
+Reads the word book. Says that it is accepted, with how many words and lines it
+has, its longest word, its highest phone and, if there are such, how many words
+have just the phones of an earlier one; or what is wrong and where. WORDBOOK may
+be - for standard input.
+
+examples:
+  hc words orders.words
+  hc words - < orders.words
+";
+
+const JOIN: &str = "
+
+Reads the network and the word book, joins them, and writes the joined network
+to FILE, or to standard output where FILE is - or not given. One of NETWORK and
+WORDBOOK may be - for standard input.
+
+The joined network leads from models to words. It has a line for each arc: the
+state it leaves, the state it enters, its model and its word, 0 being none, with
+tabs between them. A word stands at the arc of its first phone. State 0 is where
+every way begins. The last line is 1, the state where it ends. This form is hc's
+own; no command reads it.
+
+A word book may have up to 9999 words of up to 64 phones, a joined network up to
+65535 states and 999999 arcs. FILE is replaced whole or not at all, and may not
+be NETWORK or WORDBOOK itself.
+
+examples:
+  hc join welsh.network orders.words -o welsh.joined
+  hc build welsh.book | hc join - orders.words
+";
+
 /// How a command is called.
 pub fn usage(verb: Verb) -> &'static str {
     match verb {
@@ -127,6 +166,8 @@ pub fn usage(verb: Verb) -> &'static str {
         Verb::Same => "hc same BOOK BOOK",
         Verb::Transcribe => "hc transcribe BOOK PHONE..",
         Verb::Arcs => "hc arcs NETWORK STATE",
+        Verb::Words => "hc words WORDBOOK",
+        Verb::Join => "hc join NETWORK WORDBOOK [-o FILE]",
     }
 }
 
@@ -137,6 +178,8 @@ pub fn wanted(verb: Verb) -> &'static str {
         Verb::Same => "two BOOKs are needed",
         Verb::Transcribe => "a BOOK and one PHONE or more are needed",
         Verb::Arcs => "one NETWORK and one STATE are needed",
+        Verb::Words => "one WORDBOOK is needed",
+        Verb::Join => "one NETWORK and one WORDBOOK are needed",
     }
 }
 
@@ -144,7 +187,7 @@ pub fn wanted(verb: Verb) -> &'static str {
 pub fn output(verb: Verb) -> Option<&'static str> {
     match verb {
         Verb::Build => Some("NETWORK"),
-        Verb::Plain => Some("FILE"),
+        Verb::Plain | Verb::Join => Some("FILE"),
         _ => None,
     }
 }
@@ -163,6 +206,8 @@ pub fn text(verb: Option<Verb>) -> String {
         Verb::Same => SAME,
         Verb::Transcribe => TRANSCRIBE,
         Verb::Arcs => ARCS,
+        Verb::Words => WORDS,
+        Verb::Join => JOIN,
     };
     format!("usage: {}{more}", usage(verb))
 }

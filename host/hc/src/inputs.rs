@@ -1,4 +1,4 @@
-//! Reading a book or a network whole, from a file or standard input.
+//! Reading a book, a network or a word book whole, from a file or standard input.
 
 use crate::failures::Failure;
 use crate::showing;
@@ -10,8 +10,8 @@ use std::io::{self, Read};
 /// Bytes of a line, its line feed included.
 pub const LINE: usize = 32;
 
-/// Twice the longest network, which has a million lines; the longest book has 20672. The library finds what is wrong
-/// with a text up to this length; what is longer is not kept in memory.
+/// Twice the longest network, which has a million lines; the longest book has 20672, the longest word book 639936. The
+/// library finds what is wrong with a text up to this length; what is longer is not kept in memory.
 const LONGEST: u64 = 64_000_000;
 
 pub struct Text {

@@ -1,4 +1,5 @@
-//! hc builds the networks of tree books in real sizes, and compares books, by the proved library libfulgwerz.a.
+//! hc builds the networks of tree books in real sizes, compares books, and joins networks with word books, by the
+//! proved library libfulgwerz.a.
 
 mod args;
 mod books;
@@ -14,6 +15,9 @@ mod outputs;
 mod ragged;
 mod showing;
 mod stages;
+mod word_books;
+mod word_buffers;
+mod word_faults;
 
 use failures::Failure;
 use std::ffi::OsString;

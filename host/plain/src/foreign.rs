@@ -82,13 +82,13 @@ pub fn arcs_known(counts: Counts, arcs: &[u32]) -> bool {
     {
         return false;
     }
-    let used: Vec<&[u32]> = arcs.chunks_exact(ARC).take(count as usize).collect();
+    let used = || arcs.chunks_exact(ARC).take(count as usize);
     let end = 2 + states * metastates;
-    used.iter().all(|arc| arc[0] < end && arc[1] < end && arc[2] <= MOST_MODEL && arc[3] <= MOST_PHONES)
-        && used.windows(2).all(|pair| pair[0][0] <= pair[1][0])
+    used().all(|arc| arc[0] < end && arc[1] < end && arc[2] <= MOST_MODEL && arc[3] <= MOST_PHONES)
+        && used().zip(used().skip(1)).all(|(arc, next)| arc[0] <= next[0])
 }
 
 /// The table has room for the used words, and 0 in all words beyond them.
-fn used_and_zeros<Word: Copy + Default + PartialEq>(table: &[Word], used: usize) -> bool {
+pub fn used_and_zeros<Word: Copy + Default + PartialEq>(table: &[Word], used: usize) -> bool {
     used <= table.len() && table[used..].iter().all(|&word| word == Word::default())
 }

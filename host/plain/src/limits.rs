@@ -9,11 +9,17 @@ pub const MOST_MODEL: u32 = 65535;
 pub const MOST_COMBINATIONS: usize = 65535;
 pub const MOST_METASTATES: usize = 65535;
 pub const MOST_ARCS: usize = 999_999;
+pub const MOST_WORDS: usize = 9999;
+/// Phones of a word.
+pub const MOST_PLACES: usize = 64;
+pub const MOST_JOINED: usize = 65535;
 
 pub const NODE: usize = 5;
 pub const COMBINATION: usize = 11;
 pub const METASTATE: usize = 8;
 pub const ARC: usize = 4;
+pub const WORD: usize = 65;
+pub const JOINED: usize = 3;
 pub const LINE: usize = 32;
 
 /// In the root table: no R line gives this root.

@@ -10,6 +10,7 @@ pub type Forms = [(u8, usize)];
 
 pub const BOOK_FORMS: &Forms = &[(b'H', 5), (b'Q', 2), (b'N', 5), (b'L', 2), (b'B', 2), (b'R', 3)];
 pub const NETWORK_FORMS: &Forms = &[(b'W', 3), (b'A', 4)];
+pub const WORD_FORMS: &Forms = &[(b'V', 3)];
 
 /// The lines of a text, or 11 over the whole of it.
 pub fn lines_of(text: &[u8]) -> Result<Vec<&[u8]>, Refusal> {

@@ -22,6 +22,7 @@ pub const TANGLE: u32 = 32;
 pub const SHORT: u32 = 33;
 pub const UTTERANCE: u32 = 41;
 pub const STATE: u32 = 42;
+pub const VOCABULARY: u32 = 51;
 
 /// A refusal without a line of its own.
 pub fn refuse<T>(fault: u32) -> Result<T, Refusal> {

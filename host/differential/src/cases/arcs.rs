@@ -24,7 +24,7 @@ impl OwnNetwork {
     }
 
     /// A random book's, finished or stopped.
-    fn built(random: &mut Random) -> Option<OwnNetwork> {
+    pub fn built(random: &mut Random) -> Option<OwnNetwork> {
         let tables = OwnTables::known(random);
         let (mut combinations, mut metastates) = (vec![0; COMBINATION * 300], vec![0; METASTATE * 100]);
         let mut arcs = vec![0; ARC * 500];

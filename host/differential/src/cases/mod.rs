@@ -6,15 +6,19 @@ mod building;
 mod ceilings;
 mod combining;
 mod foreign_tables;
+mod join_ceilings;
+mod joining;
 mod lookup;
 mod networks;
 mod plain_forms;
 mod reading;
+mod reading_words;
 mod round_trips;
 mod small_books;
 mod spellings;
 mod tables;
 mod transcription;
+mod word_tables;
 mod writing_books;
 
 use crate::outcome::{Outcome, Side};
@@ -38,21 +42,23 @@ pub trait Case {
 type Maker = fn(&mut Random) -> Box<dyn Case>;
 
 /// The kinds of case with their shares, which are a hundred in all.
-const MAKERS: [(usize, Maker); 14] = [
-    (19, reading::case),
-    (8, lookup::case),
-    (9, transcription::case),
-    (7, combining::case),
-    (12, building::build_case),
-    (7, building::build_book_case),
-    (8, apart::case),
-    (6, arcs::leaving_case),
+const MAKERS: [(usize, Maker); 16] = [
+    (15, reading::case),
+    (7, lookup::case),
+    (8, transcription::case),
+    (6, combining::case),
+    (10, building::build_case),
+    (6, building::build_book_case),
+    (6, apart::case),
+    (5, arcs::leaving_case),
     (4, arcs::write_case),
-    (6, networks::case),
+    (5, networks::case),
     (2, round_trips::case),
-    (6, writing_books::case),
-    (4, spellings::case),
+    (5, writing_books::case),
+    (3, spellings::case),
     (2, plain_forms::case),
+    (5, reading_words::case),
+    (11, joining::case),
 ];
 
 /// The case of this number: the same for the same seed.
@@ -70,5 +76,5 @@ pub fn case(seed: u64, number: u64) -> Box<dyn Case> {
 
 /// Cases that do not depend on a seed.
 pub fn fixed() -> Vec<Box<dyn Case>> {
-    ceilings::cases().into_iter().chain(small_books::cases()).collect()
+    ceilings::cases().into_iter().chain(small_books::cases()).chain(join_ceilings::cases()).collect()
 }

@@ -6,12 +6,14 @@ use std::ffi::OsString;
 use std::os::unix::ffi::OsStringExt;
 
 /// All commands; `same` comes last, since its mistakes have a status of their own.
-const USAGES: [(&str, &str); 6] = [
+const USAGES: [(&str, &str); 8] = [
     ("build", "usage: hc build BOOK [-o NETWORK]\n"),
     ("check", "usage: hc check BOOK\n"),
     ("transcribe", "usage: hc transcribe BOOK PHONE..\n"),
     ("arcs", "usage: hc arcs NETWORK STATE\n"),
     ("plain", "usage: hc plain BOOK [-o FILE]\n"),
+    ("words", "usage: hc words WORDBOOK\n"),
+    ("join", "usage: hc join NETWORK WORDBOOK [-o FILE]\n"),
     ("same", "usage: hc same BOOK BOOK\n"),
 ];
 
@@ -82,6 +84,8 @@ fn too_few_or_too_many() {
         "a BOOK and one PHONE or more are needed",
         "one NETWORK and one STATE are needed",
         "one BOOK is needed",
+        "one WORDBOOK is needed",
+        "one NETWORK and one WORDBOOK are needed",
     ];
     for ((command, usage), wanted) in USAGES.into_iter().zip(wanted) {
         run(&[command]).fails(&format!("hc: {wanted}\n{usage}"));
@@ -92,8 +96,11 @@ fn too_few_or_too_many() {
     run(&["check", "book", "book"]).fails(&format!("hc: {}\n{}", wanted[1], USAGES[1].1));
     run(&["arcs", "network", "1", "2"]).fails(&format!("hc: {}\n{}", wanted[3], USAGES[3].1));
     run(&["plain", "book", "book"]).fails(&format!("hc: {}\n{}", wanted[4], USAGES[4].1));
+    run(&["words", "book", "book"]).fails(&format!("hc: {}\n{}", wanted[5], USAGES[5].1));
+    run(&["join", "network"]).fails(&format!("hc: {}\n{}", wanted[6], USAGES[6].1));
+    run(&["join", "network", "words", "words"]).fails(&format!("hc: {}\n{}", wanted[6], USAGES[6].1));
     for arguments in [&["same"][..], &["same", "book"], &["same", "book", "book", "book"]] {
-        run(arguments).decides_nothing(&format!("hc: two BOOKs are needed\n{}", USAGES[5].1));
+        run(arguments).decides_nothing(&format!("hc: two BOOKs are needed\n{}", USAGES[7].1));
     }
 }
 
@@ -104,6 +111,9 @@ fn options() {
     run(&["plain", "book", "-o"]).fails(&format!("hc: after -o the name of the FILE is needed\n{}", USAGES[4].1));
     run(&["build", "book", "-o", "a", "-o", "b"]).fails(&format!("hc: -o is given twice\n{usage}"));
     run(&["build", "book", "--fast"]).fails(&format!("hc: there is no option '--fast'\n{usage}"));
+    run(&["join", "network", "words", "-o"])
+        .fails(&format!("hc: after -o the name of the FILE is needed\n{}", USAGES[6].1));
+    run(&["words", "book", "-o", "x"]).fails(&format!("hc: there is no option '-o'\n{}", USAGES[5].1));
     run(&["check", "book", "-o", "x"]).fails(&format!("hc: there is no option '-o'\n{}", USAGES[1].1));
     run(&["same", "book", "book", "-o", "x"]).decides_nothing("hc: there is no option '-o'\nusage: hc same ");
     // After -- nothing is an option.

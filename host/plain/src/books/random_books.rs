@@ -53,7 +53,7 @@ pub fn random_apart(random: &mut Random) -> Book {
 }
 
 /// One of the ranges, each with its share of a hundred, and a number from it.
-fn how_many(random: &mut Random, ranges: &[(usize, usize, usize)]) -> usize {
+pub fn how_many(random: &mut Random, ranges: &[(usize, usize, usize)]) -> usize {
     let mut place = random.below(100);
     for &(share, low, high) in ranges {
         if place < share {

@@ -1,4 +1,5 @@
-//! A fast hash for metastates: each word is multiplied in, and the high half of the product folded onto the low.
+//! A fast hash for metastates and joined states: each word is multiplied in, and the high half of the product folded
+//! onto the low.
 
 use std::hash::{BuildHasherDefault, Hasher};
 
@@ -16,7 +17,7 @@ impl Hasher for FoldingHasher {
         self.hash = (product >> 64) as u64 ^ product as u64;
     }
 
-    /// For keys that are not whole words; those of metastates are.
+    /// For keys that are not whole words; those of metastates and joined states are.
     fn write(&mut self, bytes: &[u8]) {
         for &byte in bytes {
             self.write_u64(u64::from(byte));

@@ -1,5 +1,5 @@
-//! The build, and the writer of books, as they are written for speed alone, the yardstick of the benchmark: no proofs,
-//! the same answers and words.
+//! The build, the writer of books and the join as they are written for speed alone, the yardstick of the benchmark: no
+//! proofs, the same answers and words.
 //!
 //! Metastates are found in a hash map; a turn tries only the combinations of the phones in the shifted centre column,
 //! and leaves a meet at its first empty column; a matrix has just the columns of the half-width, known to the compiler.
@@ -7,12 +7,15 @@
 mod combining;
 mod connecting;
 mod hashing;
+mod joining;
 mod leaves;
 mod writing;
 
-use crate::foreign::tables_known;
+use crate::foreign::{arcs_known, tables_known};
+use crate::limits::{ARC, JOINED};
 use crate::refusal::{require, Refusal, FOREIGN};
-use fulgwerz::{BuildAnswer, CountAnswer, Header, Space, Tables};
+use crate::words::words_known;
+use fulgwerz::{BuildAnswer, CountAnswer, Counts, Header, JoinAnswer, Joined, Space, Tables, Words};
 
 /// A matrix of W = 2n+1 columns, each a set of phones.
 type Matrix<const W: usize> = [u64; W];
@@ -75,4 +78,18 @@ pub fn write_book(header: Header, tables: Tables, text: &mut [u8]) -> CountAnswe
             CountAnswer { fault, line, count: 0 }
         }
     }
+}
+
+/// Joins a network with the words of a word book, as `fulgwerz::join` does.
+pub fn join(counts: Counts, arcs: &[u32], words: Words, space: Joined) -> JoinAnswer {
+    let Joined { states, arcs: joined } = space;
+    let made = require(arcs_known(counts, arcs) && words_known(words), FOREIGN)
+        .and_then(|()| joining::join(counts, arcs, words, Joined { states: &mut *states, arcs: &mut *joined }));
+    let (answer, used) = match made {
+        Ok((states, arcs)) => (JoinAnswer { states, arcs, ..JoinAnswer::default() }, (states, arcs)),
+        Err(Refusal { fault, line }) => (JoinAnswer { fault, line, ..JoinAnswer::default() }, (0, 0)),
+    };
+    states[JOINED * used.0..].fill(0);
+    joined[ARC * used.1..].fill(0);
+    answer
 }
