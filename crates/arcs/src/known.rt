@@ -7,7 +7,7 @@ use definitions::wide;
 use lines::Letters;
 use lines::Row;
 use lines::ranges::in_fixed_ranges;
-use tables::words::holds_only;
+use tables::holding::holds_only;
 ghost use mathlib.Core.Path.{_≡_};
 ghost use mathlib.Core.Bool.{_&&_};
 ghost use mathlib.Core.List.{[], _∷_};

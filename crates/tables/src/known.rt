@@ -1,11 +1,11 @@
 // Each table by itself: whether its words are some that reading leaves under a header.
+use crate::holding::holds_only;
+use crate::holding::holds_only_sets;
 use crate::nodes::record_known;
 use crate::phones::plain_known;
 use crate::phones::roots_given;
 use crate::records::node_at;
 use crate::records::word_at;
-use crate::words::holds_only;
-use crate::words::holds_only_sets;
 use definitions::Header;
 use definitions::NODE_SIZE;
 use definitions::wide;

@@ -3,10 +3,10 @@
 pub mod classes;
 pub mod forcing;
 pub mod foreign;
+pub mod holding;
 mod known;
 pub mod naming;
 pub mod nodes;
 mod phones;
 pub mod records;
 pub mod roots;
-pub mod words;

@@ -4,7 +4,7 @@ use definitions::MOST_PHONE;
 use definitions::MOST_WORDS;
 use definitions::WORD_SIZE;
 use definitions::wide;
-use tables::words::holds_only;
+use tables::holding::holds_only;
 ghost use mathlib.Core.Path.{_≡_};
 ghost use Prim.Native.Nat.{_/_};
 ghost use lib.ListN.{length};

@@ -48,7 +48,7 @@ use Rattle.followers.specs.Spans.{leavingFrom, copiesOf, spanSize, SlotW
 use Rattle.followers.specs.Spans.{notedIn, followersAt, arcsTo, IsSpan, Spanned}
 use Rattle.followers.specs.Repeating.{Repeated, Repeats}
 use Rattle.followers.specs.laws.PerformedArcs.{performs-arcs, performs-over}
-use Rattle.followers.specs.laws.Turns.{shifted-is}
+use Rattle.followers.specs.laws.Turns.{asked, arcs-asked, inside, shifted-is}
 use Rattle.followers.specs.laws.Spans.{arcs-to-from, spans-stay, spans-noted, span-made, enters-known}
 
 -- ---- the span in a slot
@@ -101,26 +101,6 @@ module _ {header : Header} {nodes words index metastates arcs chains spans : Lis
     abbrev outcome : Outcome Network
     outcome = followedOn header nodes words metastates arcs sizes place columns
 
-    asked : sizesOf net ≡ sizes
-    asked = held-sizes (metastateCode (header .half)) sizes metastates arcs
-
-    arcs-asked : length (net .arcs) ≡ sizes .arcs
-    arcs-asked = ap (λ (z : Sizes). z .arcs) asked
-
-    pub onward-place : place < 65535
-    unfolding roomIn
-    onward-place =
-        omega (
-          arith,
-          s .expandable .listed,
-          ap (λ (z : Sizes). z .table) asked,
-          between .underway .kept .table-room,
-        )
-
-    pub onward-arcs : sizes .arcs ≤ arcRoom arcs
-    unfolding roomIn
-    onward-arcs = omega (arith, arcs-asked, between .underway .kept .arc-room)
-
     -- metastates that have the columns after the shift have the same followers
     same-followers : (other : ℕ)
         → shift (header .phones) (getD (net .table) other noMetastate .carried)
@@ -154,11 +134,11 @@ module _ {header : Header} {nodes words index metastates arcs chains spans : Lis
         let same : next ≡ sizesOf now = cc in
         let made : IsSpan book cs now place (length (net .arcs)) (length (now .arcs)) =
         span-made book cs room net now place
-        (omega (arith, s .expandable .listed, ap (λ (z : Sizes). z .table) asked))
+        (inside (s .expandable))
         (subst
         (λ (l : List Metastate). performAll (machineOf book cs) room net (map (enter from) l) ≡ answered now)
         (sym own-followers) e) in
-        rw (sym arcs-asked, same)
+        rw (sym (arcs-asked (s .expandable)), same)
         (spans-noted book cs (spans-kept now e) slot place (length (net .arcs)) (length (now .arcs)) h made)
 
     -- from the state that the code computed
@@ -223,7 +203,7 @@ module _ {header : Header} {nodes words index metastates arcs chains spans : Lis
         there =
             record {
               between = between;
-              listed = omega (arith, span .listed, ap (λ (z : Sizes). z .table) asked);
+              listed = omega (arith, span .listed, ap (λ (z : Sizes). z .table) (asked (s .expandable)));
             }
 
         -- the metastate that is noted
@@ -247,7 +227,7 @@ module _ {header : Header} {nodes words index metastates arcs chains spans : Lis
         span-order = omega (arith, span .counted)
 
         pub span-within : end ≤ sizes .arcs
-        span-within = omega (arith, span .within, arcs-asked)
+        span-within = omega (arith, span .within, arcs-asked (s .expandable))
 
         abbrev copies : List Arc
         copies = copiesOf from first (end - first) (arcsIn (sizes .arcs) arcs)
@@ -282,7 +262,7 @@ module _ {header : Header} {nodes words index metastates arcs chains spans : Lis
             goes t =
                 let few = leb-true (sizes .arcs + (end - first)) (arcRoom arcs) t in
                 let fits : length (net .arcs) + length copies ≤ arcRoom arcs =
-                omega (arith, few, arcs-asked, copies-many) in
+                omega (arith, few, arcs-asked (s .expandable), copies-many) in
                 let w : arcs′ ≡ padded (length arcs) (concatMap arcWords (net .arcs ++ copies)) =
                 r .words ∙ rw t in
                 let done : outcome ≡ answered (withArcs net copies) =
@@ -290,8 +270,8 @@ module _ {header : Header} {nodes words index metastates arcs chains spans : Lis
                 let sized : record { table = sizes .table; arcs = sizes .arcs + (end - first) }
                 ≡ sizesOf (withArcs net copies) =
                 let more : sizes .arcs + (end - first) ≡ length (net .arcs ++ copies) =
-                omega (arith, arcs-asked, copies-many, length-append (net .arcs) copies) in
-                λ i. record { table = sym asked i .table; arcs = more i } in
+                omega (arith, arcs-asked (s .expandable), copies-many, length-append (net .arcs) copies) in
+                λ i. record { table = sym (asked (s .expandable)) i .table; arcs = more i } in
                 let (size, kept) = kept-arcs (between .underway .kept) copies fits w in
                 record {
                   step =
@@ -309,7 +289,7 @@ module _ {header : Header} {nodes words index metastates arcs chains spans : Lis
                 let many = leb-false (sizes .arcs + (end - first)) (arcRoom arcs) t in
                 let none : outcome ≡ refuse Tangle 0 =
                 outcome-is ∙ performs-over book cs room net copies (between .underway .kept .arc-room)
-                (omega (arith, many, arcs-asked, copies-many)) in
+                (omega (arith, many, arcs-asked (s .expandable), copies-many)) in
                 let same : arcs′ ≡ arcs = r .words ∙ rw t in
                 record {
                   step = left-refused refl (ap length same) refl Tangle none (r .answers ∙ rw t);

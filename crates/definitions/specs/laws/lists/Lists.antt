@@ -93,10 +93,6 @@ pub concatMap-snoc : {A B : Type 0} (f : A → List B) (l : List A) (x : A)
 unfolding concatMap
 concatMap-snoc f l x = concatMap-append f l (x ∷ []) ∙ ap (λ m. concatMap f l ++ m) (append-nil (f x))
 
-pub concatMap-snoc-length : {A B : Type 0} (f : A → List B) (l : List A) (x : A)
-    → length (concatMap f (l ++ (x ∷ []))) ≡ length (concatMap f l) + length (f x)
-concatMap-snoc-length f l x = ap length (concatMap-snoc f l x) ∙ length-append (concatMap f l) (f x)
-
 -- ---- what each element gives
 
 pub map-at : {A B : Type 0} (f : A → B) (l : List A) (a : A) (b : B) (i : ℕ) → i < length l

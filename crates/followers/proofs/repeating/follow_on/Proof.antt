@@ -5,7 +5,8 @@ use borrow.Author.Needs.{needs}
 use Rattle.index.specs.laws.Followers.{narrow}
 use Rattle.followers.specs.Spans.{SlotWithin}
 use Rattle.followers.specs.Turns.{BetweenTurns}
-use Rattle.followers.specs.laws.Repeating.{onward-place, onward-arcs, span-order, span-within}
+use Rattle.followers.specs.laws.Repeating.{span-order, span-within}
+use Rattle.followers.specs.laws.Turns.{place-few, arcs-fit}
 use Rattle.followers.specs.laws.Repeating.{repeated-on, followed-few, followed-noted, followed-refused}
 use Rattle.followers.proofs.repeating.follow_on.Statement.{statement}
 use Rattle.followers.proofs.repeating.follow_on.Tie as tie
@@ -49,7 +50,7 @@ slot-for-requires c κs =
 last-state-requires : tie.Need-last-state-requires
 last-state-requires c κs =
     let start = entry c in
-    (between start .searchable .connectable .usable .header-known, onward-place (start .pre))
+    (between start .searchable .connectable .usable .header-known, place-few (start .pre .expandable))
 
 repeats-requires : tie.Need-repeats-requires
 repeats-requires c κs =
@@ -101,7 +102,7 @@ repeat-requires c κs =
             c .wide2 .ensures,
           );
       within = omega (arith, span-within s _ (slot-there slot) is alike, c .wide2 .ensures);
-      fit = onward-arcs s;
+      fit = arcs-fit (s .expandable);
     }
 
 same-length : tie.Need-same-length
@@ -145,8 +146,8 @@ note-span-requires c κs =
     let last = entering call .before .before .before .before in
     record {
       within = slot-there slot;
-      place-few = onward-place (start .pre);
-      first-few = omega (arith, onward-arcs (start .pre));
+      place-few = place-few (start .pre .expandable);
+      first-few = omega (arith, arcs-fit (start .pre .expandable));
       end-few =
           followed-few (start .pre) (last .last-state .ensures) (call .follow .ensures) (arm .step .given .1);
     }

@@ -1,4 +1,4 @@
--- `words::holds_only` meets its contract. The loop's invariant: the words from `count` up to `i` are 0.
+-- `holding::holds_only` meets its contract. The loop's invariant: the words from `count` up to `i` are 0.
 use mathlib.Core.Path.{sym}
 use Prim.Native.Nat.{_-_}
 use lib.ListN.{length}
@@ -7,8 +7,8 @@ use borrow.Author.Needs.{needs}
 use Rattle.definitions.specs.ForeignTables.{holdsOnly}
 use Rattle.lines.specs.laws.Passing.{Passed, passed-more, passed-stop, passed-end}
 use Rattle.tables.specs.laws.TableTests.{isZero, holds-short, holds-from}
-use Rattle.tables.proofs.words.holds_only.Statement.{statement}
-use Rattle.tables.proofs.words.holds_only.Tie as tie
+use Rattle.tables.proofs.holding.holds_only.Statement.{statement}
+use Rattle.tables.proofs.holding.holds_only.Tie as tie
 
 abbrev Inv-loop : tie.InvT-loop
 Inv-loop words count i₀ i = Passed isZero words (holdsOnly count words) i
