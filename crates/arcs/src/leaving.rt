@@ -9,25 +9,22 @@ use definitions::Refusal;
 use definitions::number;
 use definitions::wide;
 ghost use mathlib.Core.Path.{_≡_};
-ghost use Prim.Native.Nat.{_+_, _*_, _/_};
-ghost use lib.Dec.{T, ltb};
-ghost use lib.ListN.{length};
+ghost use Prim.Native.Nat.{_+_, _*_};
+ghost use lib.Dec.{T};
 ghost use denote.Ref.{ptr};
-ghost use Rattle.definitions.specs.Arcs.{arcSize, arcsIn};
+ghost use Rattle.definitions.specs.Arcs.{arcSize};
 ghost use Rattle.definitions.specs.Faults.{faultOf, faultLine};
 ghost use Rattle.definitions.specs.Leaving.{leaving, partHanded, partWords};
-ghost use Rattle.definitions.specs.Lists.{select};
 ghost use Rattle.definitions.specs.NetworkText.{neverDescending};
 ghost use Rattle.definitions.specs.Said.{saidOf, spanOf, noSpan};
+ghost use Rattle.arcs.specs.Below.{below};
 ghost use Rattle.arcs.specs.Standing.{standingSaid};
+ghost use Rattle.arcs.specs.Whole.{allArcs};
 
 // How many arcs have a source below a state, by bisection: sources never descend.
 pub fn arcs_below(arcs: &[u32], state: usize) -> usize
-    requires { ⌜ T (neverDescending (arcsIn (length (now arcs) / arcSize) (now arcs))) ⌝ }
-    ensures { λ r. ⌜
-        r ≡ length (select (λ a. ltb (a .from) state)
-        (arcsIn (length (now (arcs .entry)) / arcSize) (now (arcs .entry))))
-        ⌝ }
+    requires { ⌜ T (neverDescending (allArcs (now arcs))) ⌝ }
+    ensures { λ r. ⌜ r ≡ below state (allArcs (now (arcs .entry))) ⌝ }
 {
     let mut low = 0;
     let mut high = arcs.len() / ARC_SIZE;

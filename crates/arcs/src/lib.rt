@@ -1,7 +1,8 @@
-// Lent arcs: the test for 18, the arcs that leave a state, and the words of an arc.
+// Lent arcs: the test for 18, the arcs that leave a state and where they begin, and the words of an arc.
 pub mod known;
 pub mod leaving;
 pub mod putting;
+pub mod starting;
 
 use definitions::Refusal;
 

@@ -17,6 +17,7 @@ use Rattle.marks.specs.Openings.{Opened}
 use Rattle.joined.specs.States.{roomOf, held, Underway}
 use Rattle.moves.specs.declared.Hop.{Hop}
 use Rattle.moves.specs.Moving.{hopArc}
+use Rattle.arcs.specs.Below.{Started}
 use Rattle.arcs.specs.Whole.{allArcs, arcAt}
 
 -- the join of arcs and words that fill lent words
@@ -37,16 +38,17 @@ pub record HopAt (arcs : List ℕ) (at from : ℕ) (hop : Hop) : Type 0 where
       → movesAlong words (word ⊚ mark) (hopArc hop) ≡ movesAlong words (word ⊚ mark) (arcAt arcs at)
 
 -- a network and words to join, and joined states under way
-pub record Turnable (arcs words index : List ℕ) (sizes : Sizes) (states joined chains : List ℕ) : Type 0 where
+pub record Turnable (arcs starts words index : List ℕ) (sizes : Sizes) (states joined chains : List ℕ) : Type 0 where
   pub followed : Followed arcs
+  pub started : Started arcs starts
   pub lexicon : Lexicon words
   pub opened : Opened (spelled words) index
   pub underway : Underway sizes states joined chains
 
 -- and one of them to expand
-pub record Expandable (arcs words index : List ℕ) (sizes : Sizes) (states joined chains : List ℕ) (place : ℕ)
+pub record Expandable (arcs starts words index : List ℕ) (sizes : Sizes) (states joined chains : List ℕ) (place : ℕ)
     : Type 0 where
-  pub turnable : Turnable arcs words index sizes states joined chains
+  pub turnable : Turnable arcs starts words index sizes states joined chains
   pub listed : place < sizes .table
 
 -- its turn

@@ -1,6 +1,8 @@
 // The joined states that are there before the first turn, and working space for the turns.
 use crate::turning::take_turns;
+use arcs::starting::fill_starts;
 use definitions::MOST_JOINED;
+use definitions::MOST_METASTATES;
 use definitions::MOST_WORDS;
 use growing::Sizes;
 use growing::Step;
@@ -11,13 +13,17 @@ use marks::indexing::fill_index;
 ghost use Prim.Native.Nat.{_<_};
 ghost use Rattle.joining.specs.Beginning.{Startable, Chainable, Begun, JoinLeft};
 
-// Space for fewer joined states than these gets short chains. There is a head and a link for each of so many.
+// Space for fewer joined states than these gets short chains, a head and a link for each of so many, and a short table
+// of where the arcs of network states begin.
 const FEW: usize = 4096;
 
 const SHORT_CHAINS: usize = 2 * FEW;
 
-// Else there is one more head and link than there are joined states at most.
+// Else there is one more head and link than there are joined states at most,
 const LONG_CHAINS: usize = 2 * (MOST_JOINED + 1);
+
+// and a place for each state of the largest network, of three states a metastate.
+const LONG_STARTS: usize = 2 + 3 * MOST_METASTATES;
 
 // The index of the words: a place for each phone, and one for each word.
 const INDEX_SIZE: usize = 64 + MOST_WORDS;
@@ -49,13 +55,15 @@ fn begin(states: &mut [u32], chains: &mut [u32])
     );
 }
 
-// Joins with cleared words for chains, more heads than the joined states have room for.
+// Joins with cleared words for chains, more heads than the joined states have room for, and words for a table of where
+// arcs begin.
 fn join_with(
     arcs: &[u32],
     words: &[u32],
     states: &mut [u32],
     joined: &mut [u32],
     chains: &mut [u32],
+    starts: &mut [u32],
 ) -> Step
     requires { ⌜
         Startable (now arcs) (now words) (now states) (now joined) × Chainable (now states) (now chains)
@@ -65,14 +73,24 @@ fn join_with(
         r (now (states .exit)) (now (joined .exit))
         ⌝ }
 {
+    let placed = fill_starts(arcs, starts);
     let mut index = [0u32; INDEX_SIZE];
     fill_index(words, &mut index);
     begin(states, chains);
     let first = Sizes { table: 2, arcs: 0 };
-    take_turns(arcs, words, &index, states, joined, chains, first)
+    take_turns(
+        arcs,
+        &starts[..placed],
+        words,
+        &index,
+        states,
+        joined,
+        chains,
+        first,
+    )
 }
 
-// Joins into cleared space. Space for fewer than 4096 joined states gets short chains, so that a small join clears few
+// Joins into cleared space. Space for fewer than 4096 joined states gets short tables, so that a small join clears few
 // words.
 pub fn join_known(arcs: &[u32], words: &[u32], states: &mut [u32], joined: &mut [u32]) -> Step
     requires { ⌜ Startable (now arcs) (now words) (now states) (now joined) ⌝ }
@@ -83,8 +101,10 @@ pub fn join_known(arcs: &[u32], words: &[u32], states: &mut [u32], joined: &mut 
 {
     if state_room(states.len()) < FEW {
         let mut chains = [0u32; SHORT_CHAINS];
-        return join_with(arcs, words, states, joined, &mut chains);
+        let mut starts = [0u32; FEW];
+        return join_with(arcs, words, states, joined, &mut chains, &mut starts);
     }
     let mut chains = [0u32; LONG_CHAINS];
-    join_with(arcs, words, states, joined, &mut chains)
+    let mut starts = [0u32; LONG_STARTS];
+    join_with(arcs, words, states, joined, &mut chains, &mut starts)
 }

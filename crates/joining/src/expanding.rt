@@ -1,5 +1,5 @@
 // One turn: all moves from a joined state, along the arcs of its network state.
-use arcs::leaving::arcs_below;
+use arcs::starting::arcs_before;
 use definitions::ARC_SIZE;
 use definitions::wide;
 use growing::Sizes;
@@ -33,6 +33,7 @@ fn hop_at(arcs: &[u32], at: usize, from: u32) -> Hop
 // Appends the arcs of all moves from the joined state at a place.
 pub fn expand(
     arcs: &[u32],
+    starts: &[u32],
     words: &[u32],
     index: &[u32],
     states: &mut [u32],
@@ -42,7 +43,7 @@ pub fn expand(
     place: usize,
 ) -> Step
     requires { ⌜
-        Expandable (now arcs) (now words) (now index) sizes (now states) (now joined) (now chains) place
+        Expandable (now arcs) (now starts) (now words) (now index) sizes (now states) (now joined) (now chains) place
         ⌝ }
     ensures { λ r. ⌜
         StepLeft (now (states .entry)) (now (joined .entry)) (now (chains .entry))
@@ -57,7 +58,12 @@ pub fn expand(
     };
     let wants = wanted(words, x.word, x.mark);
     let mut now = sizes;
-    let mut at = next_arc(arcs, arcs_below(arcs, wide(x.state)), x.state, wants);
+    let mut at = next_arc(
+        arcs,
+        arcs_before(arcs, starts, wide(x.state)),
+        x.state,
+        wants,
+    );
     while at < arcs.len() / ARC_SIZE {
         let hop = hop_at(arcs, at, place as u32);
         let step = follow(words, index, states, joined, chains, now, hop, mark, wants);

@@ -7,6 +7,7 @@ ghost use Rattle.joining.specs.Turns.{Turnable, turnedAll};
 
 pub fn take_turns(
     arcs: &[u32],
+    starts: &[u32],
     words: &[u32],
     index: &[u32],
     states: &mut [u32],
@@ -14,7 +15,9 @@ pub fn take_turns(
     chains: &mut [u32],
     sizes: Sizes,
 ) -> Step
-    requires { ⌜ Turnable (now arcs) (now words) (now index) sizes (now states) (now joined) (now chains) ⌝ }
+    requires { ⌜
+        Turnable (now arcs) (now starts) (now words) (now index) sizes (now states) (now joined) (now chains)
+        ⌝ }
     ensures { λ r. ⌜
         StepLeft (now (states .entry)) (now (joined .entry)) (now (chains .entry))
         (turnedAll (now (arcs .entry)) (now (words .entry)) (now (states .entry)) (now (joined .entry)) sizes)
@@ -24,7 +27,17 @@ pub fn take_turns(
     let mut now = sizes;
     let mut turns = 0;
     while turns < now.table {
-        let step = expand(arcs, words, index, states, joined, chains, now, turns);
+        let step = expand(
+            arcs,
+            starts,
+            words,
+            index,
+            states,
+            joined,
+            chains,
+            now,
+            turns,
+        );
         match step {
             Step::Next(next) => {
                 now = next;

@@ -2,10 +2,11 @@
 use mathlib.Core.Path.{_≡_}
 use mathlib.Core.List.{List}
 use Prim.Native.Nat.{ℕ, _*_, _/_, _≤_, _<_}
-use lib.Dec.{T, ltb, eqb}
+use lib.Dec.{T, eqb}
 use lib.ListN.{length, drop}
 use Rattle.definitions.specs.Lists.{_!_, select, concatMap}
 use Rattle.definitions.specs.Arcs.{arcSize}
+use Rattle.arcs.specs.Below.{below}
 use Rattle.arcs.specs.Whole.{allArcs}
 use Rattle.definitions.specs.NetworkText.{neverDescending}
 use Rattle.definitions.specs.Joining.{_⊚_, Mark, Move, movesAlong}
@@ -20,7 +21,7 @@ movesFrom words p arcs state at =
 -- a place among arcs in order, after all arcs of smaller sources
 pub record AfterSources (arcs : List ℕ) (state at : ℕ) : Type 0 where
   pub ordered : T (neverDescending (allArcs arcs))
-  pub after : length (select (λ a. ltb (a .from) state) (allArcs arcs)) ≤ at
+  pub after : below state (allArcs arcs) ≤ at
   pub within : at ≤ length arcs / arcSize
 
 -- from a place to another all arcs of the state were passed over, and nothing leads along them

@@ -23,6 +23,7 @@ use Rattle.arcs.specs.declared.Standing.the-variants as standing
 use Rattle.arcs.specs.Standing.{standingOf}
 use Rattle.arcs.specs.laws.KnownArcs.{arc-at, source-at, known-length, known-arcs}
 use Rattle.arcs.specs.Whole.{allArcs}
+use Rattle.arcs.specs.Below.{isBelow, below}
 
 -- ---- sources that never descend
 
@@ -41,12 +42,6 @@ source-least a (b ∷ arcs) d t (suc i) l =
     omega (arith, leb→le (a .from) (b .from) first, source-least b arcs d others i (omega arith))
 
 -- ---- how many arcs have smaller sources
-
-abbrev pub isBelow : (state : ℕ) → Arc → Bool
-isBelow state a = ltb (a .from) state
-
-abbrev pub below : (state : ℕ) → List Arc → ℕ
-below state arcs = length (select (isBelow state) arcs)
 
 module _ (state : ℕ) where
   below-here : (a : Arc) (arcs : List Arc) → a .from < state → below state (a ∷ arcs) ≡ suc (below state arcs)
@@ -96,6 +91,18 @@ module _ (state : ℕ) where
       let rest = below-more arcs d (in-order-rest a arcs t) i (omega arith) h in
       let first : a .from < state = omega (arith, source-least a arcs d t (suc i) l) in
       omega (arith, below-here a arcs first, rest)
+
+-- no fewer are below a later state
+pub below-up : (arcs : List Arc) (state later : ℕ) → state ≤ later → below state arcs ≤ below later arcs
+unfolding select
+below-up [] state later h = omega arith
+below-up (a ∷ arcs) state later h =
+    let rest = below-up arcs state later h in
+    by-source state a
+    (λ s. omega (arith, below-here state a arcs s, below-here later a arcs (omega arith), rest))
+    (λ s. by-source later a
+    (λ t. omega (arith, below-past state a arcs s, below-here later a arcs t, rest))
+    (λ t. omega (arith, below-past state a arcs s, below-past later a arcs t, rest)))
 
 -- those of the next state are these and those that have this source
 below-next : (state : ℕ) (arcs : List Arc)
@@ -170,11 +177,15 @@ pub record Bracketed (words : List ℕ) (state low high : ℕ) : Type 0 where
   pub high-at : below state (allArcs words) ≤ high
   pub within : high ≤ length words / arcSize
 
-pub bracket-start : (words : List ℕ) (state : ℕ) → Bracketed words state 0 (length words / arcSize)
-bracket-start words state =
-    let most = below-within state (allArcs words) in
-    let count = arcs-length (length words / arcSize) words in
-    record { low-at = omega arith; high-at = omega (arith, most, count); within = omega arith }
+pub below-all : (words : List ℕ) (state : ℕ) → below state (allArcs words) ≤ length words / arcSize
+below-all words state =
+    omega (arith, below-within state (allArcs words), arcs-length (length words / arcSize) words)
+
+-- before anything is known but that there are some
+pub bracket-from : (words : List ℕ) {some state : ℕ} → some ≤ below state (allArcs words)
+    → Bracketed words state some (length words / arcSize)
+bracket-from words {some} {state} l =
+    record { low-at = l; high-at = below-all words state; within = omega arith }
 
 module _ {words : List ℕ} {state low high : ℕ} (t : T (neverDescending (allArcs words)))
     (b : Bracketed words state low high) {middle : ℕ} (h : middle < high)

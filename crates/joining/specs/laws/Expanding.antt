@@ -17,7 +17,8 @@ use Rattle.definitions.specs.laws.lists.Records.{read-at}
 use Rattle.definitions.specs.laws.networks.KnownNetworks.{arcs-length}
 use Rattle.arcs.specs.Whole.{allArcs, arcAt}
 use Rattle.arcs.specs.laws.KnownArcs.{arc-at, arc-words-at}
-use Rattle.arcs.specs.laws.Leaving.{below, below-within, own-after}
+use Rattle.arcs.specs.Below.{below}
+use Rattle.arcs.specs.laws.Leaving.{below-within, own-after}
 use Rattle.growing.specs.declared.Sizes.{Sizes}
 use Rattle.growing.specs.declared.Step.{Step}
 use Rattle.growing.specs.declared.Step.the-variants as answer
@@ -71,8 +72,8 @@ pub record Expanding (arcs words : List ℕ) (sizes : Sizes) (states₀ joined�
       (movedIn (roomOf states₀ joined₀) place (movesFrom (spelled words) (word ⊚ mark) arcs state at)) now
       states joined chains
 
-module _ {arcs words index : List ℕ} {sizes : Sizes} {states₀ joined₀ chains₀ : List ℕ} {place : ℕ}
-    (e : Expandable arcs words index sizes states₀ joined₀ chains₀ place) where
+module _ {arcs starts words index : List ℕ} {sizes : Sizes} {states₀ joined₀ chains₀ : List ℕ} {place : ℕ}
+    (e : Expandable arcs starts words index sizes states₀ joined₀ chains₀ place) where
   abbrev count : ℕ
   count = length arcs / arcSize
 

@@ -14,6 +14,7 @@ use Rattle.definitions.specs.Joining.{joinedWords, joining, joinIn, joinRoom, j
 use Rattle.growing.specs.declared.Sizes.{Sizes}
 use Rattle.growing.specs.declared.Step.{Step}
 use Rattle.growing.specs.Steps.{stepOf}
+use Rattle.arcs.specs.Below.{Started}
 use Rattle.arcs.specs.Whole.{allArcs}
 use Rattle.marks.specs.Lexicon.{spelled}
 use Rattle.marks.specs.Openings.{Opened}
@@ -45,11 +46,12 @@ module _ {arcs words states joined chains states₁ chains₁ : List ℕ} (s : S
   abbrev two : Sizes
   two = record { table = 2; arcs = 0 }
 
-  pub start-turns : {index : List ℕ} → Opened (spelled words) index
-      → Turnable arcs words index (record { table = 2; arcs = 0 }) states₁ joined chains₁
-  start-turns opened =
+  pub start-turns : {starts index : List ℕ} → Started arcs starts → Opened (spelled words) index
+      → Turnable arcs starts words index (record { table = 2; arcs = 0 }) states₁ joined chains₁
+  start-turns started opened =
       record {
         followed = s .followed;
+        started = started;
         lexicon = s .lexicon;
         opened = opened;
         underway = b .underway joined (s .joined-cleared);

@@ -52,8 +52,8 @@ pub record Turning (arcs words : List ℕ) (sizes : Sizes) (states₀ joined₀ 
       (allTurns (joinMachine arcs words) (roomOf states₀ joined₀) (roomOf states₀ joined₀ .table - turns) turns) now
       states joined chains
 
-module _ {arcs words index : List ℕ} {sizes : Sizes} {states₀ joined₀ chains₀ : List ℕ}
-    (t : Turnable arcs words index sizes states₀ joined₀ chains₀) where
+module _ {arcs starts words index : List ℕ} {sizes : Sizes} {states₀ joined₀ chains₀ : List ℕ}
+    (t : Turnable arcs starts words index sizes states₀ joined₀ chains₀) where
   abbrev machine : Machine Joined Move
   machine = joinMachine arcs words
 
@@ -83,12 +83,13 @@ module _ {arcs words index : List ℕ} {sizes : Sizes} {states₀ joined₀ chai
         (last-turn machine room (room .table - turns) turns (held now states joined) (omega (arith, h, counted)))
 
     module _ (l : turns < now .table) where
-      pub turning-asks : Expandable arcs words index now states joined chains turns
+      pub turning-asks : Expandable arcs starts words index now states joined chains turns
       turning-asks =
           record {
             turnable =
                 record {
                   followed = t .followed;
+                  started = t .started;
                   lexicon = t .lexicon;
                   opened = t .opened;
                   underway = going-on (p .going);

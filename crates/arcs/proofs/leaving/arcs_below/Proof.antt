@@ -3,7 +3,7 @@
 use Prim.Native.Nat.{_-_}
 use native.Mathlib.Omega.{arith}
 use borrow.Author.Needs.{needs}
-use Rattle.arcs.specs.laws.Leaving.{Bracketed, bracket-start, bracket-up, bracket-down, bracket-end}
+use Rattle.arcs.specs.laws.Leaving.{Bracketed, bracket-from, bracket-up, bracket-down, bracket-end}
 use Rattle.arcs.proofs.leaving.arcs_below.Statement.{statement}
 use Rattle.arcs.proofs.leaving.arcs_below.Tie as tie
 
@@ -14,7 +14,7 @@ abbrev μ-loop : tie.MeasureT-loop
 μ-loop arcs state low₀ high₀ low high = high - low
 
 loop-holds : tie.Need-loop-holds Inv-loop μ-loop
-loop-holds c = bracket-start _ _
+loop-holds c = bracket-from _ (search needs)
 
 sub-middle : tie.Need-sub-middle Inv-loop μ-loop
 sub-middle c = search needs

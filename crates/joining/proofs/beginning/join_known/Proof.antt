@@ -16,10 +16,13 @@ state-room-requires c κs = search needs
 slice-aggregate-join-with : tie.Need-slice-aggregate-join-with
 slice-aggregate-join-with c = search needs
 
+slice-aggregate-join-with-2 : tie.Need-slice-aggregate-join-with-2
+slice-aggregate-join-with-2 c = search needs
+
 join-with-requires : tie.Need-join-with-requires
 unfolding joinRoom
 join-with-requires c κs =
-    let test = c .before .before .before in
+    let test = c .before .before .before .before in
     let start = entry (test .before .before) in
     (start .pre, cleared-chains (start .pre) 8192 (omega (arith, test .if1 .taken, test .before .state-room .ensures)))
 
@@ -32,13 +35,16 @@ same-length-2 c = search needs
 returns : tie.Need-returns
 returns c = search needs
 
-slice-aggregate-join-with-2 : tie.Need-slice-aggregate-join-with-2
-slice-aggregate-join-with-2 c = search needs
+slice-aggregate-join-with-3 : tie.Need-slice-aggregate-join-with-3
+slice-aggregate-join-with-3 c = search needs
+
+slice-aggregate-join-with-4 : tie.Need-slice-aggregate-join-with-4
+slice-aggregate-join-with-4 c = search needs
 
 join-with-requires-2 : tie.Need-join-with-requires-2
 unfolding joinRoom
 join-with-requires-2 c κs =
-    let start = entry (c .before .before .before .before .before) in
+    let start = entry (c .before .before .before .before .before .before) in
     (start .pre, cleared-chains (start .pre) 131072 (omega arith))
 
 same-length-3 : tie.Need-same-length-3
@@ -56,11 +62,13 @@ join-known-spec =
     (tie.spec
     state-room-requires
     slice-aggregate-join-with
+    slice-aggregate-join-with-2
     join-with-requires
     same-length
     same-length-2
     returns
-    slice-aggregate-join-with-2
+    slice-aggregate-join-with-3
+    slice-aggregate-join-with-4
     join-with-requires-2
     same-length-3
     same-length-4

@@ -6,7 +6,7 @@ use lib.ListN.{length}
 use borrow.Author.Needs.{needs}
 use Rattle.definitions.specs.Arcs.{arcSize}
 use Rattle.arcs.specs.Whole.{allArcs}
-use Rattle.arcs.specs.laws.Leaving.{below}
+use Rattle.arcs.specs.Below.{below}
 use Rattle.joined.specs.laws.Entering.{joined-few}
 use Rattle.joining.specs.laws.Expanding.{Expanding, expand-row, sources-after, expanding-start, expanding-done}
 use Rattle.joining.specs.laws.Expanding.{expanding-next, expanding-asks, expanding-more, expanding-stop}
@@ -14,16 +14,16 @@ use Rattle.joining.proofs.expanding.expand.Statement.{statement}
 use Rattle.joining.proofs.expanding.expand.Tie as tie
 
 abbrev Inv-loop : tie.InvT-loop
-Inv-loop arcs words index states₀ joined₀ chains₀ place x mark wants now₀ at₀ states joined chains now at =
+Inv-loop arcs starts words index states₀ joined₀ chains₀ place x mark wants now₀ at₀ states joined chains now at =
     Expanding arcs words now₀ states₀ joined₀ chains₀ place (x .state) (x .word) (x .mark) states joined chains now at
 
 abbrev μ-loop : tie.MeasureT-loop
-μ-loop arcs words index states₀ joined₀ chains₀ place x mark wants now₀ at₀ states joined chains now at =
+μ-loop arcs starts words index states₀ joined₀ chains₀ place x mark wants now₀ at₀ states joined chains now at =
     length arcs / arcSize - at
 
 -- where the function begins, and where its loop does
 abbrev entry : tie.After-joined-at-arg Inv-loop μ-loop → tie.Start Inv-loop μ-loop
-entry c = c .before .before .before .before .before .before .before
+entry c = c .before .before .before .before .before .before .before .before
 
 abbrev rowed : tie.After-next-arc Inv-loop μ-loop → tie.After-joined-at Inv-loop μ-loop
 rowed c = c .before .before .before .before
@@ -42,13 +42,13 @@ abbrev hopped : tie.After-follow Inv-loop μ-loop → tie.After-hop-at Inv-loop 
 hopped call = call .before .before .before .before
 
 -- the source of the first arc
-first-is : (c : tie.After-arcs-below Inv-loop μ-loop)
-    → c .arcs-below .result
+first-is : (c : tie.After-arcs-before Inv-loop μ-loop)
+    → c .arcs-before .result
     ≡ below (c .before .before .before .joined-at .result .state)
     (allArcs (entry (c .before .before .before .before) .args .arcs .now))
 first-is c =
     let arcs = entry (c .before .before .before .before) .args .arcs .now in
-    c .arcs-below .ensures ∙ ap (λ (n : ℕ). below n (allArcs arcs)) (c .before .wide .ensures)
+    c .arcs-before .ensures ∙ ap (λ (n : ℕ). below n (allArcs arcs)) (c .before .wide .ensures)
 
 joined-at-requires : tie.Need-joined-at-requires Inv-loop μ-loop
 joined-at-requires c κs = expand-row (entry c .pre)
@@ -59,8 +59,9 @@ wanted-requires c κs = entry (c .before) .pre .turnable .lexicon
 wide-requires : tie.Need-wide-requires Inv-loop μ-loop
 wide-requires c κs = search needs
 
-arcs-below-requires : tie.Need-arcs-below-requires Inv-loop μ-loop
-arcs-below-requires c κs = entry (c .before .before .before) .pre .turnable .followed .ordered
+arcs-before-requires : tie.Need-arcs-before-requires Inv-loop μ-loop
+arcs-before-requires c κs =
+    let pre = entry (c .before .before .before) .pre in (pre .turnable .followed .ordered, pre .turnable .started)
 
 next-arc-requires : tie.Need-next-arc-requires Inv-loop μ-loop
 next-arc-requires c κs =
@@ -174,7 +175,7 @@ expand-spec =
     joined-at-requires
     wanted-requires
     wide-requires
-    arcs-below-requires
+    arcs-before-requires
     next-arc-requires
     loop-holds
     cast-hop-at

@@ -9,16 +9,16 @@ use Rattle.joining.proofs.turning.take_turns.Statement.{statement}
 use Rattle.joining.proofs.turning.take_turns.Tie as tie
 
 abbrev Inv-loop : tie.InvT-loop
-Inv-loop arcs words index states₀ joined₀ chains₀ now₀ turns₀ states joined chains now turns =
+Inv-loop arcs starts words index states₀ joined₀ chains₀ now₀ turns₀ states joined chains now turns =
     Turning arcs words now₀ states₀ joined₀ chains₀ states joined chains now turns
 
 abbrev μ-loop : tie.MeasureT-loop
-μ-loop arcs words index states₀ joined₀ chains₀ now₀ turns₀ states joined chains now turns =
+μ-loop arcs starts words index states₀ joined₀ chains₀ now₀ turns₀ states joined chains now turns =
     roomOf states₀ joined₀ .table - turns
 
 -- where the function begins, and where a state was expanded
 abbrev begun : tie.Then1 Inv-loop μ-loop → tie.Start Inv-loop μ-loop
-begun turn = turn .before .before .before .before .before .before .before .before .before
+begun turn = turn .before .before .before .before .before .before .before .before .before .before
 
 abbrev expanded : tie.After-slice-known6 Inv-loop μ-loop → tie.After-expand Inv-loop μ-loop
 expanded c = c .before .before .before .before .before .before
@@ -27,7 +27,7 @@ abbrev turned : tie.After-expand Inv-loop μ-loop → tie.Then1 Inv-loop μ-loop
 turned call = call .before .before .before .before
 
 loop-holds : tie.Need-loop-holds Inv-loop μ-loop
-loop-holds c = turning-start (c .before .before .before .before .before .before .pre)
+loop-holds c = turning-start (c .before .before .before .before .before .before .before .pre)
 
 expand-requires : tie.Need-expand-requires Inv-loop μ-loop
 expand-requires c κs =
@@ -82,7 +82,7 @@ same-length-6 c = search needs
 
 returns-2 : tie.Need-returns-2 Inv-loop μ-loop
 returns-2 c =
-    let start = c .before .before .before .before .before .before .before .before .before in
+    let start = c .before .before .before .before .before .before .before .before .before .before in
     turning-done (start .pre) (c .before .before .loop .inv) (c .if1 .left)
 
 pub take-turns-spec : {M : Type 1} → statement M
