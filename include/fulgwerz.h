@@ -36,8 +36,8 @@
  *   No entry keeps a pointer, allocates, prints or has a state of its own: any number of threads may call at once,
  *   as long as none fills a buffer that another uses.
  *   fulgwerz_combine, fulgwerz_build and fulgwerz_build_book keep their working space on the stack of the calling
- *   thread, about 3.6 million bytes at most; fulgwerz_write_book takes about 500,000 there and fulgwerz_join about
- *   600,000, the others take less than 100,000. (Measured, not proved.) A main thread with the usual 8 MiB has enough;
+ *   thread, about 3.6 million bytes at most; fulgwerz_join takes about 1.4 million there and fulgwerz_write_book about
+ *   500,000, the others take less than 100,000. (Measured, not proved.) A main thread with the usual 8 MiB has enough;
  *   other threads may have less unless they are given more.
  */
 #ifndef FULGWERZ_H
