@@ -88,10 +88,19 @@ pub data TreeNode : Type 0 where
   question : (asked : Asked) (yesNode noNode : ℕ) → TreeNode
   leaf : (model : ℕ) → TreeNode
 
--- what a walk through a tree comes to: the node number of a leaf, and the model there
+-- what a walk through a tree comes to: the node number of a leaf and the model there, and, of document 02, P5, "with
+-- the leaf, the number of questions met on the way"
 pub record Reached : Type 0 where
   pub leaf : ℕ
   pub model : ℕ
+  pub questions : ℕ
+
+abbrev pub atLeaf : (node model : ℕ) → Reached
+atLeaf node model = record { leaf = node; model = model; questions = 0 }
+
+-- the same with one question more on the way
+abbrev pub pastQuestion : Reached → Reached
+pastQuestion r = record { leaf = r .leaf; model = r .model; questions = suc (r .questions) }
 
 -- the lines of nodes, each with the number that it states: "one N or L per node"
 pub record NodeLine : Type 0 where

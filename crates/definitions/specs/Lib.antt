@@ -33,6 +33,7 @@ pub mod PlainForm
 pub mod Meeting
 pub mod WordBooks
 pub mod Joining
+pub mod QuestionsPut
 pub mod laws
 pub mod examples
 pub mod construction

@@ -4,7 +4,7 @@ use mathlib.Core.Logic.{_⊎_}
 use mathlib.Core.List.{List, [], _∷_, _++_}
 use mathlib.Core.Bool.{Bool, true, false, _&&_, _||_}
 use mathlib.Core.Option.{Option, none, some}
-use Prim.Native.Nat.{ℕ, zero, suc, _-_}
+use Prim.Native.Nat.{ℕ, zero, suc, _+_, _-_}
 use lib.Dec.{eqb}
 use lib.ListN.{length, take, drop, getD, replicate}
 
@@ -62,6 +62,11 @@ upFrom a (suc count) = a ∷ upFrom (suc a) count
 unfoldable pub occurrences : ℕ → List ℕ → ℕ
 occurrences x [] = 0
 occurrences x (y ∷ l) = if eqb x y then suc (occurrences x l) else occurrences x l
+
+-- the sum of what the elements give
+unfoldable pub sumOf : {A : Type 0} → (A → ℕ) → List A → ℕ
+sumOf f [] = 0
+sumOf f (x ∷ l) = f x + sumOf f l
 
 -- the place of an element in a list, beyond its end where it is not in it
 unfoldable pub placeOf : {X : Type 0} → (X → X → Bool) → List X → X → ℕ

@@ -10,7 +10,7 @@ use Rattle.definitions.specs.declared.Fault.the-variants.{Foreign, Range
 use Rattle.definitions.specs.Faults.{Outcome, answered, judge, _unless_}
 use Rattle.definitions.specs.Lists.{if_then_else_, _!_, every}
 use Rattle.definitions.specs.PhoneSets.{has}
-use Rattle.definitions.specs.BookLines.{isPhone, TreeNode, question, leaf, Asked, Reached}
+use Rattle.definitions.specs.BookLines.{isPhone, TreeNode, question, leaf, Asked, Reached, atLeaf, pastQuestion}
 use Rattle.definitions.specs.BookReading.{nodeSize}
 use Rattle.definitions.specs.Tables.{treeNode, nodeRecords}
 use Rattle.definitions.specs.ForeignTables.{headerKnown, nodesKnown, holdsOnly, classTableKnown}
@@ -27,15 +27,16 @@ modelAt nodes node =
 unfoldable pub answers : (classes context : List ℕ) → Asked → Bool
 answers classes context asked = has (context ! asked .position) (classes ! (asked .class - 1))
 
--- what a walk from a node reaches. It moves to greater nodes only, so as many steps as there are nodes are
--- enough; without a step left it ends where it is.
+-- what a walk from a node reaches, and how many questions it meets. It moves to greater nodes only, so as many steps
+-- as there are nodes are enough; without a step left it ends where it is.
 unfoldable pub walk : (steps : ℕ) → List TreeNode → (classes context : List ℕ) → (node : ℕ) → Reached
-walk zero nodes classes context node = record { leaf = node; model = modelAt nodes node }
+walk zero nodes classes context node = atLeaf node (modelAt nodes node)
 walk (suc steps) nodes classes context node =
     elim (nodeAt nodes node) [
       | question asked yesNode noNode ↦
-          walk steps nodes classes context (if answers classes context asked then yesNode else noNode)
-      | leaf model ↦ record { leaf = node; model = model }
+          pastQuestion
+          (walk steps nodes classes context (if answers classes context asked then yesNode else noNode))
+      | leaf model ↦ atLeaf node model
     ]
 
 -- from a root: all of it, and its leaf alone
@@ -60,19 +61,20 @@ unfoldable pub isContext : Header → List ℕ → Bool
 isContext header context =
     eqb (length context) (2 * header .half + 1) && every (isPhone (header .phones)) context
 
--- "answers the node number of the leaf that a context reaches from a root"
+-- "answers the node number of the leaf that a context reaches from a root", and with it "the number of questions met
+-- on the way"
 unfoldable pub leafLookup : Header → (classes : List ℕ) → List Node
-    → (root : ℕ) → (context : List ℕ) → Outcome ℕ
+    → (root : ℕ) → (context : List ℕ) → Outcome Reached
 leafLookup header classes nodes root context =
     judge 0
     (Foreign unless lookupKnown header classes nodes root
     ∷ Range unless isContext header context
     ∷ [])
-    (answered (leafReached (map treeNode nodes) classes context root))
+    (answered (reached (map treeNode nodes) classes context root))
 
 -- the same over the table of node words that reading leaves
 unfoldable pub leafLookupInTable : Header → (classes nodes : List ℕ)
-    → (root : ℕ) → (context : List ℕ) → Outcome ℕ
+    → (root : ℕ) → (context : List ℕ) → Outcome Reached
 leafLookupInTable header classes nodes root context =
     judge 0
     (Foreign unless holdsOnly (nodeSize * header .nodes) nodes ∷ [])

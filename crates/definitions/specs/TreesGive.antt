@@ -11,7 +11,8 @@ use lib.ListN.{length, take, drop, replicate}
 use Rattle.definitions.specs.Lists.{if_then_else_, _!_, every, atLeastOne, firstWhere, mapOption, concatMap}
 use Rattle.definitions.specs.Lists.{upFrom}
 use Rattle.definitions.specs.BookLines.{BookLine, headerOf, isPhone, membersOf, TreeNode, question, leaf}
-use Rattle.definitions.specs.BookLines.{nodeLinesOf, Asked, Reached, rootsOf, rootFor, boundariesOf, plainFor}
+use Rattle.definitions.specs.BookLines.{nodeLinesOf, Asked, Reached, atLeaf, pastQuestion, rootsOf, rootFor}
+use Rattle.definitions.specs.BookLines.{boundariesOf, plainFor}
 
 -- "The context of place i in a sequence S has 2n+1 phones: in column c the phone at place i+c−n, or 1 where
 -- that lies beyond either end." With n phones before and after S, place i+c−n of S is place i+c. So the
@@ -59,15 +60,16 @@ answersByLines lines context asked = putInClass lines (asked .class) (context ! 
 
 -- "At an N line go to its yes node if a Q line puts the context's phone at its position into its class,
 -- else to its no node. At an L line its model is given." The walk meets greater nodes only, so as many
--- steps as lines are enough.
+-- steps as lines are enough. Each N line is a question met on the way.
 unfoldable pub walkByLines : (steps : ℕ) → List BookLine → (context : List ℕ) → (node : ℕ) → Option Reached
 walkByLines zero lines context node = none
 walkByLines (suc steps) lines context node =
     elim (nodeLine lines node) [
       | none ↦ none
       | some (question asked yesNode noNode) ↦
-          walkByLines steps lines context (if answersByLines lines context asked then yesNode else noNode)
-      | some (leaf model) ↦ some (record { leaf = node; model = model })
+          mapOption pastQuestion
+          (walkByLines steps lines context (if answersByLines lines context asked then yesNode else noNode))
+      | some (leaf model) ↦ some (atLeaf node model)
     ]
 
 -- "For each state, start at the node in the R line of the phone at i and that state", of the phone whose

@@ -11,3 +11,4 @@ pub mod Boundaries
 pub mod Meetings
 pub mod WordBooks
 pub mod Joining
+pub mod Questions

@@ -34,6 +34,9 @@ pub const MOST_WORDS: usize = 9999;
 
 pub const MOST_JOINED: usize = 65535;
 
+// How many phones a sequence has at most that is transcribed.
+pub const MOST_SOUNDS: usize = 1000000;
+
 // The greatest phone, the greatest model, and the greatest number of a field: six digits.
 pub const MOST_PHONE: u32 = 64;
 

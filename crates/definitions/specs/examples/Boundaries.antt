@@ -16,7 +16,7 @@ use Rattle.definitions.specs.Transcription.{transcribe}
 use Rattle.definitions.specs.TreesGive.{treesGive}
 use Rattle.definitions.specs.examples.Everything.{everything}
 use Rattle.definitions.specs.examples.Example.{textOf, Result, accepts, nothing, gives, refuses, read}
-use Rattle.definitions.specs.examples.Example.{given, Case, _is_, Holds, example}
+use Rattle.definitions.specs.examples.Example.{transcript, Case, _is_, Holds, example}
 
 -- tables with room for each book here
 room : Lent
@@ -131,7 +131,7 @@ tables = tablesLeft lent (readBook lent (textOf centre))
 -- what the transcription of 1 2 3 1 answers over these tables with other roots or plain phones
 over : (roots plains : List ℕ) → Result
 over roots plains =
-    given (transcribe header
+    transcript (transcribe header
     (record { nodes = tables .nodes; classes = tables .classes; roots = roots; plains = plains })
     (1 ∷ 2 ∷ 3 ∷ 1 ∷ []) 4)
 
@@ -180,7 +180,7 @@ pub checkedNotUsed : List Case
 checkedNotUsed =
     reading unused is accepts
     ∷ gives (unusedTables .roots) is gives (0 ∷ 1 ∷ 2 ∷ [])
-    ∷ given (transcribe unusedHeader unusedTables (1 ∷ 3 ∷ 1 ∷ []) 3) is gives (10 ∷ 20 ∷ 10 ∷ [])
+    ∷ transcript (transcribe unusedHeader unusedTables (1 ∷ 3 ∷ 1 ∷ []) 3) is gives (10 ∷ 20 ∷ 10 ∷ [])
     ∷ byLines (1 ∷ 3 ∷ 1 ∷ []) (readBook lent (textOf unused)) is gives (10 ∷ 20 ∷ 10 ∷ [])
     ∷ reading (set unused 7 "R     3     1     3") is refuses 13 8
     ∷ reading (set unused 7 "R     3     1     1") is refuses 16 3

@@ -1,6 +1,6 @@
 -- Opens every definition, so that closed examples compute: `unfolding everything` opens what its line names.
 use Rattle.definitions.specs.Lists.{every, atLeastOne, select, lastPasses, concatMap, upFrom}
-use Rattle.definitions.specs.Lists.{firstWhere, mapOption, occurrences, placeOf, same, records, padded}
+use Rattle.definitions.specs.Lists.{firstWhere, mapOption, occurrences, sumOf, placeOf, same, records, padded}
 use Rattle.definitions.specs.Faults.{judge, andThen, answerLeft}
 use Rattle.definitions.specs.Numerals.{isDigit, isNumeral, valueOf, numeralWithin, numeral}
 use Rattle.definitions.specs.Lines.{skipSpaces, digitsField, fieldOf, fieldText, formOf, isBlank}
@@ -49,7 +49,9 @@ use Rattle.definitions.specs.NetworkText.{lineOfCounts, lineOfArc, netwo
 use Rattle.definitions.specs.TreesGive.{windows, around, contextsWithin, rootLine, nodeLine, putInClass}
 use Rattle.definitions.specs.TreesGive.{answersByLines, walkByLines, reachedByLines, modelGiven}
 use Rattle.definitions.specs.TreesGive.{together, modelsAlong, treesGive, silentEnds, treesPhone}
-use Rattle.definitions.specs.Transcription.{modelOf, transcription, isUtterance, transcribe}
+use Rattle.definitions.specs.Transcription.{modelOf, transcription, questionsAt, questionSum, transcribed}
+use Rattle.definitions.specs.Transcription.{isUtterance, transcribe, modelsLeft}
+use Rattle.definitions.specs.QuestionsPut.{questionsMet, questionsPut}
 use Rattle.definitions.specs.BookBuilding.{buildRead, buildBook, tablesAfter, buffersAfter}
 use Rattle.definitions.specs.Said.{saidOf, progressOf}
 use Rattle.definitions.specs.Program.{textOfBuilt, networkOf, refusalText, printed, program}
@@ -97,5 +99,6 @@ unfolding every atLeastOne firstWhere mapOption select lastPasses concatMap upFr
     plainsKnown plainTableKnown treePhone rootsInForce treesPhone columnsMet metWords wordLine lastLine
     comesNext wordCount phonesSaid wordsOf wordWords wordKind readWords wordsLeft wordIn wordsIn wordKnown
     wordsKnown isWord spoken spokenTo opening between within outside steps joinedWords sameJoined mayEnter
-    movesAlong moves joining joinIn joinRoom join joinLeft
+    movesAlong moves joining joinIn joinRoom join joinLeft sumOf questionsAt questionSum transcribed
+    modelsLeft questionsMet questionsPut
 everything = tt

@@ -17,6 +17,7 @@ use Rattle.definitions.specs.Metastates.{metastateSize}
 use Rattle.definitions.specs.Growing.{finished, stopped}
 use Rattle.definitions.specs.Connecting.{Built}
 use Rattle.definitions.specs.Building.{Space}
+use Rattle.definitions.specs.Transcription.{Transcribed}
 
 -- Texts. A line is written as in the document, "with blank fields to the line's end".
 unfoldable pub bytesOf : String → List ℕ
@@ -96,6 +97,11 @@ unfoldable pub given : Outcome (List ℕ) → Result
 given (answered numbers) = gives numbers
 given (refused r) = refuses (numberOf (r .fault)) (r .line)
 
+-- the models of a transcription alone
+unfoldable pub transcript : Outcome Transcribed → Result
+transcript (answered t) = gives (t .models)
+transcript (refused r) = refuses (numberOf (r .fault)) (r .line)
+
 unfoldable pub built : Outcome Built → Result
 built (answered (finished turns net)) = finishes turns (length (net .table)) (length (net .arcs))
 built (answered (stopped turns net)) = stops turns (length (net .table)) (length (net .arcs))
@@ -116,5 +122,6 @@ Holds (case ∷ table) = (case .asked ≡ case .said) × Holds table
 
 -- opens all of this file, for the tables
 unfoldable pub example : Unit {0}
-unfolding bytesOf lineBytes textOf inputLines input output header lent tables spaceFor read given built
+unfolding bytesOf lineBytes textOf inputLines input output header lent tables spaceFor read given transcript
+    built
 example = tt

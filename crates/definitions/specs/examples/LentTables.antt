@@ -5,19 +5,18 @@ use mathlib.Core.List.{List, [], _∷_, _++_}
 use Prim.Native.Nat.{ℕ}
 use lib.ListN.{take, drop, set, replicate}
 use Rattle.definitions.specs.declared.Header.{Header}
-use Rattle.definitions.specs.Faults.{answerLeft}
 use Rattle.definitions.specs.BookReading.{Lent, readBook}
 use Rattle.definitions.specs.Tables.{Tables, tablesLeft}
 use Rattle.definitions.specs.Lookup.{leafLookupInTable}
-use Rattle.definitions.specs.Transcription.{transcribe}
+use Rattle.definitions.specs.Transcription.{transcribe, modelsLeft}
 use Rattle.definitions.specs.examples.Everything.{everything}
 use Rattle.definitions.specs.examples.Example.{input, header, tables}
-use Rattle.definitions.specs.examples.Example.{Result, gives, refuses, read, given}
+use Rattle.definitions.specs.examples.Example.{Result, gives, refuses, read, transcript}
 use Rattle.definitions.specs.examples.Example.{Case, _is_, Holds, example}
 
 -- what the transcription of silence answers over the example's tables with other nodes, classes or roots
 silence : Tables → Result
-silence lent-tables = given (transcribe header lent-tables (1 ∷ []) 4)
+silence lent-tables = transcript (transcribe header lent-tables (1 ∷ []) 4)
 
 withNodes : List ℕ → Tables
 withNodes words =
@@ -61,17 +60,17 @@ order =
     leafFrom 4 (1 ∷ 2 ∷ []) is refuses 18 0
     ∷ leafFrom 1 (1 ∷ 2 ∷ []) is refuses 13 0
     ∷ leafFrom 1 (0 ∷ 2 ∷ 1 ∷ []) is refuses 13 0
-    ∷ given (transcribe fewer tables [] 4) is refuses 18 0
-    ∷ given (transcribe header tables (2 ∷ 1 ∷ []) 0) is refuses 41 0
-    ∷ given (transcribe header tables (1 ∷ 2 ∷ []) 4) is refuses 41 0
-    ∷ given (transcribe header tables (1 ∷ 3 ∷ 1 ∷ []) 4) is refuses 41 0
-    ∷ given (transcribe header tables (1 ∷ 2 ∷ 1 ∷ []) 2) is refuses 33 0
-    ∷ given (transcribe header tables (1 ∷ 2 ∷ 1 ∷ []) 3) is gives (10 ∷ 20 ∷ 10 ∷ [])
+    ∷ transcript (transcribe fewer tables [] 4) is refuses 18 0
+    ∷ transcript (transcribe header tables (2 ∷ 1 ∷ []) 0) is refuses 41 0
+    ∷ transcript (transcribe header tables (1 ∷ 2 ∷ []) 4) is refuses 41 0
+    ∷ transcript (transcribe header tables (1 ∷ 3 ∷ 1 ∷ []) 4) is refuses 41 0
+    ∷ transcript (transcribe header tables (1 ∷ 2 ∷ 1 ∷ []) 2) is refuses 33 0
+    ∷ transcript (transcribe header tables (1 ∷ 2 ∷ 1 ∷ []) 3) is gives (10 ∷ 20 ∷ 10 ∷ [])
     ∷ []
 
 -- what a transcription leaves in a buffer of three words, and reading in tables of 22, 2 and 3 words
 buffer : (S : List ℕ) → Result
-buffer S = gives (answerLeft 3 (transcribe header tables S 3))
+buffer S = gives (modelsLeft 3 (transcribe header tables S 3))
 
 wider : Lent
 wider = record { nodes = 22; classes = 2; roots = 3; plains = 3 }

@@ -20,6 +20,7 @@ use Rattle.definitions.specs.examples.Everything.{everything}
 use Rattle.definitions.specs.examples.Example.{textOf, inputLines, input, output, header, lent}
 use Rattle.definitions.specs.examples.Example.{tables, spaceFor}
 use Rattle.definitions.specs.examples.Example.{Result, accepts, gives, finishes, refuses, read, given}
+use Rattle.definitions.specs.examples.Example.{transcript}
 use Rattle.definitions.specs.examples.Example.{built}
 use Rattle.definitions.specs.examples.Example.{Case, _is_, Holds, example}
 
@@ -99,13 +100,13 @@ twoFaults-hold = (refl, (refl, (refl, (refl, tt))))
 -- outside reading
 pub elsewhere : List Case
 elsewhere =
-    given (transcribe fewer tables (1 ∷ []) 4) is refuses 18 0
+    transcript (transcribe fewer tables (1 ∷ []) 4) is refuses 18 0
     ∷ built (build fewer tables (spaceFor 3 4 11) 4) is refuses 18 0
     ∷ read (leafLookup header (1 ∷ []) (nodeRecords header (tables .nodes)) 4 (1 ∷ 2 ∷ 1 ∷ [])) is refuses 18 0
     ∷ read (leafLookup header (1 ∷ []) (nodeRecords header (tables .nodes)) 1 (1 ∷ 2 ∷ [])) is refuses 13 0
     ∷ built (build header tables (spaceFor 2 4 11) 4) is refuses 30 0
     ∷ built (build header tables (spaceFor 3 4 11) 5) is finishes 4 4 11
-    ∷ given (transcribe header tables (1 ∷ []) 0) is refuses 33 0
+    ∷ transcript (transcribe header tables (1 ∷ []) 0) is refuses 33 0
     ∷ read (leaving counts arcs 5) is accepts
     ∷ read (leaving counts arcs 6) is refuses 42 0
     ∷ gives (program (replicate 65537 0)) is gives (textOf ("X    22     0" ∷ []))

@@ -6,13 +6,13 @@ use Rattle.definitions.specs.Building.{Space, build}
 use Rattle.definitions.specs.Transcription.{transcribe}
 use Rattle.definitions.specs.Program.{program}
 use Rattle.definitions.specs.examples.Everything.{everything}
-use Rattle.definitions.specs.examples.Example.{input, output, header, tables, spaceFor, given, built}
+use Rattle.definitions.specs.examples.Example.{input, output, header, tables, spaceFor, transcript, built}
 use Rattle.definitions.specs.examples.Example.{Result, gives, finishes, stops, refuses, Case, _is_}
 use Rattle.definitions.specs.examples.Example.{Holds, example}
 
 -- a sequence transcribed, into a buffer for four models
 phones : (S : List ℕ) → Result
-phones S = given (transcribe header tables S 4)
+phones S = transcript (transcribe header tables S 4)
 
 -- the network built, with so much space and so many turns
 building : Space → (turns : ℕ) → Result

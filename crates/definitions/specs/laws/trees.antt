@@ -2,6 +2,7 @@
 pub mod Walks
 pub mod WalkByLines
 pub mod ModelsAlong
+pub mod Utterances
 pub mod Leaves
 pub mod LeafMatrices
 pub mod Ascending

@@ -12,12 +12,11 @@ use lib.Dec.{eqb, eqb→eq}
 use lib.ListN.{length, length-map}
 use borrow.Author.Tests.{ne-eqb, eqb-false}
 use Rattle.definitions.specs.declared.Header.{Header}
-use Rattle.definitions.specs.Lists.{select, atLeastOne, mapOption, upFrom, isIn}
+use Rattle.definitions.specs.Lists.{atLeastOne, select, mapOption, upFrom, sumOf, isIn}
 use Rattle.definitions.specs.BookLines.{Boundary, plainFor, plainGiven, plainWords, Root, rootCount, rootPlace}
 use Rattle.definitions.specs.BookLines.{noRoot, rootFor, rootGiven, rootWords}
 use Rattle.definitions.specs.BookText.{boundariesFrom, rootsListed}
 use Rattle.definitions.specs.PlainForm.{Tree, sizeOf, rootsFrom, treesThere}
-use Rattle.definitions.specs.laws.lists.Sums.{sumOf}
 use Rattle.definitions.specs.laws.lists.Tests.{T-and, by-test}
 use Rattle.definitions.specs.laws.lists.Members.{in-map}
 use Rattle.definitions.specs.laws.lists.Selected.{of-select}

@@ -11,7 +11,7 @@ use lib.Dec.{T, eqb, eqb→eq}
 use lib.ListN.{length, length-append, length-map}
 use Rattle.definitions.specs.declared.Header.{Header}
 use Rattle.definitions.specs.Faults.{answered}
-use Rattle.definitions.specs.Lists.{if_then_else_, select, upFrom, isIn, distinct}
+use Rattle.definitions.specs.Lists.{if_then_else_, select, upFrom, sumOf, isIn, distinct}
 use Rattle.definitions.specs.PhoneSets.{has, setOf}
 use Rattle.definitions.specs.BookLines.{BookLine, Member, headerOf, membersOf, boundariesOf, rootsOf}
 use Rattle.definitions.specs.BookReading.{Lent, readBook}
@@ -23,7 +23,7 @@ use Rattle.definitions.specs.laws.lists.Tests.{by-test}
 use Rattle.definitions.specs.laws.lists.Members.{listed}
 use Rattle.definitions.specs.laws.lists.Selected.{of-select}
 use Rattle.definitions.specs.laws.lists.Rising.{rising-distinct, rising-upFrom, rising-select}
-use Rattle.definitions.specs.laws.lists.Sums.{sumOf, sum-map, sum-less, sum-both}
+use Rattle.definitions.specs.laws.lists.Sums.{sum-map, sum-less, sum-both}
 use Rattle.definitions.specs.laws.lists.Fewer.{distinct-few, distinct-sum}
 use Rattle.definitions.specs.laws.matrices.PhoneSets.{has-listed}
 use Rattle.definitions.specs.laws.books.Books.{accepted-orderly, accepted-lines, accepted-length}

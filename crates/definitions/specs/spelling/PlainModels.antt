@@ -1,12 +1,12 @@
 -- The plain form of an accepted book: it is read into the same tables, its lines state its contents, and it gives every
--- phone sequence the models that the book gives. What is given is meant as demand 3 means it, by the lines.
+-- phone sequence the models that the book gives, after as many questions. What is given is meant as demand 3 means it,
+-- by the lines.
 use mathlib.Core.Path.{_≡_, sym, ap, _∙_}
 use mathlib.Core.List.{List}
-use mathlib.Core.Bool.{true, false}
+use mathlib.Core.Bool.{false}
 use mathlib.Core.Option.{none, some}
 use Prim.Native.Nat.{ℕ}
-use lib.Dec.{T, ltb}
-use lib.ListN.{length}
+use lib.Dec.{T}
 use Rattle.definitions.specs.declared.Header.{Header}
 use Rattle.definitions.specs.Faults.{answered, judge}
 use Rattle.definitions.specs.Lists.{every}
@@ -14,17 +14,18 @@ use Rattle.definitions.specs.BookLines.{BookLine, headerOf, isPhone}
 use Rattle.definitions.specs.BookReading.{Lent, readBook}
 use Rattle.definitions.specs.Tables.{Contents, contentsOf, bookIn, bookOf, tablesLeft}
 use Rattle.definitions.specs.ForeignTables.{tablesKnown}
-use Rattle.definitions.specs.TreesGive.{treesGive, silentEnds}
-use Rattle.definitions.specs.Transcription.{transcription, isUtterance, transcribe}
+use Rattle.definitions.specs.TreesGive.{treesGive}
+use Rattle.definitions.specs.Transcription.{Transcribed, transcribed, isUtterance, transcribe}
 use Rattle.definitions.specs.PlainForm.{numbered, plainContents, headerFor, plainLines, plainText}
-use Rattle.definitions.specs.laws.lists.Tests.{T-three, by-test, if-true}
+use Rattle.definitions.specs.laws.lists.Tests.{by-test, if-true}
 use Rattle.definitions.specs.laws.books.Books.{accepted-book}
 use Rattle.definitions.specs.laws.books.AcceptedKnown.{accepted-wide, accepted-known}
 use Rattle.definitions.specs.laws.books.KnownBooks.{Stated}
 use Rattle.definitions.specs.laws.books.BookTexts.{header-again, contents-again, book-read}
 use Rattle.definitions.specs.laws.trees.ModelsAlong.{models-along}
+use Rattle.definitions.specs.laws.trees.Utterances.{utterance-phones}
 use Rattle.definitions.specs.spelling.PlainStated.{accepted-stated, plain-stated, plain-wide}
-use Rattle.definitions.specs.spelling.TreeModels.{models-of-trees}
+use Rattle.definitions.specs.spelling.TreeModels.{given-by-trees}
 use Rattle.definitions.specs.spelling.SameTexts.{plain-same}
 
 -- a sequence with a phone out of range is given nothing
@@ -32,11 +33,6 @@ none-given : (lines : List BookLine) (S : List ℕ) → every (isPhone (headerOf
     → treesGive lines S ≡ none
 unfolding treesGive
 none-given lines S f = rw f
-
--- the phones of an utterance are in range
-in-utterance : (phones : ℕ) (S : List ℕ) → isUtterance phones S ≡ true → T (every (isPhone phones) S)
-unfolding isUtterance
-in-utterance phones S t = T-three (ltb 0 (length S)) (every (isPhone phones) S) (silentEnds S) .0 (rw t tt) .1
 
 module _ (lent : Lent) (text : List ℕ) (lines : List BookLine) (e : readBook lent text ≡ answered lines) where
   abbrev contents : Contents
@@ -66,22 +62,23 @@ module _ (lent : Lent) (text : List ℕ) (lines : List BookLine) (e : readBook l
   unfolding contentsOf plainContents numbered plainLines headerFor
   same-phones = ap (λ (header : Header). header .phones) (header-again (headerFor plain) plain)
 
-  same-transcription : (S : List ℕ) → T (every (isPhone (headerOf lines .phones)) S)
-      → transcription (bookOf (plainLines contents)) S ≡ transcription (bookOf lines) S
+  same-transcribed : (S : List ℕ) → T (every (isPhone (headerOf lines .phones)) S)
+      → transcribed (bookOf (plainLines contents)) S ≡ transcribed (bookOf lines) S
   unfolding bookOf contentsOf plainContents numbered
-  same-transcription S h =
-      ap (λ (c : Contents). transcription (bookIn c) S) plain-again
-      ∙ models-of-trees (headerFor plain) plain stays S h
+  same-transcribed S h =
+      ap (λ (c : Contents). transcribed (bookIn c) S) plain-again
+      ∙ given-by-trees (headerFor plain) plain stays S h
       ∙ rw (plain-same (headerOf lines) contents stated .trees)
-      (sym (models-of-trees (headerOf lines) contents stated S h))
+      (sym (given-by-trees (headerOf lines) contents stated S h))
 
   pub plain-models : (S : List ℕ) → treesGive (plainLines contents) S ≡ treesGive lines S
+  unfolding transcribed
   plain-models S =
       by-test (every (isPhone (headerOf lines .phones)) S)
       (λ t.
       let in-range : T (every (isPhone (headerOf lines .phones)) S) = rw t tt in
       models-along lent (plainText contents) (plainLines contents) plain-accepted S (rw same-phones in-range)
-      ∙ ap some (same-transcription S in-range)
+      ∙ ap (λ (given : Transcribed). some (given .models)) (same-transcribed S in-range)
       ∙ sym (models-along lent text lines e S in-range))
       (λ f. none-given (plainLines contents) S (rw same-phones f) ∙ sym (none-given lines S f))
 
@@ -97,6 +94,6 @@ module _ (lent : Lent) (text : List ℕ) (lines : List BookLine) (e : readBook l
       let books-again = accepted-book lent (plainText contents) (plainLines contents) plain-accepted in
       if-true (tablesKnown _ _) _ _ known-again
       ∙ by-test (isUtterance (headerOf lines .phones) S)
-      (λ t. rw (books, books-again, same-transcription S (in-utterance _ S t), same-phones, t))
+      (λ t. rw (books, books-again, same-transcribed S (utterance-phones _ S (rw t tt)), same-phones, t))
       (λ f. rw (books-again, same-phones, f))
       ∙ sym (if-true (tablesKnown _ _) _ _ known)

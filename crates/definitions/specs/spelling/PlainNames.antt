@@ -10,11 +10,10 @@ use native.Mathlib.Omega.{arith}
 use lib.Dec.{eqb}
 use lib.ListN.{length}
 use borrow.Author.Tests.{ne-eqb}
-use Rattle.definitions.specs.Lists.{concatMap, upFrom, occurrences}
+use Rattle.definitions.specs.Lists.{concatMap, upFrom, occurrences, sumOf}
 use Rattle.definitions.specs.BookLines.{TreeNode, childrenOf, noRoot}
 use Rattle.definitions.specs.BookReading.{orphans}
 use Rattle.definitions.specs.PlainForm.{Tree, asking, giving, sizeOf, nodesFrom, allNodes, rootsFrom, treesThere}
-use Rattle.definitions.specs.laws.lists.Sums.{sumOf}
 use Rattle.definitions.specs.laws.lists.Lists.{concatMap-append, upFrom-parts}
 use Rattle.definitions.specs.laws.lists.Members.{of-upFrom}
 use Rattle.definitions.specs.laws.lists.Selected.{select-none}

@@ -11,11 +11,10 @@ use lib.Dec.{T, eqb}
 use lib.ListN.{length}
 use borrow.Author.Tests.{eqb-true}
 use Rattle.definitions.specs.declared.Header.{Header}
-use Rattle.definitions.specs.Lists.{_!_, isIn}
+use Rattle.definitions.specs.Lists.{_!_, sumOf, isIn}
 use Rattle.definitions.specs.BookLines.{TreeNode, rootCount, rootPlace, noRoot}
 use Rattle.definitions.specs.ForeignTables.{rootsKnown}
 use Rattle.definitions.specs.PlainForm.{treeAt, treeFor, sizeOf, rootsFrom, treesThere}
-use Rattle.definitions.specs.laws.lists.Sums.{sumOf}
 use Rattle.definitions.specs.laws.lists.Tests.{by-test}
 use Rattle.definitions.specs.laws.lists.Members.{place-of}
 use Rattle.definitions.specs.laws.lists.Selected.{of-select}

@@ -13,13 +13,12 @@ use lib.Dec.{eqb}
 use lib.ListN.{length, length-append}
 use lib.Seq.{getD-at}
 use borrow.Author.Tests.{ne-eqb}
-use Rattle.definitions.specs.Lists.{if_then_else_, _!_, concatMap, placeOf, isIn}
+use Rattle.definitions.specs.Lists.{if_then_else_, _!_, concatMap, sumOf, placeOf, isIn}
 use Rattle.definitions.specs.BookLines.{TreeNode, question, leaf, noRoot}
 use Rattle.definitions.specs.Tables.{Contents}
 use Rattle.definitions.specs.PlainForm.{Question, Tree, asking, giving, questionOf, treeBelow, treesOf}
 use Rattle.definitions.specs.PlainForm.{setsIn, setsOf, askedAmong, sizeOf, nodesFrom, allNodes, rootsFrom}
 use Rattle.definitions.specs.PlainForm.{treesThere, numbered, plainContents}
-use Rattle.definitions.specs.laws.lists.Sums.{sumOf}
 use Rattle.definitions.specs.laws.lists.Members.{in-left, in-right}
 use Rattle.definitions.specs.laws.lists.Places.{numbers-told, placed}
 use Rattle.definitions.specs.spelling.TreeShapes.{some-node, below-asks, below-gives}

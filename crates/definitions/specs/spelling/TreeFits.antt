@@ -8,12 +8,11 @@ use native.Mathlib.Omega.{arith}
 use lib.Dec.{eqb}
 use lib.ListN.{length}
 use Rattle.definitions.specs.declared.Header.{Header}
-use Rattle.definitions.specs.Lists.{concatMap, isIn}
+use Rattle.definitions.specs.Lists.{concatMap, sumOf, isIn}
 use Rattle.definitions.specs.Forms.{_‥_}
 use Rattle.definitions.specs.BookLines.{TreeNode, Asked}
 use Rattle.definitions.specs.PlainForm.{Question, Tree, asking, giving, questionOf, treeBelow, setsIn}
 use Rattle.definitions.specs.PlainForm.{askedAmong, sizeOf, nodesFrom, allNodes}
-use Rattle.definitions.specs.laws.lists.Sums.{sumOf}
 use Rattle.definitions.specs.laws.lists.Members.{in-at, in-left, in-right, of-append}
 use Rattle.definitions.specs.laws.lists.Places.{numbers-told, placed}
 use Rattle.definitions.specs.Ranges.{Within}

@@ -9,7 +9,7 @@ use mathlib.Core.List.{List, [], _∷_, _++_, map}
 use Prim.Native.Nat.{ℕ, suc, _+_, _≤_, _<_}
 use native.Mathlib.Omega.{arith}
 use lib.ListN.{length}
-use Rattle.definitions.specs.Lists.{concatMap, upFrom, occurrences, isIn}
+use Rattle.definitions.specs.Lists.{concatMap, upFrom, occurrences, sumOf, isIn}
 use Rattle.definitions.specs.BookLines.{TreeNode, childrenOf, noRoot}
 use Rattle.definitions.specs.BookReading.{orphans}
 use Rattle.definitions.specs.Lookup.{nodeAt}
@@ -18,7 +18,7 @@ use Rattle.definitions.specs.laws.lists.Members.{of-append, of-upFrom}
 use Rattle.definitions.specs.laws.trees.Walks.{Forward, by-node}
 use Rattle.definitions.specs.laws.books.NamedOnce.{named-once, child-listed}
 use Rattle.definitions.specs.laws.lists.Occurrences.{occurrences-append}
-use Rattle.definitions.specs.laws.lists.Sums.{sumOf, sum-append, sum-map, sum-once}
+use Rattle.definitions.specs.laws.lists.Sums.{sum-append, sum-map, sum-once}
 use Rattle.definitions.specs.spelling.TreeShapes.{tree-asks, tree-gives}
 use Rattle.definitions.specs.spelling.PlainTrees.{sizes}
 use Rattle.definitions.specs.spelling.TreesThere.{given, there-given, given-names}

@@ -11,14 +11,14 @@ use lib.Dec.{eqb}
 use lib.ListN.{length, drop, set, length-set, length-append, length-drop, length-map}
 use Rattle.definitions.specs.declared.Header.{Header}
 use Rattle.definitions.specs.declared.Node.{Node}
-use Rattle.definitions.specs.Lists.{_!_, concatMap}
+use Rattle.definitions.specs.Lists.{_!_, concatMap, sumOf}
 use Rattle.definitions.specs.BookLines.{TreeNode, question, leaf, asks, noRoot}
 use Rattle.definitions.specs.BookReading.{nodeSize}
 use Rattle.definitions.specs.Tables.{nodeWords, nodeOf, askedOf}
 use Rattle.definitions.specs.PlainForm.{Question, Tree, asking, questionOf, classAmong, askedAmong, sizeOf}
 use Rattle.definitions.specs.PlainForm.{nodesFrom, allNodes, rootsFrom, treesThere}
 use Rattle.definitions.specs.laws.lists.Tests.{by-test}
-use Rattle.definitions.specs.laws.lists.Sums.{sumOf, sum-append}
+use Rattle.definitions.specs.laws.lists.Sums.{sum-append}
 use Rattle.definitions.specs.laws.lists.Lists.{concatMap-append}
 use Rattle.definitions.specs.laws.lists.Records.{flat-length}
 use Rattle.definitions.specs.laws.books.Tables.{node-sized}

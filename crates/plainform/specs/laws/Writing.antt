@@ -15,7 +15,7 @@ use borrow.Author.Tests.{le-leb, lt-leb}
 use Rattle.definitions.specs.declared.Header.{Header}
 use Rattle.definitions.specs.declared.Fault.the-variants.{Foreign, Short}
 use Rattle.definitions.specs.Forms.{mostNodes}
-use Rattle.definitions.specs.Lists.{concatMap, cleared, padded}
+use Rattle.definitions.specs.Lists.{concatMap, sumOf, cleared, padded}
 use Rattle.definitions.specs.Faults.{judge}
 use Rattle.definitions.specs.Lines.{Line}
 use Rattle.definitions.specs.BookLines.{rootCount, noRoot}
@@ -28,7 +28,6 @@ use Rattle.definitions.specs.PlainForm.{rootsFrom}
 use Rattle.definitions.specs.PlainForm.{numbered, plainContents, headerFor, plainLines, plainText, writePlain}
 use Rattle.definitions.specs.laws.lists.Tests.{T-or, by-test}
 use Rattle.definitions.specs.laws.lists.Selected.{in-select}
-use Rattle.definitions.specs.laws.lists.Sums.{sumOf}
 use Rattle.definitions.specs.laws.lists.Lists.{padded-none, padded-take}
 use Rattle.definitions.specs.laws.lists.Members.{every-in}
 use Rattle.definitions.specs.laws.books.Books.{Roomy, roomy, roots-few}

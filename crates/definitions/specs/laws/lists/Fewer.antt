@@ -8,9 +8,9 @@ use native.Mathlib.Omega.{arith}
 use lib.Dec.{eqb, eqb→eq}
 use lib.ListN.{length}
 use borrow.Author.Tests.{eq-eqb}
-use Rattle.definitions.specs.Lists.{if_then_else_, isIn, distinct}
+use Rattle.definitions.specs.Lists.{if_then_else_, sumOf, isIn, distinct}
 use Rattle.definitions.specs.laws.lists.Tests.{by-test}
-use Rattle.definitions.specs.laws.lists.Sums.{sumOf, sum-ones}
+use Rattle.definitions.specs.laws.lists.Sums.{sum-ones}
 
 -- the list without an element's first place
 without : (x : ℕ) → List ℕ → List ℕ

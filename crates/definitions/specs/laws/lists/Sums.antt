@@ -1,21 +1,17 @@
 -- Laws about sums over lists. A sum over names that are all below a bound is the sum over all numbers
 -- below it, each counted as often as it is named. So where each is named once, both sums are the same.
 -- spelling/TreeSizes counts the nodes of trees by them, without telling which node stands where.
-use mathlib.Core.Path.{_≡_, refl, sym, ap}
+use mathlib.Core.Path.{_≡_, refl, sym, ap, ap₂, _∙_}
 use mathlib.Core.Logic.{inl, inr}
 use mathlib.Core.List.{List, [], _∷_, _++_, map}
 use Prim.Native.Nat.{ℕ, zero, suc, _+_, _*_, _≤_, _<_}
-use native.Mathlib.Nat.{suc-mul}
+use native.Mathlib.Nat.{suc-mul, mul-suc}
 use native.Mathlib.Omega.{arith}
 use lib.Dec.{eqb}
 use lib.ListN.{length}
 use borrow.Author.Tests.{eqb-true, eqb-false}
-use Rattle.definitions.specs.Lists.{upFrom, occurrences, isIn}
+use Rattle.definitions.specs.Lists.{concatMap, upFrom, occurrences, sumOf, isIn}
 use Rattle.definitions.specs.laws.lists.Tests.{by-test}
-
-unfoldable pub sumOf : {A : Type 0} → (A → ℕ) → List A → ℕ
-sumOf f [] = 0
-sumOf f (x ∷ l) = f x + sumOf f l
 
 pub sum-append : {A : Type 0} (f : A → ℕ) (k l : List A) → sumOf f (k ++ l) ≡ sumOf f k + sumOf f l
 unfolding sumOf
@@ -37,6 +33,24 @@ pub sum-less : {A : Type 0} (f g : A → ℕ) (l : List A) → ((x : A) → f x 
 unfolding sumOf
 sum-less f g [] less = omega arith
 sum-less f g (x ∷ l) less = omega (arith, less x, sum-less f g l less)
+
+-- at most so much at each element
+pub sum-most : {A : Type 0} (f : A → ℕ) (most : ℕ) (l : List A) → ((x : A) → f x ≤ most) → sumOf f l ≤ most * length l
+unfolding sumOf
+sum-most f most [] few = omega arith
+sum-most f most (x ∷ l) few = omega (arith, few x, sum-most f most l few, mul-suc most (length l))
+
+-- sums of what is the same at each element, and of what lists one after the other hold
+pub sum-same : {A : Type 0} (f g : A → ℕ) (l : List A) → ((x : A) → isIn x l → f x ≡ g x) → sumOf f l ≡ sumOf g l
+unfolding sumOf
+sum-same f g [] h = refl
+sum-same f g (x ∷ l) h = ap₂ _+_ (h x (inl refl)) (sum-same f g l (λ y i. h y (inr i)))
+
+pub sum-concatMap : {A B : Type 0} (f : B → ℕ) (g : A → List B) (l : List A)
+    → sumOf f (concatMap g l) ≡ sumOf (λ x. sumOf f (g x)) l
+unfolding sumOf concatMap
+sum-concatMap f g [] = refl
+sum-concatMap f g (x ∷ l) = sum-append f (g x) (concatMap g l) ∙ ap (λ (n : ℕ). sumOf f (g x) + n) (sum-concatMap f g l)
 
 pub sum-both : {A : Type 0} (f g : A → ℕ) (l : List A) → sumOf (λ x. f x + g x) l ≡ sumOf f l + sumOf g l
 unfolding sumOf

@@ -13,10 +13,10 @@ use lib.Dec.{T, leb, ltb, eqb, eqb→eq, lt→ltb}
 use lib.ListN.{length, take, drop}
 use Rattle.definitions.specs.declared.Header.{Header}
 use Rattle.definitions.specs.declared.Node.{Node}
-use Rattle.definitions.specs.Faults.{answered}
+use Rattle.definitions.specs.Faults.{Outcome, answered, andThen}
 use Rattle.definitions.specs.Lists.{if_then_else_, _!_, every, select, isIn}
 use Rattle.definitions.specs.PhoneSets.{has}
-use Rattle.definitions.specs.BookLines.{isPhone, TreeNode, Asked, Reached}
+use Rattle.definitions.specs.BookLines.{isPhone, TreeNode, Asked, Reached, pastQuestion}
 use Rattle.definitions.specs.Tables.{Book, rootOf, bookIn, Tables, nodeRecords, tablesContents}
 use Rattle.definitions.specs.Tables.{tablesBook}
 use Rattle.definitions.specs.ForeignTables.{headerKnown, nodesKnown, holdsOnly, classTableKnown}
@@ -185,8 +185,13 @@ module _ (nodes : List TreeNode) (classes others context : List ℕ)
       ∙ sym (walk-leaf nodes others context steps node model e))
       (λ asked yesNode noNode e.
       walk-question nodes classes context steps node asked yesNode noNode e
-      ∙ rw (same-answer asked) (walk-alike steps (if answers others context asked then yesNode else noNode))
+      ∙ rw (same-answer asked)
+      (ap pastQuestion (walk-alike steps (if answers others context asked then yesNode else noNode)))
       ∙ sym (walk-question nodes others context steps node asked yesNode noNode e))
+
+-- the leaf of what a lookup answers
+abbrev pub leafAnswered : Outcome Reached → Outcome ℕ
+leafAnswered found = andThen found (λ r. answered (r .leaf))
 
 context-parts : (header : Header) (context : List ℕ) → T (isContext header context)
     → (length context ≡ header .half + header .half + 1) × T (every (isPhone (header .phones)) context)
@@ -245,12 +250,12 @@ module _ (header : Header) (tables : Tables) (known : T (tablesKnown header tabl
         (T-and (leb (header .classes) (length (tables .classes))) _ .0 held .1) i)
 
     lookup-reached : leafLookupInTable header (tables .classes) (tables .nodes) root context
-        ≡ answered (leafReached (book .nodes) (book .classes) context root)
+        ≡ answered (reached (book .nodes) (book .classes) context root)
     unfolding leafLookupInTable leafLookup tablesBook bookIn tablesContents reached
     lookup-reached =
         judge-passing 0 _ _ (pass-more _ _ (node-table-parts header (tables .nodes) (parts .nodes) .0) pass-none)
         ∙ judge-passing 0 _ _ (pass-more _ _ lookup-known (pass-more _ _ own pass-none))
-        ∙ ap (λ (r : Reached). answered (r .leaf)) (walk-alike _ (tables .classes) _ context same-classes _ root)
+        ∙ ap answered (walk-alike _ (tables .classes) _ context same-classes _ root)
 
   -- so a leaf admits a context exactly when the phone is in its centre and the lookup in the tables answers it
   pub known-leaf-looked-up : (phone state : ℕ) → T (isPhone (header .phones) phone)
@@ -258,13 +263,13 @@ module _ (header : Header) (tables : Tables) (known : T (tablesKnown header tabl
       → (l : Leaf) → isIn l (leavesOf (tablesBook header tables) phone state)
       → T (leafAdmits context l)
       ↔ ((context ! header .half ≡ phone)
-      × (leafLookupInTable header (tables .classes) (tables .nodes)
-      (rootOf (tablesBook header tables) phone state) context ≡ answered (l .node)))
-  unfolding tablesBook bookIn tablesContents
+      × (leafAnswered (leafLookupInTable header (tables .classes) (tables .nodes)
+      (rootOf (tablesBook header tables) phone state) context) ≡ answered (l .node)))
+  unfolding tablesBook bookIn tablesContents andThen
   known-leaf-looked-up phone state own context c l i =
       let root : ℕ = rootOf book phone state in
       let listed : root < header .nodes = omega (arith, sound .root phone state, stated .heads .nodes) in
-      let looked = lookup-reached root listed context c in
+      let looked = ap leafAnswered (lookup-reached root listed context c) in
       let (long, phones) = context-parts header context c in
       let (there, back) = known-leaf-sets phone state own .exactly context long phones l i in (
         λ t. let (e, r) = there t in (e, looked ∙ ap answered r),

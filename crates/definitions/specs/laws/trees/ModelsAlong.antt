@@ -1,6 +1,6 @@
--- The models that the trees give to a sequence are those that its contexts reach in the tables.
--- Every context of a sequence of phones has 2n+1 phones, as silence is a phone, so each answer is a model.
--- Demand 3 starts from these models.
+-- The models that the trees give to a sequence are those that its contexts reach in the tables, and so is the number of
+-- questions that they put. Every context of a sequence of phones has 2n+1 phones, as silence is a phone, so each
+-- answer is there. Demand 3 starts from these models.
 use mathlib.Core.Path.{_≡_, refl, sym, ap, ap₂, _∙_, subst}
 use mathlib.Core.Logic.{inl, inr, _↔_}
 use mathlib.Core.List.{List, [], _∷_, map}
@@ -10,21 +10,23 @@ use Prim.Native.Nat.{ℕ, _+_, _<_}
 use native.Mathlib.Omega.{arith}
 use lib.Dec.{T}
 use lib.ListN.{length}
-use Rattle.definitions.specs.Lists.{if_then_else_, every, concatMap, upFrom, isIn}
+use Rattle.definitions.specs.Lists.{if_then_else_, every, mapOption, concatMap, upFrom, sumOf, isIn}
 use Rattle.definitions.specs.Faults.{answered}
-use Rattle.definitions.specs.BookLines.{BookLine, headerOf, isPhone}
+use Rattle.definitions.specs.BookLines.{BookLine, headerOf, isPhone, Reached}
 use Rattle.definitions.specs.BookReading.{Lent, readBook}
 use Rattle.definitions.specs.Tables.{Book, bookOf, bookIn, contentsOf}
 use Rattle.definitions.specs.Lookup.{modelAt}
 use Rattle.definitions.specs.TreesGive.{around, contextsWithin, silences, contexts, modelGiven, together}
-use Rattle.definitions.specs.TreesGive.{modelsAlong, treesGive}
-use Rattle.definitions.specs.Transcription.{modelOf, transcription}
+use Rattle.definitions.specs.TreesGive.{reachedByLines, modelsAlong, treesGive}
+use Rattle.definitions.specs.Transcription.{reachedFor, modelOf, transcription, questionsAt, questionSum}
+use Rattle.definitions.specs.QuestionsPut.{questionsMet, questionsPut}
 use Rattle.definitions.specs.laws.lists.Tests.{if-true}
 use Rattle.definitions.specs.laws.lists.Lists.{map-concatMap}
 use Rattle.definitions.specs.laws.lists.Members.{concatMap-same, of-upFrom, place-of}
+use Rattle.definitions.specs.laws.lists.Sums.{sum-map, sum-same, sum-concatMap}
 use Rattle.definitions.specs.laws.books.Books.{accepted-orderly}
 use Rattle.definitions.specs.laws.books.Sound.{AllPhones}
-use Rattle.definitions.specs.laws.trees.WalkByLines.{given-by-tables}
+use Rattle.definitions.specs.laws.trees.WalkByLines.{reached-by-tables}
 use Rattle.definitions.specs.laws.trees.Contexts.{contexts-length, context-length, context-phones}
 use Rattle.definitions.specs.laws.trees.Contexts.{silences-length, silent-phones}
 
@@ -64,29 +66,50 @@ context-in-range phones half left S right context before after h c =
 abbrev pub leafModels : Book → (leaves : List ℕ) → List ℕ
 leafModels book leaves = map (λ node. modelAt (book .nodes) node) leaves
 
-pub models-along : (lent : Lent) (text : List ℕ) (lines : List BookLine)
-    → readBook lent text ≡ answered lines → (S : List ℕ) → T (every (isPhone (headerOf lines .phones)) S)
-    → treesGive lines S ≡ some (transcription (bookOf lines) S)
-unfolding treesGive modelsAlong bookOf bookIn contentsOf transcription
-models-along lent text lines e S h =
-    if-true (every (isPhone (headerOf lines .phones)) S) _ none h
-    ∙ ap together (concatMap-some _ _ (contexts (headerOf lines .half) S) each) ∙ together-some _
+module _ (lent : Lent) (text : List ℕ) (lines : List BookLine) (e : readBook lent text ≡ answered lines) (S : List ℕ)
+    (h : T (every (isPhone (headerOf lines .phones)) S))
   where
-    states : List ℕ
+    abbrev states : List ℕ
     states = upFrom 1 (headerOf lines .states)
 
-    each : (context : List ℕ) → isIn context (contexts (headerOf lines .half) S)
-        → map (λ state. modelGiven lines context state) states
-        ≡ map some (map (λ state. modelOf (bookOf lines) context state) states)
-    each context c = map-some _ _ states (λ state i.
-        let n : ℕ = headerOf lines .half in
-        let wide = silences-length n in
-        let some-phone = accepted-orderly lent text lines e .in-range .phones-range .low in
-        let (width, phones) =
-        context-in-range (headerOf lines .phones) n (silences n) S (silences n) context wide wide
-        (silent-phones n S (headerOf lines .phones) some-phone h) c in
-        let (low, high) = of-upFrom 1 (headerOf lines .states) state i in
-        given-by-tables lent text lines e context width phones state low (omega arith))
+    abbrev places : List (List ℕ)
+    places = contexts (headerOf lines .half) S
+
+    -- what is asked of each walk, by lines and by tables
+    reached-along : (f : Reached → ℕ)
+        → together
+        (concatMap (λ context. map (λ state. mapOption f (reachedByLines lines context state)) states) places)
+        ≡ some (concatMap (λ context. map (λ state. f (reachedFor (bookOf lines) context state)) states) places)
+    unfolding mapOption
+    reached-along f = ap together (concatMap-some _ _ places each) ∙ together-some _
+      where
+        each : (context : List ℕ) → isIn context places
+            → map (λ state. mapOption f (reachedByLines lines context state)) states
+            ≡ map some (map (λ state. f (reachedFor (bookOf lines) context state)) states)
+        each context c = map-some _ _ states (λ state i.
+            let n : ℕ = headerOf lines .half in
+            let wide = silences-length n in
+            let some-phone = accepted-orderly lent text lines e .in-range .phones-range .low in
+            let (width, phones) =
+            context-in-range (headerOf lines .phones) n (silences n) S (silences n) context wide wide
+            (silent-phones n S (headerOf lines .phones) some-phone h) c in
+            let (low, high) = of-upFrom 1 (headerOf lines .states) state i in
+            ap (mapOption f) (reached-by-tables lent text lines e context width phones state low (omega arith)))
+
+    pub models-along : treesGive lines S ≡ some (transcription (bookOf lines) S)
+    unfolding treesGive modelsAlong modelGiven bookOf bookIn contentsOf transcription modelOf
+    models-along =
+        if-true (every (isPhone (headerOf lines .phones)) S) _ none h ∙ reached-along (λ r. r .model)
+
+    -- and the questions that were put, in all
+    pub questions-along : questionsPut lines S ≡ some (questionSum (bookOf lines) S)
+    unfolding questionsPut questionsMet bookOf bookIn contentsOf questionSum questionsAt mapOption
+    questions-along =
+        let met : List ℕ → ℕ → ℕ = λ context state. reachedFor (bookOf lines) context state .questions in
+        if-true (every (isPhone (headerOf lines .phones)) S) _ none h
+        ∙ ap (mapOption (sumOf (λ questions. questions))) (reached-along (λ r. r .questions))
+        ∙ ap some (sum-concatMap (λ questions. questions) (λ context. map (met context) states) places
+        ∙ sum-same _ _ places (λ context i. sum-map (λ questions. questions) (met context) states))
 
 -- a sequence that is given models has phones in range
 treesGive-range : (lines : List BookLine) (S M : List ℕ) → treesGive lines S ≡ some M

@@ -1,5 +1,5 @@
--- What the lines give to a context and a state, a leaf and its model, is what the walk in the tables reaches.
--- Both walks meet the same nodes: a question's class holds the context's phone when a Q line puts it there.
+-- What the lines give to a context and a state, a leaf, its model and the questions met, is what the walk in the tables
+-- reaches. Both walks meet the same nodes: a question's class holds the context's phone when a Q line puts it there.
 -- Demand 3 replaces the lines by the tables with it.
 use mathlib.Core.Path.{_≡_, refl, sym, ap, ap₂, _∙_}
 use mathlib.Core.List.{List, [], _∷_, map}
@@ -12,14 +12,13 @@ use lib.ListN.{length}
 use Rattle.definitions.specs.Lists.{if_then_else_, _!_, every, atLeastOne, select, mapOption}
 use Rattle.definitions.specs.Faults.{answered}
 use Rattle.definitions.specs.BookLines.{BookLine, headerOf, isPhone, Member, membersOf, TreeNode}
-use Rattle.definitions.specs.BookLines.{question, leaf, nodesOf, Asked, Reached}
+use Rattle.definitions.specs.BookLines.{question, leaf, nodesOf, Asked, atLeaf, pastQuestion}
 use Rattle.definitions.specs.BookReading.{Lent, readBook}
-use Rattle.definitions.specs.Tables.{Book, phonesOfClass, classSets, bookOf, bookIn, contentsOf, rootOf}
+use Rattle.definitions.specs.Tables.{Book, phonesOfClass, classSets, bookOf, bookIn, contentsOf}
 use Rattle.definitions.specs.Lookup.{nodeAt, walk, reached, answers}
 use Rattle.definitions.specs.PhoneSets.{has}
 use Rattle.definitions.specs.TreesGive.{nodeLine, putInClass, answersByLines, walkByLines, reachedByLines}
-use Rattle.definitions.specs.TreesGive.{modelGiven}
-use Rattle.definitions.specs.Transcription.{modelOf}
+use Rattle.definitions.specs.Transcription.{reachedFor}
 use Rattle.definitions.specs.laws.lists.Tests.{same-tests, eq→eqb, every-at}
 use Rattle.definitions.specs.laws.lists.Lists.{map-upFrom-at}
 use Rattle.definitions.specs.laws.text.Ranges.{phone-range}
@@ -73,15 +72,15 @@ put-in-class lines class (suc i) c C p =
 -- a step by lines
 lines-at-leaf : (lines : List BookLine) (context : List ℕ) (steps node model : ℕ)
     → nodeLine lines node ≡ some (leaf model)
-    → walkByLines (suc steps) lines context node ≡ some (record { leaf = node; model = model })
+    → walkByLines (suc steps) lines context node ≡ some (atLeaf node model)
 unfolding walkByLines
 lines-at-leaf lines context steps node model e = rw (e, walkByLines)
 
 lines-at-question : (lines : List BookLine) (context : List ℕ) (steps node : ℕ) (asked : Asked)
     (yesNode noNode : ℕ)
     → nodeLine lines node ≡ some (question asked yesNode noNode)
-    → walkByLines (suc steps) lines context node
-    ≡ walkByLines steps lines context (if answersByLines lines context asked then yesNode else noNode)
+    → walkByLines (suc steps) lines context node ≡ mapOption pastQuestion
+    (walkByLines steps lines context (if answersByLines lines context asked then yesNode else noNode))
 unfolding walkByLines
 lines-at-question lines context steps node asked yesNode noNode e = rw (e, walkByLines)
 
@@ -132,14 +131,15 @@ module _ (lent : Lent) (text : List ℕ) (lines : List BookLine)
         → node < length (nodesOf lines)
         → nodeAt (nodesOf lines) node ≡ question asked yesNode noNode
         → Alike steps levels yesNode → Alike steps levels noNode → Alike (suc steps) (suc levels) node
+    unfolding mapOption
     alike-question steps levels node asked yesNode noNode h e yes-side no-side =
         lines-at-question lines context steps node asked yesNode noNode (line-says node _ h e)
         ∙ rw (
           walk-question (nodesOf lines) (book .classes) context levels node asked yesNode noNode e,
           same-answer node asked yesNode noNode e,
         )
-        (either-node (Alike steps levels) yesNode noNode yes-side no-side
-        (answers (book .classes) context asked))
+        (ap (mapOption pastQuestion) (either-node (Alike steps levels) yesNode noNode yes-side no-side
+        (answers (book .classes) context asked)))
 
     -- so enough steps of each end at the same leaf
     walks-alike : (steps levels node : ℕ) → node < length (nodesOf lines)
@@ -159,9 +159,8 @@ module _ (lent : Lent) (text : List ℕ) (lines : List BookLine)
         (omega (arith, noLater .greater))))
 
     -- from the root that both start at
-    reached-by-tables : (state : ℕ) → 1 ≤ state → state ≤ headerOf lines .states
-        → reachedByLines lines context state
-        ≡ some (reached (book .nodes) (book .classes) context (rootOf book (context ! book .half) state))
+    pub reached-by-tables : (state : ℕ) → 1 ≤ state → state ≤ headerOf lines .states
+        → reachedByLines lines context state ≡ some (reachedFor book context state)
     unfolding reachedByLines reached bookOf bookIn contentsOf
     reached-by-tables state s S =
         let half : ℕ = headerOf lines .half in
@@ -170,10 +169,3 @@ module _ (lent : Lent) (text : List ℕ) (lines : List BookLine)
         rw (root, reachedByLines)
         (walks-alike (length lines) (length (nodesOf lines)) _ (sound .root (context ! half) state)
         (omega (arith, nodes-few lines)) (omega arith))
-
-    -- so the model is the same too
-    pub given-by-tables : (state : ℕ) → 1 ≤ state → state ≤ headerOf lines .states
-        → modelGiven lines context state ≡ some (modelOf book context state)
-    unfolding modelGiven modelOf mapOption
-    given-by-tables state s S =
-        ap (mapOption (λ (r : Reached). r .model)) (reached-by-tables state s S)

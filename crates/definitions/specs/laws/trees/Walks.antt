@@ -1,6 +1,6 @@
--- Laws about walks: the model that is reached is the one at the leaf; and where each child is a greater node
--- of the list, as many steps as there are nodes are enough. So the number of steps that a walk is given is no
--- rule of its own.
+-- Laws about walks: the model that is reached is the one at the leaf; no more questions are met than there are
+-- nodes; and where each child is a greater node of the list, as many steps as there are nodes are enough. So the
+-- number of steps that a walk is given is no rule of its own.
 use mathlib.Core.Path.{_≡_, refl, sym, subst}
 use mathlib.Core.List.{List}
 use mathlib.Core.Bool.{Bool, true, false}
@@ -8,7 +8,7 @@ use Prim.Native.Nat.{ℕ, zero, suc, _+_, _≤_, _<_}
 use native.Mathlib.Omega.{arith}
 use lib.ListN.{length}
 use Rattle.definitions.specs.Lists.{if_then_else_}
-use Rattle.definitions.specs.BookLines.{TreeNode, question, leaf, Asked, Reached}
+use Rattle.definitions.specs.BookLines.{TreeNode, question, leaf, Asked, Reached, atLeaf, pastQuestion}
 use Rattle.definitions.specs.Lookup.{nodeAt, modelAt, answers, walk, reached, leafReached}
 
 -- every child is a greater node of the list
@@ -54,13 +54,13 @@ module _ (nodes : List TreeNode) (classes context : List ℕ) where
 
   -- a step of a walk: a leaf stays, a question goes on at its answer
   pub walk-leaf : (steps node model : ℕ) → nodeAt nodes node ≡ leaf model
-      → walked (suc steps) node ≡ record { leaf = node; model = model }
+      → walked (suc steps) node ≡ atLeaf node model
   unfolding walk
   walk-leaf steps node model e = rw (e, walk)
 
   pub walk-question : (steps node : ℕ) (asked : Asked) (yesNode noNode : ℕ)
       → nodeAt nodes node ≡ question asked yesNode noNode → walked (suc steps) node
-      ≡ walked steps (if answers classes context asked then yesNode else noNode)
+      ≡ pastQuestion (walked steps (if answers classes context asked then yesNode else noNode))
   unfolding walk
   walk-question steps node asked yesNode noNode e = rw (e, walk)
 
@@ -79,6 +79,21 @@ module _ (nodes : List TreeNode) (classes context : List ℕ) where
       → reached nodes classes context root .model ≡ modelAt nodes (leafReached nodes classes context root)
   unfolding reached
   reached-model root = walk-model (length nodes) root
+
+  -- a question for each step at most
+  walk-few : (steps node : ℕ) → walked steps node .questions ≤ steps
+  unfolding walk
+  walk-few zero node = omega arith
+  walk-few (suc steps) node =
+      by-node nodes node
+      (λ model e. rw (walk-leaf steps node model e) (omega arith))
+      (λ asked yesNode noNode e.
+      rw (walk-question steps node asked yesNode noNode e)
+      (omega (arith, walk-few steps (if answers classes context asked then yesNode else noNode))))
+
+  pub reached-few : (root : ℕ) → reached nodes classes context root .questions ≤ length nodes
+  unfolding reached
+  reached-few root = walk-few (length nodes) root
 
   -- enough steps end at a leaf
   walk-ends : Forward nodes → (steps node : ℕ) → node < length nodes → length nodes ≤ node + steps
