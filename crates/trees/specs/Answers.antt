@@ -1,36 +1,23 @@
--- What the lookup and the transcription answer.
-use mathlib.Core.List.{List, map}
-use Prim.Native.Nat.{ℕ}
-use lib.ListN.{length}
+-- What a walk gives, and what the lookup answers.
 use Rattle.definitions.specs.Faults.{Outcome, answered, refused}
 use Rattle.definitions.specs.Said.{Said, answerSaid, refusalSaid}
-use Rattle.definitions.specs.Lists.{upFrom}
-use Rattle.definitions.specs.Tables.{Book}
-use Rattle.definitions.specs.Transcription.{modelOf}
+use Rattle.definitions.specs.BookLines.{Reached}
+use Rattle.trees.specs.declared.Walked.{Walked}
 use Rattle.trees.specs.declared.Lookup.{Lookup}
 use Rattle.trees.specs.declared.Lookup.the-variants as lookup
-use Rattle.trees.specs.declared.Transcript.{Transcript}
-use Rattle.trees.specs.declared.Transcript.the-variants as transcript
 
-unfoldable pub lookupOf : Outcome ℕ → Lookup
-lookupOf (answered leaf) = lookup.Leaf leaf
+-- of what is reached: the node number of the leaf, with the number of questions met on the way
+abbrev pub walkedOf : Reached → Walked
+walkedOf r = record { leaf = r .leaf; questions = r .questions }
+
+abbrev pub noWalk : Walked
+noWalk = record { leaf = 0; questions = 0 }
+
+unfoldable pub lookupOf : Outcome Reached → Lookup
+lookupOf (answered r) = lookup.Leaf (walkedOf r)
 lookupOf (refused r) = lookup.Refused r
 
--- number, line, and the node number of the leaf
-abbrev pub lookupSaid : Lookup → Said ℕ
-lookupSaid (lookup.Leaf leaf) = answerSaid leaf
-lookupSaid (lookup.Refused r) = refusalSaid 0 r
-
--- the count of the models
-unfoldable pub transcriptOf : Outcome (List ℕ) → Transcript
-transcriptOf (answered models) = transcript.Models (length models)
-transcriptOf (refused r) = transcript.Refused r
-
--- number, line, and how many models
-abbrev pub transcriptSaid : Transcript → Said ℕ
-transcriptSaid (transcript.Models count) = answerSaid count
-transcriptSaid (transcript.Refused r) = refusalSaid 0 r
-
--- the models of a context, the states ascending
-abbrev pub stateModels : Book → (context : List ℕ) → List ℕ
-stateModels book context = map (λ state. modelOf book context state) (upFrom 1 (book .states))
+-- number, line, and what the walk gave
+abbrev pub lookupSaid : Lookup → Said Walked
+lookupSaid (lookup.Leaf walked) = answerSaid walked
+lookupSaid (lookup.Refused r) = refusalSaid noWalk r

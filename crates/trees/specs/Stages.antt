@@ -33,14 +33,20 @@ firstStage header count classes root =
 
 unfoldable pub goesOn : Stage → Bool
 goesOn (Judging at) = true
-goesOn (Walking node) = true
+goesOn (Walking node questions) = true
 goesOn (Answered answer) = false
 
 -- the record that the next turn takes
 unfoldable pub placeOf : Stage → ℕ
 placeOf (Judging at) = at
-placeOf (Walking node) = node
+placeOf (Walking node questions) = node
 placeOf (Answered answer) = 0
+
+-- the questions that the walk has met
+unfoldable pub passed : Stage → ℕ
+passed (Judging at) = 0
+passed (Walking node questions) = questions
+passed (Answered answer) = 0
 
 -- after a record was judged: 18, or the next record; after the last 13, or the walk
 unfoldable pub judgedStage : Header → (root : ℕ) → (context : List ℕ) → (at : ℕ) → Node → Stage
@@ -48,23 +54,23 @@ judgedStage header root context at node =
     if questionKnown header at node || leafKnown node
     then if ltb (at + 1) (header .nodes)
     then Judging (at + 1)
-    else if isContext header context then Walking root else refusedStage Range
+    else if isContext header context then Walking root 0 else refusedStage Range
     else refusedStage Foreign
 
--- after a step of the walk: the leaf, or the child that the context goes to
-unfoldable pub walkedStage : (classes context : List ℕ) → (at : ℕ) → Node → Stage
-walkedStage classes context at node =
+-- after a step of the walk: the leaf, or the child that the context goes to, past one question more
+unfoldable pub walkedStage : (classes context : List ℕ) → (at questions : ℕ) → Node → Stage
+walkedStage classes context at questions node =
     if eqb (node .kind) 1
-    then Walking (if answers classes context (askedOf node) then node .yes else node .no)
-    else Answered (lookup.Leaf at)
+    then Walking (if answers classes context (askedOf node) then node .yes else node .no) (questions + 1)
+    else Answered (lookup.Leaf (record { leaf = at; questions = questions }))
 
 unfoldable pub nextStage : Header → (classes : List ℕ) → (root : ℕ) → (context : List ℕ) → Stage → Node → Stage
 nextStage header classes root context (Judging at) node = judgedStage header root context at node
-nextStage header classes root context (Walking at) node = walkedStage classes context at node
+nextStage header classes root context (Walking at questions) node = walkedStage classes context at questions node
 nextStage header classes root context (Answered answer) node = Answered answer
 
 -- the answer of the last stage
 unfoldable pub answerOf : Stage → Lookup
-answerOf (Judging at) = lookup.Leaf at
-answerOf (Walking node) = lookup.Leaf node
+answerOf (Judging at) = lookup.Leaf (record { leaf = at; questions = 0 })
+answerOf (Walking node questions) = lookup.Leaf (record { leaf = node; questions = questions })
 answerOf (Answered answer) = answer

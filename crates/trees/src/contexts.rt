@@ -1,18 +1,13 @@
-// The phones around a place, silence beyond either end; and whether phones are a context or an utterance.
+// Whether phones are phones of the book, and whether they are a context.
 use definitions::Header;
 use definitions::wide;
-ghost use mathlib.Core.List.{[]};
 ghost use mathlib.Core.Path.{_≡_};
-ghost use Prim.Native.Nat.{_+_, _*_, _≤_, _<_};
-ghost use lib.ListN.{length, getD};
 ghost use Rattle.definitions.specs.BookLines.{isPhone};
-ghost use Rattle.definitions.specs.Lists.{_!_, every};
+ghost use Rattle.definitions.specs.Lists.{every};
 ghost use Rattle.definitions.specs.Lookup.{isContext};
-ghost use Rattle.definitions.specs.Transcription.{isUtterance};
-ghost use Rattle.definitions.specs.TreesGive.{contexts};
 
 // Whether all are phones of the book.
-fn are_phones(sequence: &[u32], phones: u32) -> bool
+pub fn are_phones(sequence: &[u32], phones: u32) -> bool
     ensures { λ r. ⌜ r ≡ every (isPhone phones) (now (sequence .entry)) ⌝ }
 {
     let mut i = 0;
@@ -37,51 +32,4 @@ pub fn is_context(header: Header, context: &[u32]) -> bool
         return false;
     }
     are_phones(context, header.phones)
-}
-
-// Whether these are phones of the book with silence at both ends.
-pub fn is_utterance(phones: u32, sequence: &[u32]) -> bool
-    ensures { λ r. ⌜ r ≡ isUtterance phones (now (sequence .entry)) ⌝ }
-{
-    let count = sequence.len();
-    if count == 0 {
-        return false;
-    }
-    if !are_phones(sequence, phones) {
-        return false;
-    }
-    let first = sequence[0];
-    if first != 1 {
-        return false;
-    }
-    let last = sequence[count - 1];
-    last == 1
-}
-
-// The phone in a column of the context of a place.
-fn phone_at(sequence: &[u32], half: usize, place: usize, column: usize) -> u32
-    requires { ⌜ (half ≤ 3) × (place < length (now sequence)) × (column < 2 * half + 1) ⌝ }
-    ensures { λ r. ⌜ r ≡ getD (contexts half (now (sequence .entry))) place [] ! column ⌝ }
-{
-    let around = place + column;
-    if around < half {
-        return 1;
-    }
-    let at = around - half;
-    if at < sequence.len() {
-        return sequence[at];
-    }
-    1
-}
-
-// The context of a place: 2n+1 phones, silence beyond either end.
-pub fn fill_context(sequence: &[u32], half: usize, place: usize, context: &mut [u32])
-    requires { ⌜ (half ≤ 3) × (place < length (now sequence)) × (length (now context) ≡ 2 * half + 1) ⌝ }
-    ensures { λ r. ⌜ now (context .exit) ≡ getD (contexts half (now (sequence .entry))) place [] ⌝ }
-{
-    let mut column = 0;
-    while column < context.len() {
-        context[column] = phone_at(sequence, half, place, column);
-        column += 1;
-    }
 }

@@ -1,4 +1,4 @@
-// The leaf that a context reaches from a root, over lent tables: 18, then 13.
+// The leaf that a context reaches from a root, and the questions met on the way, over lent tables: 18, then 13.
 use crate::Lookup;
 use crate::contexts::is_context;
 use crate::walking::walk;
@@ -9,11 +9,11 @@ use tables::foreign::lookup_known;
 ghost use mathlib.Core.Path.{_≡_};
 ghost use Rattle.definitions.specs.Lookup.{leafLookupInTable};
 ghost use Rattle.definitions.specs.Said.{saidOf};
-ghost use Rattle.trees.specs.Answers.{lookupSaid};
+ghost use Rattle.trees.specs.Answers.{walkedOf, noWalk, lookupSaid};
 
 pub fn leaf_of(header: Header, nodes: &[u32], classes: &[u64], root: u32, context: &[u32]) -> Lookup
     ensures { λ r. ⌜
-        lookupSaid r ≡ saidOf (λ leaf. leaf) 0
+        lookupSaid r ≡ saidOf walkedOf noWalk
         (leafLookupInTable header (now (classes .entry)) (now (nodes .entry)) root (now (context .entry)))
         ⌝ }
 {

@@ -2,6 +2,7 @@
 // turn takes one record; these functions see that record alone.
 use crate::Lookup;
 use crate::Stage;
+use crate::Walked;
 use crate::contexts::is_context;
 use crate::walking::child_of;
 use definitions::Fault;
@@ -12,8 +13,9 @@ use definitions::wide;
 use tables::foreign::list_known;
 use tables::nodes::record_known;
 ghost use mathlib.Core.Path.{_≡_};
+ghost use Prim.Native.Nat.{_<_};
 ghost use Rattle.trees.specs.Stages.{refusedStage, firstStage, goesOn, placeOf, judgedStage, walkedStage};
-ghost use Rattle.trees.specs.Stages.{nextStage, answerOf};
+ghost use Rattle.trees.specs.Stages.{passed, nextStage, answerOf};
 
 // The refusal of a fault.
 fn refused_stage(fault: Fault) -> Stage
@@ -38,7 +40,7 @@ pub fn goes_on(stage: Stage) -> bool
 {
     match stage {
         Stage::Judging(at) => true,
-        Stage::Walking(node) => true,
+        Stage::Walking { node, questions } => true,
         Stage::Answered(lookup) => false,
     }
 }
@@ -49,7 +51,7 @@ pub fn place_of(stage: Stage) -> usize
 {
     match stage {
         Stage::Judging(at) => wide(at),
-        Stage::Walking(node) => wide(node),
+        Stage::Walking { node, questions } => wide(node),
         Stage::Answered(lookup) => 0,
     }
 }
@@ -67,17 +69,27 @@ fn judged_stage(header: Header, root: u32, context: &[u32], at: u32, node: Node)
     if !is_context(header, context) {
         return refused_stage(Fault::Range);
     }
-    Stage::Walking(root)
+    Stage::Walking {
+        node: root,
+        questions: 0,
+    }
 }
 
-// The stage after a step of the walk: the leaf, or the child that the context goes to.
-fn walked_stage(classes: &[u64], context: &[u32], at: u32, node: Node) -> Stage
-    ensures { λ r. ⌜ r ≡ walkedStage (now (classes .entry)) (now (context .entry)) at node ⌝ }
+// The stage after a step of the walk, past so many questions: the leaf, or the child that the context goes to.
+fn walked_stage(classes: &[u64], context: &[u32], at: u32, questions: u32, node: Node) -> Stage
+    requires { ⌜ questions < 4096 ⌝ }
+    ensures { λ r. ⌜ r ≡ walkedStage (now (classes .entry)) (now (context .entry)) at questions node ⌝ }
 {
     if node.kind != 1 {
-        return Stage::Answered(Lookup::Leaf(at));
+        return Stage::Answered(Lookup::Leaf(Walked {
+            leaf: at,
+            questions,
+        }));
     }
-    Stage::Walking(child_of(node, classes, context))
+    Stage::Walking {
+        node: child_of(node, classes, context),
+        questions: questions + 1,
+    }
 }
 
 // The stage after a turn, which took this record.
@@ -89,13 +101,17 @@ pub fn next_stage(
     stage: Stage,
     node: Node,
 ) -> Stage
+    requires { ⌜ passed stage < 4096 ⌝ }
     ensures { λ r. ⌜
         r ≡ nextStage header (now (classes .entry)) root (now (context .entry)) stage node
         ⌝ }
 {
     match stage {
         Stage::Judging(at) => judged_stage(header, root, context, at, node),
-        Stage::Walking(at) => walked_stage(classes, context, at, node),
+        Stage::Walking {
+            node: at,
+            questions,
+        } => { walked_stage(classes, context, at, questions, node) }
         Stage::Answered(lookup) => Stage::Answered(lookup),
     }
 }
@@ -105,8 +121,14 @@ pub fn answer_of(stage: Stage) -> Lookup
     ensures { λ r. ⌜ r ≡ answerOf stage ⌝ }
 {
     match stage {
-        Stage::Judging(at) => Lookup::Leaf(at),
-        Stage::Walking(node) => Lookup::Leaf(node),
+        Stage::Judging(at) => Lookup::Leaf(Walked {
+            leaf: at,
+            questions: 0,
+        }),
+        Stage::Walking { node, questions } => Lookup::Leaf(Walked {
+            leaf: node,
+            questions,
+        }),
         Stage::Answered(lookup) => lookup,
     }
 }

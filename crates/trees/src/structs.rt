@@ -1,6 +1,6 @@
-// The leaf that a context reaches from a root, over a lent slice of node structs: 18, then 13. The functions that
-// hold the slice are proved by hand, so they only take a record at a turn; what a turn does with it stands in
-// `stages`.
+// The leaf that a context reaches from a root, and the questions met on the way, over a lent slice of node structs: 18,
+// then 13. The functions that hold the slice are proved by hand, so they only take a record at a turn; what a turn does
+// with it stands in `stages`.
 use crate::Lookup;
 use crate::stages::answer_of;
 use crate::stages::first_stage;
@@ -14,7 +14,7 @@ ghost use Prim.Native.Nat.{_<_};
 ghost use lib.ListN.{length};
 ghost use Rattle.definitions.specs.Lookup.{leafLookup};
 ghost use Rattle.definitions.specs.Said.{saidOf};
-ghost use Rattle.trees.specs.Answers.{lookupSaid};
+ghost use Rattle.trees.specs.Answers.{walkedOf, noWalk, lookupSaid};
 ghost use Rattle.trees.specs.Stages.{recordAt};
 
 // The record at a place.
@@ -33,7 +33,7 @@ pub fn leaf_of(
     context: &[u32],
 ) -> Lookup
     ensures { λ r. ⌜
-        lookupSaid r ≡ saidOf (λ leaf. leaf) 0
+        lookupSaid r ≡ saidOf walkedOf noWalk
         (leafLookup header (now (classes .entry)) (now (nodes .entry)) root (now (context .entry)))
         ⌝ }
 {

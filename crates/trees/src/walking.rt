@@ -1,4 +1,5 @@
 // The walk from a root to the leaf that a context reaches.
+use crate::Walked;
 use definitions::Header;
 use definitions::Node;
 use definitions::wide;
@@ -14,8 +15,9 @@ ghost use lib.ListN.{drop};
 ghost use Rattle.definitions.specs.BookReading.{nodeSize};
 ghost use Rattle.definitions.specs.ForeignTables.{nodesKnown};
 ghost use Rattle.definitions.specs.Lists.{if_then_else_};
-ghost use Rattle.definitions.specs.Lookup.{answers, leafReached};
+ghost use Rattle.definitions.specs.Lookup.{answers, reached};
 ghost use Rattle.definitions.specs.Tables.{nodeOf, nodeRecords, treeNode, askedOf};
+ghost use Rattle.trees.specs.Answers.{walkedOf};
 
 // The child of a question that a context goes to.
 pub fn child_of(node: Node, classes: &[u64], context: &[u32]) -> u32
@@ -32,26 +34,32 @@ pub fn child_of(node: Node, classes: &[u64], context: &[u32]) -> u32
     node.no
 }
 
-// The leaf that a context reaches from a root. Children are greater than their node, so the walk ends within
-// as many steps as there are nodes.
-pub fn walk(header: Header, nodes: &[u32], classes: &[u64], context: &[u32], root: u32) -> u32
+// The leaf that a context reaches from a root, and how many questions are met on the way. Children are greater than
+// their node, so the walk ends before it has met as many as there are nodes.
+pub fn walk(header: Header, nodes: &[u32], classes: &[u64], context: &[u32], root: u32) -> Walked
     requires { ⌜ T (nodesKnown header 0 (nodeRecords header (now nodes))) × (root < header .nodes) ⌝ }
     ensures { λ r. ⌜
-        (r ≡ leafReached (map treeNode (nodeRecords header (now (nodes .entry)))) (now (classes .entry))
-        (now (context .entry)) root)
-        × (r < header .nodes)
-        × (nodeOf (drop (nodeSize * r) (now (nodes .entry))) .kind ≡ 1 → ⊥)
+        (r ≡ walkedOf (reached (map treeNode (nodeRecords header (now (nodes .entry)))) (now (classes .entry))
+        (now (context .entry)) root))
+        × (r .leaf < header .nodes)
+        × (nodeOf (drop (nodeSize * r .leaf) (now (nodes .entry))) .kind ≡ 1 → ⊥)
         ⌝ }
 {
     let mut node = root;
-    let mut steps = 0;
-    while steps < header.nodes {
+    let mut questions = 0;
+    while questions < header.nodes {
         let record = node_at(nodes, node);
         if record.kind != 1 {
-            return node;
+            return Walked {
+                leaf: node,
+                questions,
+            };
         }
         node = child_of(record, classes, context);
-        steps += 1;
+        questions += 1;
     }
-    node
+    Walked {
+        leaf: node,
+        questions,
+    }
 }

@@ -21,7 +21,7 @@ use Rattle.definitions.specs.laws.lists.Records.{flat-length}
 use Rattle.definitions.specs.laws.books.Tables.{written-nodes}
 use Rattle.definitions.specs.laws.books.AcceptedKnown.{holds-used}
 use Rattle.trees.specs.declared.Lookup.{Lookup}
-use Rattle.trees.specs.Answers.{lookupOf, lookupSaid}
+use Rattle.trees.specs.Answers.{walkedOf, noWalk, lookupOf, lookupSaid}
 use Rattle.trees.specs.laws.Said.{lookup-told}
 
 -- ---- over a table of words and over its records
@@ -76,8 +76,8 @@ module _ (header : Header) (nodes : List Node) (counted : length nodes ≡ heade
 -- of the two entries ensure of their answers.
 module _ (header : Header) (classes : List ℕ) (nodes : List Node) (root : ℕ) (context : List ℕ) (beyond : ℕ)
     (counted : length nodes ≡ header .nodes) (of-structs of-words : Lookup)
-    (structs-say : lookupSaid of-structs ≡ saidOf (λ leaf. leaf) 0 (leafLookup header classes nodes root context))
-    (words-say : lookupSaid of-words ≡ saidOf (λ leaf. leaf) 0
+    (structs-say : lookupSaid of-structs ≡ saidOf walkedOf noWalk (leafLookup header classes nodes root context))
+    (words-say : lookupSaid of-words ≡ saidOf walkedOf noWalk
     (leafLookupInTable header classes (concatMap recordWords nodes ++ cleared beyond) root context))
   where
     -- then they answer the same, refusals too

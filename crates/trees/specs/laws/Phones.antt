@@ -1,19 +1,17 @@
--- Laws about the tests of a phone, of a context and of an utterance, one for each answer of the code; and that
--- each column of a context holds a phone.
+-- Laws about the tests of a phone and of a context, one for each answer of the code; and that each column of a context
+-- holds a phone.
 use mathlib.Core.Path.{_≡_}
 use mathlib.Core.List.{List}
 use mathlib.Core.Bool.{Bool, true, false}
-use Prim.Native.Nat.{ℕ, _+_, _-_, _*_, _≤_, _<_}
+use Prim.Native.Nat.{ℕ, _+_, _*_, _≤_, _<_}
 use native.Mathlib.Omega.{arith}
 use lib.Dec.{T, eqb, eqb→eq}
 use lib.ListN.{length}
-use borrow.Author.Tests.{lt-ltb, le-ltb, le-leb, lt-leb, eq-eqb, ne-eqb}
+use borrow.Author.Tests.{le-leb, lt-leb, eq-eqb, ne-eqb}
 use Rattle.definitions.specs.declared.Header.{Header}
 use Rattle.definitions.specs.Lists.{_!_, every}
 use Rattle.definitions.specs.BookLines.{isPhone}
 use Rattle.definitions.specs.Lookup.{isContext}
-use Rattle.definitions.specs.TreesGive.{silentEnds}
-use Rattle.definitions.specs.Transcription.{isUtterance}
 use Rattle.definitions.specs.laws.lists.Tests.{T-and, every-at}
 use Rattle.definitions.specs.laws.text.Ranges.{phone-range}
 
@@ -60,24 +58,3 @@ column-fits header context h i l =
     let inside : i < length context = omega arith in
     let phone = phone-range (header .phones) (context ! i) .0 (every-at _ context 0 (test .1) i inside) in
     record { inside = inside; low = phone .0; high = phone .1 }
-
--- ---- an utterance: a phone, phones alone, silence first, silence last
-
-module _ (phones : ℕ) (S : List ℕ) where
-  pub no-phone : length S ≡ 0 → isUtterance phones S ≡ false
-  unfolding isUtterance
-  no-phone e = rw (le-ltb 0 (length S) (omega arith))
-
-  module _ (some-phone : 0 < length S) where
-    pub other-phones : every (isPhone phones) S ≡ false → isUtterance phones S ≡ false
-    unfolding isUtterance
-    other-phones e = rw (lt-ltb 0 (length S) some-phone, e)
-
-    module _ (all : every (isPhone phones) S ≡ true) where
-      pub other-start : (S ! 0 ≡ 1 → ⊥) → isUtterance phones S ≡ false
-      unfolding isUtterance silentEnds
-      other-start n = rw (lt-ltb 0 (length S) some-phone, all, ne-eqb (S ! 0) 1 n)
-
-      pub by-end : S ! 0 ≡ 1 → isUtterance phones S ≡ eqb (S ! (length S - 1)) 1
-      unfolding isUtterance silentEnds
-      by-end e = rw (lt-ltb 0 (length S) some-phone, all, eq-eqb (S ! 0) 1 e)

@@ -7,7 +7,7 @@ use mathlib.Core.Bool.{Bool, true, false, _&&_, _||_, and-assoc, and-comm, false
 use Prim.Native.Nat.{ℕ, _+_, _-_, _*_, _≤_, _<_}
 use native.Mathlib.Numerals.{add-one}
 use native.Mathlib.Omega.{arith}
-use lib.Dec.{ltb, eqb, ltb→lt, eqb→eq}
+use lib.Dec.{T, ltb, eqb, ltb→lt, eqb→eq}
 use lib.ListN.{length, drop, drop-of-length-le}
 use lib.Seq.{drop-cons}
 use borrow.Author.Tests.{ltb-true, ltb-false, eqb-true, eqb-false}
@@ -17,11 +17,12 @@ use Rattle.definitions.specs.Tables.{nodeOf}
 use Rattle.definitions.specs.ForeignTables.{headerKnown, questionKnown, leafKnown, nodesKnown, classTableKnown}
 use Rattle.definitions.specs.Lookup.{lookupKnown, isContext, leafLookup}
 use Rattle.definitions.specs.laws.lists.Tests.{T-and, T-three, by-test}
+use Rattle.definitions.specs.laws.books.AcceptedKnown.{header-ranges}
 use Rattle.trees.specs.declared.Stage.{Stage}
 use Rattle.trees.specs.declared.Stage.the-variants.{Judging, Walking, Answered}
 use Rattle.trees.specs.Answers.{lookupOf}
-use Rattle.trees.specs.Stages.{recordAt, firstStage, goesOn, placeOf, judgedStage, walkedStage, nextStage}
-use Rattle.trees.specs.Stages.{answerOf}
+use Rattle.trees.specs.Stages.{recordAt, firstStage, goesOn, placeOf, passed, judgedStage, walkedStage}
+use Rattle.trees.specs.Stages.{nextStage, answerOf}
 use Rattle.trees.specs.laws.Answering.{records-foreign, records-range, records-leaf, records-fit}
 use Rattle.trees.specs.laws.Walking as walks
 
@@ -43,23 +44,22 @@ module _ (header : Header) (classes : List ℕ) (nodes : List Node) (root : ℕ)
     pub within : at < header .nodes
     pub rest : lookupKnown header classes nodes root ≡ nodesKnown header at (drop at nodes)
 
-  -- the list and the context were judged, and the walk has come to a node
-  pub record Walked (node : ℕ) : Type 0 where
+  -- the list and the context were judged, and the walk has come to a node, past so many questions
+  pub record Underway (node questions : ℕ) : Type 0 where
     pub counted : length nodes ≡ header .nodes
     pub all-known : lookupKnown header classes nodes root ≡ true
     pub fits : isContext header context ≡ true
-    pub taken : ℕ
-    pub walking : walks.Walking header nodes classes context root node taken
+    pub walking : walks.Walking header nodes classes context root node questions
 
   unfoldable pub Stands : Stage → Type 0
   Stands (Judging at) = Judged at
-  Stands (Walking node) = Walked node
+  Stands (Walking node questions) = Underway node questions
   Stands (Answered answer) = answer ≡ lookupOf (leafLookup header classes nodes root context)
 
   -- what falls
   unfoldable pub left : Stage → ℕ
   left (Judging at) = 2 * length nodes - at
-  left (Walking node) = length nodes - node
+  left (Walking node questions) = length nodes - node
   left (Answered answer) = 0
 
   -- ---- before the first turn
@@ -141,7 +141,6 @@ module _ (header : Header) (classes : List ℕ) (nodes : List Node) (root : ℕ)
             counted = j .counted;
             all-known = all;
             fits = fits;
-            taken = 0;
             walking = walks.start-walking header nodes classes context (j .counted) root (j .rooted);
           },
           omega (arith, j .within, j .rooted, j .counted),
@@ -156,8 +155,9 @@ module _ (header : Header) (classes : List ℕ) (nodes : List Node) (root : ℕ)
         ))
 
   -- a step of the walk was taken
-  module _ (node : ℕ) (w : Walked node) where
-    walked-follows : Follows (Walking node) (walkedStage classes context node (recordAt nodes node))
+  module _ (node questions : ℕ) (w : Underway node questions) where
+    walked-follows : Follows (Walking node questions)
+        (walkedStage classes context node questions (recordAt nodes node))
     unfolding Stands left walkedStage
     walked-follows =
         let x : Node = recordAt nodes node in
@@ -171,15 +171,14 @@ module _ (header : Header) (classes : List ℕ) (nodes : List Node) (root : ℕ)
             counted = w .counted;
             all-known = w .all-known;
             fits = w .fits;
-            taken = w .taken + 1;
             walking = walks.goes-on header nodes classes context node x refl kind records-known _ refl root
-                (w .taken) (w .walking);
+                questions (w .walking);
           },
           omega (arith, further, w .walking .listed, w .counted),
         ))
         (λ e. rw e (
-          records-leaf header classes nodes root context (w .all-known) (w .fits) node
-              (walks.stops header nodes classes context node x refl root (w .taken) (w .walking)
+          records-leaf header classes nodes root context (w .all-known) (w .fits) _
+              (walks.stops header nodes classes context node x refl root questions (w .walking)
               (eqb-false _ _ e)),
           omega (arith, w .walking .listed, w .counted),
         ))
@@ -190,20 +189,33 @@ module _ (header : Header) (classes : List ℕ) (nodes : List Node) (root : ℕ)
   pub place-within : (stage : Stage) → Stands stage → goesOn stage ≡ true → placeOf stage < length nodes
   unfolding Stands goesOn placeOf
   place-within (Judging at) s e = omega (arith, s .within, s .counted)
-  place-within (Walking node) s e = omega (arith, s .walking .listed, s .counted)
+  place-within (Walking node questions) s e = omega (arith, s .walking .listed, s .counted)
   place-within (Answered answer) s e = absurd (false≢true e)
+
+  -- and few questions were met before it
+  pub passed-few : (stage : Stage) → Stands stage → passed stage < 4096
+  unfolding Stands passed lookupKnown
+  passed-few (Judging at) s = omega arith
+  passed-few (Walking node questions) s =
+      let all : T (lookupKnown header classes nodes root) = rw (s .all-known) tt in
+      let counted : Bool = eqb (length nodes) (header .nodes) in
+      let front = T-three (headerKnown header && counted && nodesKnown header 0 nodes) (classTableKnown header classes)
+      (ltb root (header .nodes)) .0 all .0 in
+      let own = T-three (headerKnown header) counted (nodesKnown header 0 nodes) .0 front .0 in
+      omega (arith, s .walking .listed, s .walking .further, header-ranges header own .nodes-range .high)
+  passed-few (Answered answer) s = omega arith
 
   pub next-stands : (stage : Stage) → Stands stage → goesOn stage ≡ true
       → Stands (nextStage header classes root context stage (recordAt nodes (placeOf stage)))
       × (left (nextStage header classes root context stage (recordAt nodes (placeOf stage))) < left stage)
   unfolding Stands goesOn placeOf nextStage
   next-stands (Judging at) s e = judged-follows at s
-  next-stands (Walking node) s e = walked-follows node s
+  next-stands (Walking node questions) s e = walked-follows node questions s
   next-stands (Answered answer) s e = absurd (false≢true e)
 
   pub stands-answer : (stage : Stage) → Stands stage → goesOn stage ≡ false
       → answerOf stage ≡ lookupOf (leafLookup header classes nodes root context)
   unfolding Stands goesOn answerOf
   stands-answer (Judging at) s e = absurd (false≢true (sym e))
-  stands-answer (Walking node) s e = absurd (false≢true (sym e))
+  stands-answer (Walking node questions) s e = absurd (false≢true (sym e))
   stands-answer (Answered answer) s e = s

@@ -1,6 +1,6 @@
 -- Laws about a walk's turn, over records that N and L lines leave: the child that a question goes to is a
--- greater node, and from there the walk goes on with one step less.
-use mathlib.Core.Path.{_≡_, refl, sym, ap, _∙_}
+-- greater node, and from there the walk goes on with one step less and one question more.
+use mathlib.Core.Path.{_≡_, refl, sym, ap, ap₂, _∙_}
 use mathlib.Core.List.{List, map}
 use Prim.Native.Nat.{ℕ, zero, suc, _+_, _-_, _*_, _≤_, _<_}
 use native.Mathlib.Nat.{sub-zero}
@@ -11,7 +11,7 @@ use borrow.Author.Tests.{eq-eqb, ne-eqb}
 use Rattle.definitions.specs.declared.Header.{Header}
 use Rattle.definitions.specs.declared.Node.{Node}
 use Rattle.definitions.specs.Lists.{if_then_else_}
-use Rattle.definitions.specs.BookLines.{Reached}
+use Rattle.definitions.specs.BookLines.{Reached, pastQuestion}
 use Rattle.definitions.specs.BookReading.{nodeSize}
 use Rattle.definitions.specs.Tables.{nodeOf, treeNode, askedOf}
 use Rattle.definitions.specs.ForeignTables.{nodesKnown}
@@ -19,6 +19,8 @@ use Rattle.definitions.specs.Lookup.{nodeAt, answers, walk, reached, leafReache
 use Rattle.definitions.specs.laws.trees.Walks.{walk-leaf, walk-question, either-node, model-at}
 use Rattle.tables.specs.Usable.{treeNodes}
 use Rattle.tables.specs.laws.KnownTables.{node-listed, leaf-is, record-fits}
+use Rattle.trees.specs.declared.Walked.{Walked}
+use Rattle.trees.specs.Answers.{walkedOf}
 use Rattle.trees.specs.Stages.{recordAt}
 
 module _ (header : Header) (nodes : List Node) (classes context : List ℕ) where
@@ -29,39 +31,53 @@ module _ (header : Header) (nodes : List Node) (classes context : List ℕ) wher
   abbrev childOf : Node → ℕ
   childOf x = if answers classes context (askedOf x) then x .yes else x .no
 
-  -- from where a walk stands, with the steps that are left, it reaches the leaf
+  -- from where a walk stands, past so many questions and with the steps that are left, it reaches the leaf
   pub record Walking (root node taken : ℕ) : Type 0 where
     pub listed : node < header .nodes
     pub further : taken ≤ node
-    pub reaches : reached (map treeNode nodes) classes context root ≡ walked (header .nodes - taken) node
+    pub reaches : leafReached (map treeNode nodes) classes context root ≡ walked (header .nodes - taken) node .leaf
+    pub counts : reached (map treeNode nodes) classes context root .questions
+        ≡ taken + walked (header .nodes - taken) node .questions
 
   -- as many steps as nodes
   pub start-walking : length nodes ≡ header .nodes → (root : ℕ) → root < header .nodes → Walking root root 0
   unfolding reached
   start-walking counted root h =
-      record { listed = h; further = omega arith; reaches = rw (length-map nodes treeNode, counted, sub-zero) }
+      let all : reached (map treeNode nodes) classes context root ≡ walked (header .nodes - 0) root =
+      rw (length-map nodes treeNode, counted, sub-zero) in
+      let met = ap (λ (r : Reached). r .questions) all in
+      record {
+        listed = h;
+        further = omega arith;
+        reaches = ap (λ (r : Reached). r .leaf) all;
+        counts = omega (arith, met);
+      }
 
   module _ (node : ℕ) (x : Node) (own : x ≡ recordAt nodes node) where
     node-own : nodeAt (map treeNode nodes) node ≡ treeNode x
     node-own = node-listed nodes node ∙ ap treeNode (sym own)
 
     -- a leaf stays
-    walk-stays : (x .kind ≡ 1 → ⊥) → (steps : ℕ) → walked steps node .leaf ≡ node
+    walk-stays : (x .kind ≡ 1 → ⊥) → (steps : ℕ) → walkedOf (walked steps node) ≡ record { leaf = node; questions = 0 }
     unfolding walk treeNode
     walk-stays other zero = refl
     walk-stays other (suc steps) =
-        ap (λ (r : Reached). r .leaf) (walk-leaf (map treeNode nodes) classes context steps node (x .value)
+        ap walkedOf (walk-leaf (map treeNode nodes) classes context steps node (x .value)
         (node-own ∙ rw (ne-eqb (x .kind) 1 other)))
 
     -- so the walk ends there
     pub stops : (root taken : ℕ) → Walking root node taken → (x .kind ≡ 1 → ⊥)
-        → node ≡ leafReached (map treeNode nodes) classes context root
-    stops root taken w other = sym (ap (λ (r : Reached). r .leaf) (w .reaches) ∙ walk-stays other _)
+        → record { leaf = node; questions = taken } ≡ walkedOf (reached (map treeNode nodes) classes context root)
+    stops root taken w other =
+        let here = walk-stays other (header .nodes - taken) in
+        let none : walked (header .nodes - taken) node .questions ≡ 0 = ap (λ (r : Walked). r .questions) here in
+        ap₂ (λ (leaf questions : ℕ). record { leaf = leaf; questions = questions })
+        (sym (w .reaches ∙ ap (λ (r : Walked). r .leaf) here)) (omega (arith, w .counts, none))
 
     module _ (kind : x .kind ≡ 1) where
       -- a question goes on with one step more taken
       walk-goes : (taken : ℕ) → taken < header .nodes
-          → walked (header .nodes - taken) node ≡ walked (header .nodes - (taken + 1)) (childOf x)
+          → walked (header .nodes - taken) node ≡ pastQuestion (walked (header .nodes - (taken + 1)) (childOf x))
       unfolding treeNode
       walk-goes taken h =
           let left : ℕ = header .nodes - (taken + 1) in
@@ -81,10 +97,15 @@ module _ (header : Header) (nodes : List Node) (classes context : List ℕ) wher
         pub goes-on : (root taken : ℕ) → Walking root node taken → Walking root child (taken + 1)
         goes-on root taken w =
             let (greater, listed) = goes-further in
+            let more = walk-goes taken (omega (arith, w .further, w .listed)) in
+            let one-more : walked (header .nodes - taken) node .questions
+            ≡ suc (walked (header .nodes - (taken + 1)) child .questions) =
+            rw chosen (ap (λ (r : Reached). r .questions) more) in
             record {
               listed = listed;
               further = omega (arith, w .further);
-              reaches = w .reaches ∙ rw chosen (walk-goes taken (omega (arith, w .further, w .listed)));
+              reaches = w .reaches ∙ rw chosen (ap (λ (r : Reached). r .leaf) more);
+              counts = omega (arith, w .counts, one-more);
             }
 
 -- in a table of words, the record of a leaf holds its model

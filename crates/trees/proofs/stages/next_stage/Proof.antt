@@ -1,6 +1,9 @@
 -- `stages::next_stage` meets its contract, stage by stage.
+use mathlib.Core.Path.{subst}
+use Prim.Native.Nat.{_<_}
 use borrow.Author.Needs.{needs}
-use Rattle.trees.specs.Stages.{nextStage}
+use Rattle.trees.specs.declared.Stage.{Stage}
+use Rattle.trees.specs.Stages.{passed, nextStage}
 use Rattle.trees.proofs.stages.next_stage.Statement.{statement}
 use Rattle.trees.proofs.stages.next_stage.Tie as tie
 
@@ -14,7 +17,10 @@ enum-known-stage-2 : tie.Need-enum-known-stage-2
 enum-known-stage-2 c = search needs
 
 walked-stage-requires : tie.Need-walked-stage-requires
-walked-stage-requires c κs = search needs
+unfolding passed
+walked-stage-requires c κs =
+    let start = c .before .before .before .before .before in
+    subst (λ (s : Stage). passed s < 4096) (c .before .stage2 .given .1) (start .pre)
 
 enum-known-stage-3 : tie.Need-enum-known-stage-3
 enum-known-stage-3 c = search needs

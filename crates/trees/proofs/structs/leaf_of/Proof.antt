@@ -54,9 +54,10 @@ use Rattle.definitions.specs.Lookup.{leafLookup}
 use Rattle.trees.specs.declared.Lookup.{Lookup}
 use Rattle.trees.specs.declared.Stage.{Stage}
 use Rattle.trees.specs.Answers.{lookupOf}
-use Rattle.trees.specs.Stages.{recordAt, firstStage, goesOn, placeOf, nextStage, answerOf}
+use Rattle.trees.specs.Stages.{recordAt, firstStage, goesOn, placeOf, passed, nextStage, answerOf}
 use Rattle.trees.specs.laws.Said.{lookup-said}
-use Rattle.trees.specs.laws.Stages.{Stands, left, first-stands, place-within, next-stands, stands-answer}
+use Rattle.trees.specs.laws.Stages.{Stands, left, first-stands, place-within, passed-few, next-stands}
+use Rattle.trees.specs.laws.Stages.{stands-answer}
 use Rattle.definitions.proofs.Header as Hd
 use Rattle.definitions.proofs.Header.Laws as Hd′
 use Rattle.definitions.proofs.Node as Nd
@@ -270,6 +271,9 @@ module _ {M : Type 1} (𝓤 : URA M) (H : Heap 𝓤) (A : Atoms 𝓤) (W : Given
     within : (t : Turn) → goesOn (t .stage) ≡ true → placeOf (t .stage) < count
     within t e = place-within header (now classes) (now nodes) root (now context) (t .stage) (t .stands) e
 
+    few : (t : Turn) → passed (t .stage) < 4096
+    few t = passed-few header (now classes) (now nodes) root (now context) (t .stage) (t .stands)
+
     stands-on : (t : Turn) → goesOn (t .stage) ≡ true
         → standing (after t) × (measure (after t) < measure (t .stage))
     stands-on t e = next-stands header (now classes) (now nodes) root (now context) (t .stage) (t .stands) e
@@ -374,7 +378,8 @@ module _ {M : Type 1} (𝓤 : URA M) (H : Heap 𝓤) (A : Atoms 𝓤) (W : Given
                 ),
               ),
             ),
-          ) tt #next-stage (known .next-known) (id⊢ 𝓤 (emp 𝓤)) _ (λ r e. id⊢ 𝓤 _)
+          ) tt #next-stage (known .next-known) (factI 𝓤 (passed (t .stage) < 4096) (emp 𝓤) (few t)) _
+          (λ r e. id⊢ 𝓤 _)
           (⋆ 𝓤 H A (‵ (flft κ₀ q₀) ∷ ‵ Owned ∷ []))
           (via 𝓤 (⋆ 𝓤 H A Parts) parts (qed W Parts ∵
           nothing ! $ owned ! Nd.the-row (Is Nd.the-row) node-makes node _ is $ fjoin ! $

@@ -1,5 +1,5 @@
 -- `walking::walk` meets its contract. The loop's invariant: the steps that are left reach the leaf from `node`,
--- which is no less than the steps taken. So they never run out.
+-- which is no less than the questions met, one a step. So they never run out.
 use mathlib.Core.Path.{_≡_, sym, _∙_}
 use Prim.Native.Nat.{_-_}
 use native.Mathlib.Omega.{arith}
@@ -13,11 +13,11 @@ use Rattle.trees.proofs.walking.walk.Statement.{statement}
 use Rattle.trees.proofs.walking.walk.Tie as tie
 
 abbrev Inv-loop : tie.InvT-loop
-Inv-loop header nodes classes context root node₀ steps₀ node steps =
-    Walking header (nodeRecords header nodes) classes context root node steps
+Inv-loop header nodes classes context root node₀ questions₀ node questions =
+    Walking header (nodeRecords header nodes) classes context root node questions
 
 abbrev μ-loop : tie.MeasureT-loop
-μ-loop header nodes classes context root node₀ steps₀ node steps = header .nodes - steps
+μ-loop header nodes classes context root node₀ questions₀ node questions = header .nodes - questions
 
 -- the entry, and the record of the node
 abbrev entry : tie.At-loop Inv-loop μ-loop → tie.Start Inv-loop μ-loop
@@ -51,8 +51,8 @@ returns c =
 child-of-requires : tie.Need-child-of-requires Inv-loop μ-loop
 child-of-requires c κs = search needs
 
-add-steps : tie.Need-add-steps Inv-loop μ-loop
-add-steps c = search needs
+add-questions : tie.Need-add-questions Inv-loop μ-loop
+add-questions c = search needs
 
 loop-less : tie.Need-loop-less Inv-loop μ-loop
 loop-less c = search needs
@@ -78,7 +78,7 @@ walk-spec =
     node-at-requires
     returns
     child-of-requires
-    add-steps
+    add-questions
     loop-less
     loop-again
     returns-2)

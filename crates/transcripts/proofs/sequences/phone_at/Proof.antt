@@ -1,9 +1,9 @@
--- `contexts::phone_at` meets its contract: before the sequence, within it, after it.
+-- `sequences::phone_at` meets its contract: before the sequence, within it, after it.
 use mathlib.Core.Path.{sym}
 use borrow.Author.Needs.{needs}
 use Rattle.definitions.specs.laws.trees.Contexts.{context-before, context-within, context-after}
-use Rattle.trees.proofs.contexts.phone_at.Statement.{statement}
-use Rattle.trees.proofs.contexts.phone_at.Tie as tie
+use Rattle.transcripts.proofs.sequences.phone_at.Statement.{statement}
+use Rattle.transcripts.proofs.sequences.phone_at.Tie as tie
 
 add-around : tie.Need-add-around
 add-around c = search needs

@@ -15,9 +15,9 @@ use Rattle.definitions.specs.Lists.{_!_, every, concatMap}
 use Rattle.definitions.specs.BookLines.{TreeNode, rootCount, isPhone}
 use Rattle.definitions.specs.BookReading.{nodeSize}
 use Rattle.definitions.specs.Tables.{Book, nodeOf, rootOf}
-use Rattle.definitions.specs.Lookup.{reached, leafReached, modelAt, isContext}
+use Rattle.definitions.specs.Lookup.{reached, modelAt, isContext}
 use Rattle.definitions.specs.TreesGive.{silences, contexts}
-use Rattle.definitions.specs.Transcription.{modelOf, transcription}
+use Rattle.definitions.specs.Transcription.{reachedFor, modelOf, transcription}
 use Rattle.definitions.specs.laws.lists.Tests.{T-and, eq→eqb}
 use Rattle.definitions.specs.laws.lists.Lists.{map-upFrom-length, map-upFrom-at, concatMap-snoc}
 use Rattle.definitions.specs.laws.lists.Records.{flat-length}
@@ -25,24 +25,30 @@ use Rattle.definitions.specs.laws.trees.Walks.{reached-model}
 use Rattle.definitions.specs.laws.trees.Contexts.{contextAt, contexts-length, context-phones, silent-phones}
 use Rattle.definitions.specs.laws.trees.Contexts.{silent-context-length}
 use Rattle.tables.specs.Usable.{bookWith, treeNodes}
-use Rattle.trees.specs.Answers.{stateModels}
+use Rattle.trees.specs.declared.Walked.{Walked}
+use Rattle.trees.specs.Answers.{walkedOf}
+use Rattle.transcripts.specs.Answers.{foundOf, stateModels}
 use Rattle.trees.specs.laws.Walking.{model-is}
 
--- the record at the leaf that the walk from the root reaches holds the model
-pub model-reached : (header : Header) (nodes classes roots context : List ℕ)
-    (state root count leaf : ℕ) (x : Node)
+-- the record at the leaf that the walk from the root reaches holds the model; the questions are the walk's
+pub found-reached : (header : Header) (nodes classes roots context : List ℕ)
+    (state root count : ℕ) (walked : Walked) (x : Node)
     → root ≡ take (rootCount header) roots ! ((context ! header .half - 1) * header .states + (state - 1))
     → count ≡ header .classes
-    → (leaf ≡ leafReached (treeNodes header nodes) (take count classes) context root) × (leaf < header .nodes)
-    × (nodeOf (drop (nodeSize * leaf) nodes) .kind ≡ 1 → ⊥)
-    → x ≡ nodeOf (drop (nodeSize * leaf) nodes)
-    → x .value ≡ modelOf (bookWith header nodes classes roots) context state
-unfolding modelOf bookWith rootOf
-model-reached header nodes classes roots context state root count leaf x r n w own =
+    → (walked ≡ walkedOf (reached (treeNodes header nodes) (take count classes) context root))
+    × (walked .leaf < header .nodes) × (nodeOf (drop (nodeSize * walked .leaf) nodes) .kind ≡ 1 → ⊥)
+    → x ≡ nodeOf (drop (nodeSize * walked .leaf) nodes)
+    → record { model = x .value; questions = walked .questions }
+    ≡ foundOf (reachedFor (bookWith header nodes classes roots) context state)
+unfolding bookWith rootOf
+found-reached header nodes classes roots context state root count walked x r n w own =
     let tree : List TreeNode = treeNodes header nodes in
-    ap (λ (x : Node). x .value) own ∙ sym (model-is header nodes leaf (w .1) (w .2))
-    ∙ ap (modelAt tree) (w .0) ∙ sym (reached-model tree (take count classes) context root)
-    ∙ ap₂ (λ (count root : ℕ). reached tree (take count classes) context root .model) n r
+    let model = ap (λ (x : Node). x .value) own ∙ sym (model-is header nodes (walked .leaf) (w .1) (w .2))
+    ∙ ap (λ (walked : Walked). modelAt tree (walked .leaf)) (w .0)
+    ∙ sym (reached-model tree (take count classes) context root) in
+    ap₂ (λ (model questions : ℕ). record { model = model; questions = questions })
+    model (ap (λ (walked : Walked). walked .questions) (w .0))
+    ∙ ap₂ (λ (count root : ℕ). foundOf (reached tree (take count classes) context root)) n r
 
 -- ---- the states of a context
 
@@ -94,7 +100,7 @@ module _ (book : Book) (S : List ℕ) where
   abbrev places : List (List ℕ)
   places = contexts (book .half) S
 
-  places-length : length places ≡ length S
+  pub places-length : length (contexts (book .half) S) ≡ length S
   places-length = contexts-length (book .half) (silences (book .half)) S (silences (book .half))
 
   models-count : (l : List (List ℕ)) → length (concatMap (stateModels book) l) ≡ length l * book .states

@@ -8,12 +8,13 @@ use lib.Seq.{length-take-le}
 use lib.ListN.{length, take}
 use borrow.Author.Needs.{needs}
 use Rattle.definitions.specs.Lookup.{isContext}
+use Rattle.definitions.specs.Transcription.{questionsAt}
 use Rattle.definitions.specs.laws.trees.Contexts.{contextAt}
 use Rattle.tables.specs.Usable.{bookWith, Fit}
-use Rattle.trees.specs.Answers.{stateModels}
-use Rattle.trees.specs.laws.Models.{context-fits, window-inside, window-taken}
-use Rattle.trees.proofs.transcription.models_at.Statement.{statement}
-use Rattle.trees.proofs.transcription.models_at.Tie as tie
+use Rattle.transcripts.specs.Answers.{stateModels}
+use Rattle.transcripts.specs.laws.Models.{context-fits, window-inside, window-taken}
+use Rattle.transcripts.proofs.transcription.models_at.Statement.{statement}
+use Rattle.transcripts.proofs.transcription.models_at.Tie as tie
 
 fit : (c : tie.Start)
     → Fit (c .args .header) (c .args .nodes .now) (c .args .classes .now) (c .args .roots .now)
@@ -95,7 +96,11 @@ returns c =
     let filling = c .before .before .before .before .before .before in
     let a = entry (filling .before .before) .args in
     let book = bookWith (a .header) (a .nodes .now) (a .classes .now) (a .roots .now) in
-    c .before .before .models-of .ensures ∙ ap (stateModels book) (taken filling _)
+    let given = c .before .before .models-of .ensures in
+    record {
+      models-are = given .models-are ∙ ap (stateModels book) (taken filling _);
+      questions-are = given .questions-are ∙ ap (questionsAt book) (taken filling _);
+    }
 
 pub models-at-spec : {M : Type 1} → statement M
 models-at-spec =

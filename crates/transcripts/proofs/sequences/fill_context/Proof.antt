@@ -1,4 +1,4 @@
--- `contexts::fill_context` meets its contract. The loop's invariant: the columns before `column` hold the
+-- `sequences::fill_context` meets its contract. The loop's invariant: the columns before `column` hold the
 -- context's phones, the others are as they were.
 use mathlib.Core.Path.{_≡_, _∙_}
 use Prim.Native.Nat.{_-_}
@@ -6,8 +6,8 @@ use lib.ListN.{length}
 use borrow.Author.Needs.{needs}
 use Rattle.definitions.specs.laws.trees.Contexts.{contextAt, silent-context-length}
 use Rattle.lines.specs.laws.Filling.{Filled, filled-start, filled-more, filled-end}
-use Rattle.trees.proofs.contexts.fill_context.Statement.{statement}
-use Rattle.trees.proofs.contexts.fill_context.Tie as tie
+use Rattle.transcripts.proofs.sequences.fill_context.Statement.{statement}
+use Rattle.transcripts.proofs.sequences.fill_context.Tie as tie
 
 abbrev Inv-loop : tie.InvT-loop
 Inv-loop sequence half place context₀ column₀ context column =

@@ -12,11 +12,12 @@ use Rattle.definitions.specs.ForeignTables.{tablesKnown}
 use Rattle.definitions.specs.Transcription.{isUtterance}
 use Rattle.definitions.specs.laws.lists.Tests.{held, failed}
 use Rattle.tables.specs.Lending.{lentTables}
+use Rattle.tables.specs.Usable.{bookWith}
 use Rattle.tables.specs.laws.KnownTables.{tables-fit, forced-book, known-forceable}
-use Rattle.trees.specs.laws.Answering.{ends-foreign, ends-utterance, ends-short, ends-given, some-state}
-use Rattle.trees.specs.laws.Answering.{no-room, has-room, utterance-phones}
-use Rattle.trees.proofs.transcription.transcribe.Statement.{statement}
-use Rattle.trees.proofs.transcription.transcribe.Tie as tie
+use Rattle.transcripts.specs.laws.Answering.{ends-foreign, ends-utterance, ends-short, ends-given, some-state}
+use Rattle.transcripts.specs.laws.Answering.{no-room, has-room}
+use Rattle.transcripts.proofs.transcription.transcribe.Statement.{statement}
+use Rattle.transcripts.proofs.transcription.transcribe.Tie as tie
 
 -- where the code stands: its entry, and the buffer that was cleared
 abbrev entry : tie.After-tables-known → tie.Start
@@ -135,12 +136,12 @@ all-models-requires c κs =
     let fits = subst (λ (n : ℕ). length (a .sequence .now) * n ≤ length (buffer (judged u)))
     (left .before .wide .ensures) (room left) in (
       tables-fit _ _ _ _ _ (known-fact (u .before .before)) _ (c .before .before .before .roots-in-force .ensures),
-      utterance-phones _ _ (rw (spoken u) tt),
+      rw (spoken u) tt,
       fits,
     )
 
-mul-t26 : tie.Need-mul-t26
-mul-t26 c =
+mul-t27 : tie.Need-mul-t27
+mul-t27 c =
     let left = c .before .before .before .before .before .before .before .before in
     let q = judged (left .before .before) in
     let fits = room left in
@@ -150,6 +151,7 @@ same-length-4 : tie.Need-same-length-4
 same-length-4 c = search needs
 
 returns-4 : tie.Need-returns-4
+unfolding bookWith
 returns-4 c =
     let left = c .before .before .before .before .before .before .before .before in
     let u = left .before .before in
@@ -161,7 +163,7 @@ returns-4 c =
     (all .last .1 .1 .1 .1 .1 .0) (known (u .before .before)) (spoken u) _ (length (words .last .0))
     (left .before .wide .ensures) (words .kept .0) _
     (forced-book _ _ _ _ _ (known-fact (u .before .before)) _ (force .ensures))
-    (room left) refl (words .last .0) (words .ensures) (all .ensures)
+    (room left) _ (all .ensures .questions-are) refl (words .last .0) (words .ensures) (all .ensures .models-are)
 
 pub transcribe-spec : {M : Type 1} → statement M
 transcribe-spec =
@@ -185,6 +187,6 @@ transcribe-spec =
     roots-in-force-requires
     slice-aggregate-all-models
     all-models-requires
-    mul-t26
+    mul-t27
     same-length-4
     returns-4)

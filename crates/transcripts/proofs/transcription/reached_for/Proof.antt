@@ -1,4 +1,4 @@
--- `transcription::model_of` meets its contract: the record at the leaf that the walk from the root reaches.
+-- `transcription::reached_for` meets its contract: the record at the leaf that the walk from the root reaches.
 use mathlib.Core.Path.{ap, sym, _∙_}
 use Prim.Native.Nat.{ℕ, _+_, _-_, _*_}
 use native.Mathlib.Omega.{arith}
@@ -7,10 +7,10 @@ use borrow.Author.Needs.{needs}
 use Rattle.definitions.specs.Lists.{_!_}
 use Rattle.tables.specs.Usable.{Fit}
 use Rattle.tables.specs.laws.Roots.{TreeRoot, root-fits}
 use Rattle.trees.specs.laws.Phones.{Column, column-fits}
-use Rattle.trees.specs.laws.Models.{model-reached}
-use Rattle.trees.proofs.transcription.model_of.Statement.{statement}
-use Rattle.trees.proofs.transcription.model_of.Tie as tie
+use Rattle.transcripts.specs.laws.Models.{found-reached}
+use Rattle.transcripts.proofs.transcription.reached_for.Statement.{statement}
+use Rattle.transcripts.proofs.transcription.reached_for.Tie as tie
 
 -- the tables, and the column of the context's own phone
 fit : (c : tie.Start)
@@ -71,12 +71,12 @@ returns : tie.Need-returns
 returns c =
     let rooted = c .before .before .before .before in
     let a = entry rooted .args in
-    model-reached (a .header) (a .nodes .now) (a .classes .now) (a .roots .now) (a .context .now) (a .state)
+    found-reached (a .header) (a .nodes .now) (a .classes .now) (a .roots .now) (a .context .now) (a .state)
     _ _ _ (c .node-at .result) (root rooted .own) (c .before .before .before .wide2 .ensures)
     (c .before .walk .ensures) (c .node-at .ensures)
 
-pub model-of-spec : {M : Type 1} → statement M
-model-of-spec =
+pub reached-for-spec : {M : Type 1} → statement M
+reached-for-spec =
     tie.close
     (tie.spec
     wide-requires
