@@ -16,9 +16,12 @@ use Rattle.definitions.specs.Said.{Said, Progress, Span}
 use Rattle.definitions.specs.WordBooks.{wordsIn}
 use Rattle.definitions.specs.demand.Demand.{Demand3}
 use Rattle.definitions.specs.joined.JoinedPaths.{JoinedPaths}
+use Rattle.trees.specs.declared.Walked.{Walked}
+use Rattle.transcripts.specs.declared.Tally.{Tally}
 use Rattle.joining.specs.declared.JoinedCounts.{JoinedCounts}
 use Rattle.fulgwerz.specs.declared.ReadAnswer.{ReadAnswer}
 use Rattle.fulgwerz.specs.declared.LeafAnswer.{LeafAnswer}
+use Rattle.fulgwerz.specs.declared.TranscriptAnswer.{TranscriptAnswer}
 use Rattle.fulgwerz.specs.declared.CountAnswer.{CountAnswer}
 use Rattle.fulgwerz.specs.declared.BuildAnswer.{BuildAnswer}
 use Rattle.fulgwerz.specs.declared.JoinAnswer.{JoinAnswer}
@@ -29,11 +32,17 @@ use Rattle.fulgwerz.specs.declared.PartAnswer.{PartAnswer}
 abbrev pub readAnswer : Said Header → ReadAnswer
 readAnswer s = record { fault = s .fault; line = s .line; header = s .values }
 
--- the node number of the leaf
-abbrev pub leafAnswer : Said ℕ → LeafAnswer
-leafAnswer s = record { fault = s .fault; line = s .line; leaf = s .values }
+-- the node number of the leaf, and the questions met on the way
+abbrev pub leafAnswer : Said Walked → LeafAnswer
+leafAnswer s =
+    record { fault = s .fault; line = s .line; leaf = s .values .leaf; questions = s .values .questions }
 
--- how many models, combinations or bytes there are
+-- how many models there are, and how many questions were put
+abbrev pub transcriptAnswer : Said Tally → TranscriptAnswer
+transcriptAnswer s =
+    record { fault = s .fault; line = s .line; count = s .values .models; questions = s .values .questions }
+
+-- how many combinations, bytes or words there are
 abbrev pub countAnswer : Said ℕ → CountAnswer
 countAnswer s = record { fault = s .fault; line = s .line; count = s .values }
 

@@ -7,6 +7,7 @@ use crate::LeafAnswer;
 use crate::NetworkAnswer;
 use crate::PartAnswer;
 use crate::ReadAnswer;
+use crate::TranscriptAnswer;
 use arcs::Standing;
 use book::Reading;
 use combinations::Combined;
@@ -16,8 +17,8 @@ use definitions::Refusal;
 use definitions::number;
 use network::Build;
 use network::Totals;
+use transcripts::Transcript;
 use trees::Lookup;
-use trees::Transcript;
 use writing::Written;
 ghost use mathlib.Core.Path.{_≡_};
 ghost use Rattle.definitions.specs.Faults.{numberOf};
@@ -25,12 +26,13 @@ ghost use Rattle.definitions.specs.NetworkText.{noCounts};
 ghost use Rattle.definitions.specs.Said.{answerSaid};
 ghost use Rattle.writing.specs.Answers.{writtenSaid};
 ghost use Rattle.book.specs.Answers.{readingSaid};
-ghost use Rattle.trees.specs.Answers.{lookupSaid, transcriptSaid};
+ghost use Rattle.trees.specs.Answers.{lookupSaid};
+ghost use Rattle.transcripts.specs.Answers.{transcriptSaid};
 ghost use Rattle.combinations.specs.Answers.{combinedSaid};
 ghost use Rattle.arcs.specs.Standing.{standingSaid};
 ghost use Rattle.network.specs.Answers.{soFar, buildSaid};
 ghost use Rattle.nettext.specs.Answers.{readingSaid as networkSaid};
-ghost use Rattle.fulgwerz.specs.Answers.{readAnswer, leafAnswer, countAnswer, partAnswer};
+ghost use Rattle.fulgwerz.specs.Answers.{readAnswer, leafAnswer, transcriptAnswer, countAnswer, partAnswer};
 ghost use Rattle.words.specs.Answers.{readingSaid as wordsSaid};
 ghost use Rattle.joining.specs.Answers.{joiningSaid};
 ghost use Rattle.fulgwerz.specs.Answers.{networkAnswer, joinAnswer, buildAnswer};
@@ -91,10 +93,11 @@ pub fn leaf_answer(lookup: Lookup) -> LeafAnswer
     ensures { λ r. ⌜ r ≡ leafAnswer (lookupSaid lookup) ⌝ }
 {
     match lookup {
-        Lookup::Leaf(leaf) => LeafAnswer {
+        Lookup::Leaf(walked) => LeafAnswer {
             fault: 0,
             line: 0,
-            leaf,
+            leaf: walked.leaf,
+            questions: walked.questions,
         },
         Lookup::Refused(refusal) => {
             let cause = cause_of(refusal);
@@ -102,26 +105,29 @@ pub fn leaf_answer(lookup: Lookup) -> LeafAnswer
                 fault: cause.fault,
                 line: cause.line,
                 leaf: 0,
+                questions: 0,
             }
         }
     }
 }
 
-pub fn models_answer(transcript: Transcript) -> CountAnswer
-    ensures { λ r. ⌜ r ≡ countAnswer (transcriptSaid transcript) ⌝ }
+pub fn transcript_answer(transcript: Transcript) -> TranscriptAnswer
+    ensures { λ r. ⌜ r ≡ transcriptAnswer (transcriptSaid transcript) ⌝ }
 {
     match transcript {
-        Transcript::Models(count) => CountAnswer {
+        Transcript::Models(tally) => TranscriptAnswer {
             fault: 0,
             line: 0,
-            count,
+            count: tally.models,
+            questions: tally.questions,
         },
         Transcript::Refused(refusal) => {
             let cause = cause_of(refusal);
-            CountAnswer {
+            TranscriptAnswer {
                 fault: cause.fault,
                 line: cause.line,
                 count: 0,
+                questions: 0,
             }
         }
     }

@@ -25,9 +25,22 @@ pub struct LeafAnswer {
     pub line: usize,
     // The node number of the leaf.
     pub leaf: u32,
+    // How many questions were met on the way to it.
+    pub questions: u32,
 }
 
-// Of an entry that fills a buffer: how many models, combinations or bytes there are.
+// Of a transcription.
+#[repr(C)]
+pub struct TranscriptAnswer {
+    pub fault: u32,
+    pub line: usize,
+    // How many models there are.
+    pub count: usize,
+    // How many questions were put in all.
+    pub questions: u64,
+}
+
+// Of another entry that fills a buffer: how many combinations, bytes or words there are.
 #[repr(C)]
 pub struct CountAnswer {
     pub fault: u32,

@@ -1,23 +1,24 @@
 // The trees at work, for C: the leaf that a context reaches, and the models of a phone sequence.
-use crate::CountAnswer;
 use crate::LeafAnswer;
+use crate::TranscriptAnswer;
 use crate::answers::leaf_answer;
-use crate::answers::models_answer;
+use crate::answers::transcript_answer;
 use definitions::Header;
 use definitions::Node;
+use transcripts::transcription::transcribe;
 use trees::leaves::leaf_of;
 use trees::structs::leaf_of as leaf_in_list;
-use trees::transcription::transcribe;
 ghost use mathlib.Core.Path.{_≡_};
 ghost use lib.ListN.{length};
-ghost use Rattle.definitions.specs.Faults.{answerLeft};
 ghost use Rattle.definitions.specs.Lookup.{leafLookup, leafLookupInTable};
 ghost use Rattle.definitions.specs.Said.{saidOf};
-ghost use Rattle.definitions.specs.Transcription.{transcribe};
+ghost use Rattle.definitions.specs.Transcription.{transcribe, modelsLeft};
 ghost use Rattle.tables.specs.Lending.{lentTables};
-ghost use Rattle.fulgwerz.specs.Answers.{leafAnswer, countAnswer};
+ghost use Rattle.trees.specs.Answers.{walkedOf, noWalk};
+ghost use Rattle.transcripts.specs.Answers.{tallyOf, noTally};
+ghost use Rattle.fulgwerz.specs.Answers.{leafAnswer, transcriptAnswer};
 
-// Looks up the leaf that a context reaches from a root.
+// Looks up the leaf that a context reaches from a root, and counts the questions met on the way.
 #[no_mangle]
 pub extern "C" fn fulgwerz_leaf(
     header: Header,
@@ -27,7 +28,7 @@ pub extern "C" fn fulgwerz_leaf(
     context: &[u32],
 ) -> LeafAnswer
     ensures { λ r. ⌜
-        r ≡ leafAnswer (saidOf (λ leaf. leaf) 0
+        r ≡ leafAnswer (saidOf walkedOf noWalk
         (leafLookupInTable header (now (classes .entry)) (now (nodes .entry)) root (now (context .entry))))
         ⌝ }
 {
@@ -44,14 +45,14 @@ pub extern "C" fn fulgwerz_leaf_in_list(
     context: &[u32],
 ) -> LeafAnswer
     ensures { λ r. ⌜
-        r ≡ leafAnswer (saidOf (λ leaf. leaf) 0
+        r ≡ leafAnswer (saidOf walkedOf noWalk
         (leafLookup header (now (classes .entry)) (now (nodes .entry)) root (now (context .entry))))
         ⌝ }
 {
     leaf_answer(leaf_in_list(header, nodes, classes, root, context))
 }
 
-// Fills in the models of a phone sequence, and counts them.
+// Fills in the models of a phone sequence, and counts them and the questions that were put.
 #[no_mangle]
 pub extern "C" fn fulgwerz_transcribe(
     header: Header,
@@ -61,19 +62,19 @@ pub extern "C" fn fulgwerz_transcribe(
     plains: &[u32],
     phones: &[u32],
     models: &mut [u32],
-) -> CountAnswer
+) -> TranscriptAnswer
     ensures answer { λ r. ⌜
-        r ≡ countAnswer (saidOf length 0 (transcribe header
+        r ≡ transcriptAnswer (saidOf tallyOf noTally (transcribe header
         (lentTables (now (nodes .entry)) (now (classes .entry)) (now (roots .entry)) (now (plains .entry)))
         (now (phones .entry))
         (length (now (models .entry)))))
         ⌝ }
     ensures leaves { λ r. ⌜
-        now (models .exit) ≡ answerLeft (length (now (models .entry))) (transcribe header
+        now (models .exit) ≡ modelsLeft (length (now (models .entry))) (transcribe header
         (lentTables (now (nodes .entry)) (now (classes .entry)) (now (roots .entry)) (now (plains .entry)))
         (now (phones .entry))
         (length (now (models .entry))))
         ⌝ }
 {
-    models_answer(transcribe(header, nodes, classes, roots, plains, phones, models))
+    transcript_answer(transcribe(header, nodes, classes, roots, plains, phones, models))
 }

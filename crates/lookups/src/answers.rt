@@ -5,8 +5,8 @@ use showing::printing::print;
 use showing::printing::print_number;
 use showing::printing::print_refusal;
 use showing::printing::print_words;
+use transcripts::Transcript;
 use trees::Lookup;
-use trees::Transcript;
 
 // Whether a refusal left the tables cleared.
 pub fn print_cleared(nodes: &[u32], classes: &[u64], roots: &[u32], plains: &[u32]) {
@@ -25,23 +25,32 @@ pub fn print_cleared(nodes: &[u32], classes: &[u64], roots: &[u32], plains: &[u3
     print(b" cleared\n");
 }
 
-// How many models there are, or the refusal.
+// How many questions were put, after what they led to.
+fn print_questions(questions: u64) {
+    print(b" after");
+    print_number(questions);
+    print(b" questions");
+}
+
+// How many models there are and after how many questions, or the refusal.
 pub fn print_transcript(answer: Transcript) {
     match answer {
-        Transcript::Models(count) => {
-            print_number(count as u64);
+        Transcript::Models(tally) => {
+            print_number(tally.models as u64);
             print(b" models");
+            print_questions(tally.questions);
         }
         Transcript::Refused(refusal) => print_refusal(refusal),
     }
 }
 
-// A leaf's node, or the refusal.
+// A leaf's node and after how many questions, or the refusal.
 pub fn print_lookup(answer: Lookup) {
     match answer {
-        Lookup::Leaf(node) => {
+        Lookup::Leaf(walked) => {
             print(b" node");
-            print_number(node as u64);
+            print_number(walked.leaf as u64);
+            print_questions(walked.questions as u64);
         }
         Lookup::Refused(refusal) => print_refusal(refusal),
     }

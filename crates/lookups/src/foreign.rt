@@ -3,8 +3,8 @@ use crate::answers::print_lookup;
 use crate::answers::print_transcript;
 use definitions::Header;
 use showing::printing::print;
+use transcripts::transcription::transcribe;
 use trees::leaves::leaf_of;
-use trees::transcription::transcribe;
 
 // What a transcription of silence by these tables answers.
 fn show_answer(

@@ -6,8 +6,8 @@ use definitions::Header;
 use showing::printing::print;
 use showing::printing::print_number;
 use showing::printing::print_words;
+use transcripts::transcription::transcribe;
 use trees::leaves::leaf_of;
-use trees::transcription::transcribe;
 
 // Transcribes a sequence into a buffer, where something stood before.
 fn show_models(

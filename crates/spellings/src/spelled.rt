@@ -10,8 +10,8 @@ use showing::printing::print;
 use showing::printing::print_number;
 use showing::printing::print_refusal;
 use showing::printing::print_words;
-use trees::Transcript;
-use trees::transcription::transcribe;
+use transcripts::Transcript;
+use transcripts::transcription::transcribe;
 use writing::Written;
 
 // A phone beside the second: the last one, where there are more.
@@ -38,9 +38,13 @@ pub fn show_models(header: Header, nodes: &[u32], classes: &[u64], roots: &[u32]
         &sequence,
         &mut models,
     ) {
-        Transcript::Models(count) => {
+        Transcript::Models(tally) => {
+            let count = tally.models;
             if count <= 12 {
                 print_words(&models[0..count]);
+                print(b" after");
+                print_number(tally.questions);
+                print(b" questions");
             }
         }
         Transcript::Refused(refusal) => print_refusal(refusal),
