@@ -3,8 +3,8 @@
  *
  * These are the entries of libfulgwerz.a, which `rt staticlib fulgwerz` proves and writes. Each calls one proved
  * function and is proved to answer what that function answers. What a book, a network and their numbers mean is
- * said in docs/document-01.md, what a book's plain form, its boundary phones, a word book and a joined network are in
- * docs/document-02.md (P1, P2, P4).
+ * said in docs/document-01.md, what a book's plain form, its boundary phones, a word book, a joined network and the
+ * number of questions are in docs/document-02.md (P1, P2, P4, P5).
  * The archive is for Linux on x86-64; it needs memcpy and its like (memset, memmove, memcmp), which every C library
  * has, and nothing else.
  *
@@ -67,7 +67,8 @@ enum {
     FULGWERZ_CROWD = 31,       /* a new metastate, or a new joined state, beyond the lent space or 65535 */
     FULGWERZ_TANGLE = 32,      /* an arc beyond the lent space or 999999 */
     FULGWERZ_SHORT = 33,       /* an output text or model buffer too short */
-    FULGWERZ_UTTERANCE = 41,   /* a sequence empty, with a phone out of range, or not silence at both ends */
+    FULGWERZ_UTTERANCE = 41,   /* a sequence empty, of more than 1000000 phones, with a phone out of range, or not
+                                  silence at both ends */
     FULGWERZ_STATE = 42,       /* a state number not in the network */
     FULGWERZ_VOCABULARY = 51   /* more words than the lent table holds */
 };
@@ -92,6 +93,7 @@ enum {
     FULGWERZ_MAX_CLASSES = 255,
     FULGWERZ_MAX_ROOTS = 192, /* 64 phones of 3 states */
     FULGWERZ_MAX_PLAINS = 64, /* one for each phone */
+    FULGWERZ_MAX_SOUNDS = 1000000, /* phones of a sequence that is transcribed */
     FULGWERZ_MAX_COMBINATIONS = 65535,
     FULGWERZ_MAX_METASTATES = 65535, /* so there are never more turns than this */
     FULGWERZ_MAX_ARCS = 999999, /* of a network, and of a joined one */
@@ -136,13 +138,21 @@ typedef struct {
 typedef struct {
     uint32_t fault;
     size_t line;
-    uint32_t leaf;  /* the node number of the leaf */
+    uint32_t leaf;       /* the node number of the leaf */
+    uint32_t questions;  /* how many questions were met on the way to it */
 } fulgwerz_leaf_answer;
 
 typedef struct {
     uint32_t fault;
     size_t line;
-    size_t count;  /* of models, combinations, bytes or words, as the entry says */
+    size_t count;        /* of models */
+    uint64_t questions;  /* how many questions were put, over all phones and states */
+} fulgwerz_transcript_answer;
+
+typedef struct {
+    uint32_t fault;
+    size_t line;
+    size_t count;  /* of combinations, bytes or words, as the entry says */
 } fulgwerz_count_answer;
 
 typedef struct {
@@ -205,8 +215,9 @@ fulgwerz_count_answer fulgwerz_write_book(
     uint8_t *text, size_t text_length);
 
 /*
- * The leaf that a context reaches from a root. Any node may be the root; the context is 2n+1 phones. (For a boundary
- * phone that is a root of its plain phone, with the boundary phone itself in the middle of the context.)
+ * The leaf that a context reaches from a root, and the number of questions met on the way: 0 where the root is a leaf.
+ * Any node may be the root; the context is 2n+1 phones. (For a boundary phone that is a root of its plain phone, with
+ * the boundary phone itself in the middle of the context.)
  * Faults: 18, also for a root that is no node; 13 for another context.
  */
 fulgwerz_leaf_answer fulgwerz_leaf(
@@ -229,10 +240,11 @@ fulgwerz_leaf_answer fulgwerz_leaf_in_list(
 
 /*
  * The models that the trees give to a phone sequence: for each phone, one for each of its states. Fills models;
- * count is how many there are, phones_length times header.states.
+ * count is how many there are, phones_length times header.states. And how many questions were put for them, the sum of
+ * what the walks met, one for each phone and state. A sequence has at most 1000000 phones.
  * Faults: 18, 41, 33.
  */
-fulgwerz_count_answer fulgwerz_transcribe(
+fulgwerz_transcript_answer fulgwerz_transcribe(
     fulgwerz_header header,
     const uint32_t *nodes, size_t nodes_length,
     const uint64_t *classes, size_t classes_length,

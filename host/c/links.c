@@ -278,7 +278,7 @@ static fulgwerz_leaf_answer find_leaf(uint32_t root, const uint32_t *context, si
         HEADER, NODES, COUNT(NODES), CLASSES, COUNT(CLASSES), root, context, context_length);
 }
 
-static fulgwerz_count_answer transcribe(const uint32_t *phones, size_t phones_length, size_t models_length) {
+static fulgwerz_transcript_answer transcribe(const uint32_t *phones, size_t phones_length, size_t models_length) {
     spoil();
     return fulgwerz_transcribe(
         HEADER, NODES, COUNT(NODES), CLASSES, COUNT(CLASSES), ROOTS, COUNT(ROOTS), PLAINS, COUNT(PLAINS),
@@ -364,6 +364,13 @@ static void check_answer_layouts(void) {
     CHECK(offsetof(fulgwerz_leaf_answer, fault) == 0);
     CHECK(offsetof(fulgwerz_leaf_answer, line) == 8);
     CHECK(offsetof(fulgwerz_leaf_answer, leaf) == 16);
+    CHECK(offsetof(fulgwerz_leaf_answer, questions) == 20);
+
+    CHECK(sizeof(fulgwerz_transcript_answer) == 32);
+    CHECK(offsetof(fulgwerz_transcript_answer, fault) == 0);
+    CHECK(offsetof(fulgwerz_transcript_answer, line) == 8);
+    CHECK(offsetof(fulgwerz_transcript_answer, count) == 16);
+    CHECK(offsetof(fulgwerz_transcript_answer, questions) == 24);
 
     CHECK(sizeof(fulgwerz_count_answer) == 24);
     CHECK(offsetof(fulgwerz_count_answer, fault) == 0);
@@ -479,26 +486,26 @@ static void check_leaf(void) {
     static const uint32_t after_silence[] = {1, 2, 1}, after_two[] = {2, 2, 1}, beyond[] = {3, 2, 1};
 
     fulgwerz_leaf_answer leaf = find_leaf(1, after_silence, 3);
-    CHECK(leaf.fault == 0 && leaf.line == 0 && leaf.leaf == 2);
+    CHECK(leaf.fault == 0 && leaf.line == 0 && leaf.leaf == 2 && leaf.questions == 1);
     leaf = find_leaf(1, after_two, 3);
-    CHECK(leaf.fault == 0 && leaf.line == 0 && leaf.leaf == 3);
+    CHECK(leaf.fault == 0 && leaf.line == 0 && leaf.leaf == 3 && leaf.questions == 1);
     leaf = find_leaf(3, after_silence, 3);
-    CHECK(leaf.fault == 0 && leaf.line == 0 && leaf.leaf == 3);
+    CHECK(leaf.fault == 0 && leaf.line == 0 && leaf.leaf == 3 && leaf.questions == 0);
 
     leaf = find_leaf(1, after_silence, 2);
-    CHECK(leaf.fault == FULGWERZ_RANGE && leaf.line == 0 && leaf.leaf == 0);
+    CHECK(leaf.fault == FULGWERZ_RANGE && leaf.line == 0 && leaf.leaf == 0 && leaf.questions == 0);
     leaf = find_leaf(1, beyond, 3);
-    CHECK(leaf.fault == FULGWERZ_RANGE && leaf.line == 0 && leaf.leaf == 0);
+    CHECK(leaf.fault == FULGWERZ_RANGE && leaf.line == 0 && leaf.leaf == 0 && leaf.questions == 0);
     leaf = find_leaf(4, after_silence, 3);
-    CHECK(leaf.fault == FULGWERZ_FOREIGN && leaf.line == 0 && leaf.leaf == 0);
+    CHECK(leaf.fault == FULGWERZ_FOREIGN && leaf.line == 0 && leaf.leaf == 0 && leaf.questions == 0);
 
     /* Tables may be lent as reading left them, with 0 beyond the book's words. */
     read_book(BOOK, BOOK_BYTES, COUNT(nodes));
     leaf = fulgwerz_leaf(HEADER, nodes, COUNT(nodes), classes, COUNT(classes), 1, after_two, 3);
-    CHECK(leaf.fault == 0 && leaf.line == 0 && leaf.leaf == 3);
+    CHECK(leaf.fault == 0 && leaf.line == 0 && leaf.leaf == 3 && leaf.questions == 1);
     nodes[COUNT(NODES)] = 1;
     leaf = fulgwerz_leaf(HEADER, nodes, COUNT(nodes), classes, COUNT(classes), 1, after_two, 3);
-    CHECK(leaf.fault == FULGWERZ_FOREIGN && leaf.line == 0 && leaf.leaf == 0);
+    CHECK(leaf.fault == FULGWERZ_FOREIGN && leaf.line == 0 && leaf.leaf == 0 && leaf.questions == 0);
 }
 
 static void check_leaf_in_list(void) {
@@ -506,38 +513,61 @@ static void check_leaf_in_list(void) {
     static const uint32_t after_silence[] = {1, 2, 1}, after_two[] = {2, 2, 1};
 
     fulgwerz_leaf_answer leaf = fulgwerz_leaf_in_list(HEADER, list, 4, CLASSES, COUNT(CLASSES), 1, after_silence, 3);
-    CHECK(leaf.fault == 0 && leaf.line == 0 && leaf.leaf == 2);
+    CHECK(leaf.fault == 0 && leaf.line == 0 && leaf.leaf == 2 && leaf.questions == 1);
     leaf = fulgwerz_leaf_in_list(HEADER, list, 4, CLASSES, COUNT(CLASSES), 1, after_two, 3);
-    CHECK(leaf.fault == 0 && leaf.line == 0 && leaf.leaf == 3);
+    CHECK(leaf.fault == 0 && leaf.line == 0 && leaf.leaf == 3 && leaf.questions == 1);
     leaf = fulgwerz_leaf_in_list(HEADER, list, 4, CLASSES, COUNT(CLASSES), 1, after_two, 2);
-    CHECK(leaf.fault == FULGWERZ_RANGE && leaf.line == 0 && leaf.leaf == 0);
+    CHECK(leaf.fault == FULGWERZ_RANGE && leaf.line == 0 && leaf.leaf == 0 && leaf.questions == 0);
     leaf = fulgwerz_leaf_in_list(HEADER, list, 3, CLASSES, COUNT(CLASSES), 1, after_two, 3);
-    CHECK(leaf.fault == FULGWERZ_FOREIGN && leaf.line == 0 && leaf.leaf == 0);
+    CHECK(leaf.fault == FULGWERZ_FOREIGN && leaf.line == 0 && leaf.leaf == 0 && leaf.questions == 0);
 }
 
 static void check_transcribe(void) {
     static const uint32_t phones[] = {1, 2, 2, 1};
     static const uint32_t one[] = {10}, four[] = {10, 20, 21, 10};
 
-    fulgwerz_count_answer given = transcribe(phones, 1, COUNT(models));
-    CHECK(given.fault == 0 && given.line == 0 && given.count == 1);
+    fulgwerz_transcript_answer given = transcribe(phones, 1, COUNT(models));
+    CHECK(given.fault == 0 && given.line == 0 && given.count == 1 && given.questions == 0);
     CHECK(HOLDS(models, one));
     given = transcribe(phones, 4, COUNT(models));
-    CHECK(given.fault == 0 && given.line == 0 && given.count == 4);
+    CHECK(given.fault == 0 && given.line == 0 && given.count == 4 && given.questions == 2);
     CHECK(HOLDS(models, four));
     given = transcribe(phones, 4, 4);
-    CHECK(given.fault == 0 && given.line == 0 && given.count == 4);
+    CHECK(given.fault == 0 && given.line == 0 && given.count == 4 && given.questions == 2);
     CHECK(memcmp(models, four, sizeof four) == 0 && models[4] == 0xa5a5a5a5);
 
     given = transcribe(phones, 4, 3);
-    CHECK(given.fault == FULGWERZ_SHORT && given.line == 0 && given.count == 0);
+    CHECK(given.fault == FULGWERZ_SHORT && given.line == 0 && given.count == 0 && given.questions == 0);
     CHECK(holds(models, 3 * sizeof models[0], "", 0));
     given = transcribe(phones, 0, COUNT(models));
-    CHECK(given.fault == FULGWERZ_UTTERANCE && given.line == 0 && given.count == 0);
+    CHECK(given.fault == FULGWERZ_UTTERANCE && given.line == 0 && given.count == 0 && given.questions == 0);
     CHECK(CLEARED(models));
     given = transcribe(phones + 2, 2, COUNT(models));
-    CHECK(given.fault == FULGWERZ_UTTERANCE && given.line == 0 && given.count == 0);
+    CHECK(given.fault == FULGWERZ_UTTERANCE && given.line == 0 && given.count == 0 && given.questions == 0);
     CHECK(CLEARED(models));
+}
+
+/* Silence, as many phones 2 as there may be, and silence; and one phone 2 more, which is 41 before 33. */
+static void check_long(void) {
+    static uint32_t phones[FULGWERZ_MAX_SOUNDS + 1], given_models[FULGWERZ_MAX_SOUNDS];
+    for (size_t i = 0; i < COUNT(phones); i++) {
+        phones[i] = 2;
+    }
+    phones[0] = phones[FULGWERZ_MAX_SOUNDS - 1] = 1;
+    fulgwerz_transcript_answer given = fulgwerz_transcribe(
+        HEADER, NODES, COUNT(NODES), CLASSES, COUNT(CLASSES), ROOTS, COUNT(ROOTS), PLAINS, COUNT(PLAINS),
+        phones, FULGWERZ_MAX_SOUNDS, given_models, COUNT(given_models));
+    CHECK(given.fault == 0 && given.count == FULGWERZ_MAX_SOUNDS && given.questions == FULGWERZ_MAX_SOUNDS - 2);
+    CHECK(given_models[0] == 10 && given_models[1] == 20 && given_models[2] == 21);
+    CHECK(given_models[FULGWERZ_MAX_SOUNDS - 2] == 21 && given_models[FULGWERZ_MAX_SOUNDS - 1] == 10);
+
+    phones[FULGWERZ_MAX_SOUNDS - 1] = 2;
+    phones[FULGWERZ_MAX_SOUNDS] = 1;
+    given = fulgwerz_transcribe(
+        HEADER, NODES, COUNT(NODES), CLASSES, COUNT(CLASSES), ROOTS, COUNT(ROOTS), PLAINS, COUNT(PLAINS),
+        phones, FULGWERZ_MAX_SOUNDS + 1, given_models, COUNT(given_models));
+    CHECK(given.fault == FULGWERZ_UTTERANCE && given.line == 0 && given.count == 0 && given.questions == 0);
+    CHECK(CLEARED(given_models));
 }
 
 static void check_combine(void) {
@@ -662,11 +692,11 @@ static void check_dialect_read(void) {
 static void check_dialect_tables(void) {
     static const uint32_t phones[] = {1, 2, 3, 1}, four[] = {10, 20, 21, 10};
     spoil();
-    fulgwerz_count_answer given = fulgwerz_transcribe(
+    fulgwerz_transcript_answer given = fulgwerz_transcribe(
         DIALECT_HEADER, NODES, COUNT(NODES), DIALECT_CLASSES, COUNT(DIALECT_CLASSES),
         DIALECT_ROOTS, COUNT(DIALECT_ROOTS), DIALECT_PLAINS, COUNT(DIALECT_PLAINS),
         phones, COUNT(phones), models, COUNT(models));
-    CHECK(given.fault == 0 && given.line == 0 && given.count == 4);
+    CHECK(given.fault == 0 && given.line == 0 && given.count == 4 && given.questions == 2);
     CHECK(HOLDS(models, four));
 
     fulgwerz_count_answer combined = fulgwerz_combine(
@@ -896,6 +926,7 @@ int main(void) {
     check_leaf();
     check_leaf_in_list();
     check_transcribe();
+    check_long();
     check_combine();
     check_build();
     check_build_refusals();

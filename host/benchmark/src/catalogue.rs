@@ -39,6 +39,14 @@ pub fn written() -> Vec<Measured> {
     books
 }
 
+/// The books by which phones are transcribed: some of those that are built, one of them without questions.
+pub fn transcribed() -> Vec<Measured> {
+    let mut books = catalogue();
+    let names = ["triphone-40", "triphone-64", "quinphone-20", "septaphone-15", "free-1-64"];
+    books.retain(|measured| names.contains(&measured.name.as_str()));
+    books
+}
+
 fn add(books: &mut Vec<Measured>, kind: &'static str, name: String, book: Book) {
     books.push(Measured { name, kind, book });
 }

@@ -1,9 +1,10 @@
-//! Compares the proved build with the plain one, on the same books in the same run, and the writing of books and the
-//! joining with words likewise.
+//! Compares the proved build with the plain one, on the same books in the same run, and the writing of books, the
+//! joining with words and the transcription of phones likewise.
 //!
-//!     benchmark [--largest] [NAME..]          builds of all books, writing and joining; or builds of those named
+//!     benchmark [--largest] [NAME..]          builds of all books, and the others; or builds of those named
 //!     benchmark --writing                     the writing of books alone
 //!     benchmark --joining                     the joining with words alone
+//!     benchmark --transcribing                the transcription of phones alone
 //!     benchmark --list                        the names
 //!     benchmark --only proved|plain NAME N    one side builds one book N times, for a profiler
 
@@ -16,6 +17,7 @@ mod measuring;
 mod memory;
 mod openfst;
 mod tables;
+mod transcribing;
 mod writing;
 
 use builds::{build, Buffers, ReadBook, Room, Side};
@@ -34,6 +36,7 @@ fn main() {
         ["--list"] => catalogue().iter().for_each(|measured| println!("{}", measured.name)),
         ["--writing"] => compare_writing(),
         ["--joining"] => compare_joining(),
+        ["--transcribing"] => compare_transcribing(),
         ["--only", side, name, times] => repeat(side, name, times),
         ["--largest", ref names @ ..] => compare(names, true),
         ref names => compare(names, false),
@@ -102,6 +105,8 @@ fn compare(names: &[&str], largest_room: bool) {
         compare_writing();
         println!();
         compare_joining();
+        println!();
+        compare_transcribing();
     }
 }
 
@@ -128,6 +133,16 @@ fn compare_joining() {
         }
     });
     compose(&joins);
+}
+
+fn compare_transcribing() {
+    println!("Both sides transcribe the same million phones, at random between silences, in turn, into as many models");
+    println!("as there are. Answers, models and the sums of the questions are compared.\n");
+    println!("{}", tables::transcribing_head());
+    for Measured { name, book, .. } in catalogue::transcribed() {
+        let book = ReadBook::new(&book);
+        println!("{}", tables::transcribing_row(&name, book.header, &transcribing::measure(&book)));
+    }
 }
 
 /// OpenFst's composition beside them, where it is installed.

@@ -4,6 +4,7 @@ use crate::joining::JoinCosts;
 use crate::joins::MeasuredJoin;
 use crate::measuring::Measurement;
 use crate::openfst::Composed;
+use crate::transcribing::Transcribed;
 use crate::writing::Written;
 use fulgwerz::Header;
 use std::time::Duration;
@@ -78,6 +79,19 @@ const JOINING: [Column; 16] = [
     ("heap kB", 7),
 ];
 
+const TRANSCRIBING: [Column; 10] = [
+    ("book", 13),
+    ("n", 1),
+    ("k", 1),
+    ("phones", 6),
+    ("questions a phone", 17),
+    ("proved ms", 9),
+    ("plain ms", 9),
+    ("proved ns/phone", 15),
+    ("plain ns/phone", 14),
+    ("proved/plain", 12),
+];
+
 const COMPOSING: [Column; 4] = [("join", 20), ("states", 6), ("arcs", 6), ("whole process ms", 16)];
 
 pub fn speed_head() -> String {
@@ -116,6 +130,28 @@ pub fn joining_row(measured: &MeasuredJoin, costs: &JoinCosts) -> String {
         kilobytes(proved.stack),
         kilobytes(plain.stack),
         kilobytes(plain.heap),
+    ])
+}
+
+pub fn transcribing_head() -> String {
+    head(&TRANSCRIBING)
+}
+
+pub fn transcribing_row(name: &str, header: Header, transcribed: &Transcribed) -> String {
+    let Transcribed { answer, proved, plain } = *transcribed;
+    let sounds = answer.count as f64 / f64::from(header.states);
+    let per_sound = |time: Duration| format!("{:.1}", time.as_secs_f64() * 1e9 / sounds);
+    row(&TRANSCRIBING, &[
+        name.into(),
+        header.half.to_string(),
+        header.states.to_string(),
+        header.phones.to_string(),
+        format!("{:.1}", answer.questions as f64 / sounds),
+        milliseconds(proved),
+        milliseconds(plain),
+        per_sound(proved),
+        per_sound(plain),
+        ratio(proved, plain),
     ])
 }
 

@@ -50,6 +50,19 @@ pub struct LeafAnswer {
     pub fault: u32,
     pub line: usize,
     pub leaf: u32,
+    /// How many questions were met on the way to it.
+    pub questions: u32,
+}
+
+#[repr(C)]
+#[derive(Clone, Copy, Debug, Default, PartialEq, Eq)]
+pub struct TranscriptAnswer {
+    pub fault: u32,
+    pub line: usize,
+    /// Models.
+    pub count: usize,
+    /// How many questions were put, over all phones and states.
+    pub questions: u64,
 }
 
 #[repr(C)]
@@ -57,7 +70,7 @@ pub struct LeafAnswer {
 pub struct CountAnswer {
     pub fault: u32,
     pub line: usize,
-    /// Models, combinations, bytes or words, as the entry says.
+    /// Combinations, bytes or words, as the entry says.
     pub count: usize,
 }
 
@@ -184,7 +197,7 @@ mod raw {
             plains: *const u32, plains_length: usize,
             phones: *const u32, phones_length: usize,
             models: *mut u32, models_length: usize,
-        ) -> CountAnswer;
+        ) -> TranscriptAnswer;
 
         pub fn fulgwerz_combine(
             header: Header,
@@ -304,7 +317,7 @@ pub fn leaf_in_list(header: Header, nodes: &[Node], classes: &[u64], root: u32, 
 }
 
 /// The models of a phone sequence.
-pub fn transcribe(header: Header, tables: Tables, phones: &[u32], models: &mut [u32]) -> CountAnswer {
+pub fn transcribe(header: Header, tables: Tables, phones: &[u32], models: &mut [u32]) -> TranscriptAnswer {
     let Tables { nodes, classes, roots, plains } = tables;
     unsafe {
         raw::fulgwerz_transcribe(

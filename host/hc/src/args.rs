@@ -12,7 +12,8 @@ pub enum Command {
     Check { book: OsString },
     Plain { book: OsString, plain: OsString },
     Same { one: OsString, other: OsString },
-    Transcribe { book: OsString, phones: Vec<u32> },
+    Transcribe { book: OsString, phones: Vec<u32>, questions: bool },
+    Questions { book: OsString },
     Arcs { network: OsString, state: u32 },
     Words { words: OsString },
     Join { network: OsString, words: OsString, joined: OsString },
@@ -28,6 +29,7 @@ pub enum Verb {
     Plain,
     Same,
     Transcribe,
+    Questions,
     Arcs,
     Words,
     Join,
@@ -41,6 +43,7 @@ impl Verb {
             "plain" => Some(Verb::Plain),
             "same" => Some(Verb::Same),
             "transcribe" => Some(Verb::Transcribe),
+            "questions" => Some(Verb::Questions),
             "arcs" => Some(Verb::Arcs),
             "words" => Some(Verb::Words),
             "join" => Some(Verb::Join),
@@ -54,6 +57,7 @@ impl Verb {
 struct Given {
     words: Vec<OsString>,
     output: Option<OsString>,
+    questions: bool,
     help: bool,
 }
 
@@ -87,7 +91,7 @@ fn unknown_command(name: &OsStr) -> Failure {
 }
 
 fn command(verb: Verb, rest: &[OsString]) -> Result<Command, Failure> {
-    let Given { words, output, help } = sort(verb, rest)?;
+    let Given { words, output, questions, help } = sort(verb, rest)?;
     if help {
         return Ok(Command::Help(Some(verb)));
     }
@@ -102,8 +106,9 @@ fn command(verb: Verb, rest: &[OsString]) -> Result<Command, Failure> {
         (Verb::Same, [one, other]) => Ok(Command::Same { one: one.clone(), other: other.clone() }),
         (Verb::Transcribe, [book, phones @ ..]) if !phones.is_empty() => {
             let phones = phones.iter().map(|phone| number(verb, phone)).collect::<Result<_, _>>()?;
-            Ok(Command::Transcribe { book: book.clone(), phones })
+            Ok(Command::Transcribe { book: book.clone(), phones, questions })
         }
+        (Verb::Questions, [book]) => Ok(Command::Questions { book: book.clone() }),
         (Verb::Arcs, [network, state]) => Ok(Command::Arcs { network: network.clone(), state: number(verb, state)? }),
         (Verb::Words, [words]) => Ok(Command::Words { words: words.clone() }),
         (Verb::Join, [network, words]) if network == "-" && words == "-" => {
@@ -124,6 +129,7 @@ fn sort(verb: Verb, rest: &[OsString]) -> Result<Given, Failure> {
         match argument.to_str() {
             Some("--") => given.words.extend(rest.by_ref().cloned()),
             Some("--help" | "-h") => given.help = true,
+            Some("--questions") if verb == Verb::Transcribe => given.questions = true,
             Some("-o") if help::output(verb).is_some() => {
                 let Some(output) = rest.next() else {
                     let what = help::output(verb).unwrap_or_default();

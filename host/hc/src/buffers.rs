@@ -3,7 +3,7 @@
 
 use crate::faults::{CHOICES, CROWD, NARROW, TANGLE};
 use crate::inputs::LINE;
-use fulgwerz::{BuildAnswer, Header, NetworkAnswer, ReadAnswer, Space, Tables, TablesMut};
+use fulgwerz::{BuildAnswer, Header, NetworkAnswer, ReadAnswer, Space, Tables, TablesMut, TranscriptAnswer};
 
 /// Words of a record.
 const NODE: usize = 5;
@@ -96,12 +96,12 @@ pub fn write_book(header: Header, tables: &BookTables, room: usize) -> (u32, Vec
     (answer.fault, text)
 }
 
-/// The models of the phones: the fault, and one model for each phone and state.
-pub fn transcribe(header: Header, tables: &BookTables, phones: &[u32]) -> (u32, Vec<u32>) {
+/// The models of the phones: the answer, and one model for each phone and state.
+pub fn transcribe(header: Header, tables: &BookTables, phones: &[u32]) -> (TranscriptAnswer, Vec<u32>) {
     let mut models = vec![0; phones.len() * header.states as usize];
     let answer = fulgwerz::transcribe(header, tables.lent_to_read(), phones, &mut models);
     models.truncate(answer.count);
-    (answer.fault, models)
+    (answer, models)
 }
 
 /// The network of a book: the answer, and the arcs that it counts.

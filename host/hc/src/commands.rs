@@ -9,6 +9,7 @@ use crate::faults;
 use crate::help;
 use crate::inputs::{self, LINE};
 use crate::outputs;
+use crate::questions;
 use crate::showing;
 use crate::stages::Stage;
 use crate::word_books::WordBook;
@@ -25,7 +26,8 @@ pub fn perform(command: Command) -> Result<ExitCode, Failure> {
         Command::Check { book } => check(&book),
         Command::Plain { book, plain } => plain_form(&book, &plain),
         Command::Same { one, other } => return same(&one, &other),
-        Command::Transcribe { book, phones } => transcribe(&book, &phones),
+        Command::Transcribe { book, phones, questions } => transcribe(&book, &phones, questions),
+        Command::Questions { book } => questions_asked(&book),
         Command::Arcs { network, state } => arcs(&network, state),
         Command::Words { words } => words_accepted(&words),
         Command::Join { network, words, joined } => join(&network, &words, &joined),
@@ -98,16 +100,21 @@ fn same(one: &OsStr, other: &OsStr) -> Result<ExitCode, Failure> {
     Ok(ExitCode::from(1))
 }
 
-/// Prints the models in one line.
-fn transcribe(book: &OsStr, phones: &[u32]) -> Result<(), Failure> {
+/// Prints the models in one line, and in a second one how many questions were put, if that is asked for.
+fn transcribe(book: &OsStr, phones: &[u32], with_questions: bool) -> Result<(), Failure> {
     let Book { text, header, tables } = Book::read(book)?;
-    let (fault, models) = buffers::transcribe(header, &tables, phones);
-    if fault != 0 {
+    let (answer, models) = buffers::transcribe(header, &tables, phones);
+    if answer.fault != 0 {
         let range = format!("(the phones of this book are 1 to {})", header.phones);
-        return Err(faults::explain(&text, fault, 0).adding(&range));
+        return Err(faults::explain(&text, answer.fault, 0).adding(&range));
     }
     let models: Vec<String> = models.iter().map(u32::to_string).collect();
-    outputs::to_stdout(format!("{}\n", models.join(" ")).as_bytes())
+    let sum = if with_questions { format!("{}\n", answer.questions) } else { String::new() };
+    outputs::to_stdout(format!("{}\n{sum}", models.join(" ")).as_bytes())
+}
+
+fn questions_asked(book: &OsStr) -> Result<(), Failure> {
+    outputs::to_stdout(questions::table(&Book::read(book)?).as_bytes())
 }
 
 /// A network that was read and accepted: its text, its counts and its arcs.

@@ -56,7 +56,12 @@ const FAULTS: [Fault; 17] = [
         half-width or fewer phones help most",
     ),
     Fault(33, "short", "the library was lent too little space for its answer: a mistake in hc, not in the text"),
-    Fault(41, "utterance", "the phones must begin and end with silence, which is phone 1, and be phones of the book"),
+    Fault(
+        41,
+        "utterance",
+        "the phones must begin and end with silence, which is phone 1, be phones of the book, \
+        and be no more than 1000000",
+    ),
     Fault(42, "state", "the network has no such state"),
     Fault(51, "vocabulary", "the library was lent a table for too few words: a mistake in hc, not in the text"),
 ];

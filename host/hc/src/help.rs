@@ -8,7 +8,9 @@ usage:
   hc check BOOK                says whether a book is accepted, or what is wrong
   hc plain BOOK [-o FILE]      writes the plain form of a book
   hc same BOOK BOOK            says whether two books are the same, or where not
-  hc transcribe BOOK PHONE..   prints the models that the trees give to phones
+  hc transcribe [--questions] BOOK PHONE..
+                               prints the models that the trees give to phones
+  hc questions BOOK            prints how many questions each tree asks
   hc arcs NETWORK STATE        prints the arcs that leave a state of a network
   hc words WORDBOOK            says whether a word book is right, or what is not
   hc join NETWORK WORDBOOK [-o FILE]
@@ -32,6 +34,7 @@ examples:
   hc plain welsh.book -o welsh.plain
   hc same welsh.book cardiff.book
   hc transcribe welsh.book 1 2 2 1
+  hc questions welsh.book
   hc arcs welsh.network 0
   hc words orders.words
   hc join welsh.network orders.words -o welsh.joined
@@ -108,8 +111,26 @@ for each phone as many as it has states. The phones must begin and end with
 silence, phone 1; what lies beyond them counts as silence too. BOOK may be -
 for standard input.
 
+With --questions a second line says how many questions were put for them: those
+that the walks from the roots to the leaves meet, one walk for each phone and
+state.
+
 examples:
   hc transcribe welsh.book 1 2 2 1
+  hc transcribe --questions welsh.book 1 2 2 1
+";
+
+const QUESTIONS: &str = "
+
+Prints a line for each phone and state of the book: how many leaves its tree
+has, how many questions the deepest walk from the root to a leaf meets, and how
+many a walk meets on average, each leaf counted once. A boundary phone has the
+trees of its plain phone, which is named. The last line is about all trees that
+are used. BOOK may be - for standard input.
+
+examples:
+  hc questions welsh.book
+  hc questions welsh.book | sort -k 4 -n -r | head
 ";
 
 const ARCS: &str = "
@@ -164,7 +185,8 @@ pub fn usage(verb: Verb) -> &'static str {
         Verb::Check => "hc check BOOK",
         Verb::Plain => "hc plain BOOK [-o FILE]",
         Verb::Same => "hc same BOOK BOOK",
-        Verb::Transcribe => "hc transcribe BOOK PHONE..",
+        Verb::Transcribe => "hc transcribe [--questions] BOOK PHONE..",
+        Verb::Questions => "hc questions BOOK",
         Verb::Arcs => "hc arcs NETWORK STATE",
         Verb::Words => "hc words WORDBOOK",
         Verb::Join => "hc join NETWORK WORDBOOK [-o FILE]",
@@ -174,7 +196,7 @@ pub fn usage(verb: Verb) -> &'static str {
 /// What a command asks for.
 pub fn wanted(verb: Verb) -> &'static str {
     match verb {
-        Verb::Build | Verb::Check | Verb::Plain => "one BOOK is needed",
+        Verb::Build | Verb::Check | Verb::Plain | Verb::Questions => "one BOOK is needed",
         Verb::Same => "two BOOKs are needed",
         Verb::Transcribe => "a BOOK and one PHONE or more are needed",
         Verb::Arcs => "one NETWORK and one STATE are needed",
@@ -205,6 +227,7 @@ pub fn text(verb: Option<Verb>) -> String {
         Verb::Plain => PLAIN,
         Verb::Same => SAME,
         Verb::Transcribe => TRANSCRIBE,
+        Verb::Questions => QUESTIONS,
         Verb::Arcs => ARCS,
         Verb::Words => WORDS,
         Verb::Join => JOIN,

@@ -12,6 +12,7 @@ mod faults;
 mod help;
 mod inputs;
 mod outputs;
+mod questions;
 mod ragged;
 mod showing;
 mod stages;

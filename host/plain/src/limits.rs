@@ -13,6 +13,8 @@ pub const MOST_WORDS: usize = 9999;
 /// Phones of a word.
 pub const MOST_PLACES: usize = 64;
 pub const MOST_JOINED: usize = 65535;
+/// Phones of a sequence that is transcribed.
+pub const MOST_SOUNDS: usize = 1_000_000;
 
 pub const NODE: usize = 5;
 pub const COMBINATION: usize = 11;

@@ -70,17 +70,18 @@ fn space_and_turns_are_the_document_s() {
     assert_eq!((stopped.finished, stopped.turns, stopped.counts.arcs), (false, 3, 9));
 }
 
+/// With the number of questions that document 02 asks for.
 #[test]
 fn models_are_the_document_s() {
     let book = Read::new(BOOK.as_bytes());
     let given = |phones: &[u32]| {
         let mut models = [7; 4];
         let answer = plain::transcribe(book.header, book.tables(), phones, &mut models);
-        (answer.fault, models[..answer.count].to_vec())
+        (answer.fault, models[..answer.count].to_vec(), answer.questions)
     };
-    assert_eq!(given(&[1]), (0, vec![10]));
-    assert_eq!(given(&[1, 2, 1]), (0, vec![10, 20, 10]));
-    assert_eq!(given(&[1, 2, 2, 1]), (0, vec![10, 20, 21, 10]));
-    assert_eq!(given(&[]), (41, vec![]));
-    assert_eq!(given(&[2, 1]), (41, vec![]));
+    assert_eq!(given(&[1]), (0, vec![10], 0));
+    assert_eq!(given(&[1, 2, 1]), (0, vec![10, 20, 10], 1));
+    assert_eq!(given(&[1, 2, 2, 1]), (0, vec![10, 20, 21, 10], 2));
+    assert_eq!(given(&[]), (41, vec![], 0));
+    assert_eq!(given(&[2, 1]), (41, vec![], 0));
 }

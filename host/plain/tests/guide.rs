@@ -1,4 +1,5 @@
-//! The guide's book with a boundary phone: what the guide says about it is so.
+//! The guide's book with a boundary phone and its two books with walks of different lengths: what the guide says about
+//! them is so.
 
 mod reading;
 
@@ -27,9 +28,7 @@ fn gives(book: &str, phones: &[u32], given: &str) {
 
 #[test]
 fn the_guide_shows_the_book() {
-    let block = GUIDE.split("```\n").find(|block| block.contains("B     4     2")).expect("the book");
-    let shown: String = block.lines().map(|line| format!("{:31}\n", line.get(..31).unwrap_or(line))).collect();
-    assert_eq!(shown.as_bytes(), lines(DIALECT));
+    assert_eq!(shown("B     4     2"), lines(DIALECT));
 }
 
 #[test]
@@ -47,4 +46,48 @@ fn a_chain_is_refused() {
     let (answer, _) = Read::answered(&lines(&fifth));
     assert_eq!((answer.fault, answer.line), (21, 13));
     assert_eq!(models(&fifth.replace("B 5 4", "B 5 2"), &[1, 3, 5, 1]), "10 31 20 10");
+}
+
+/// Phone 2 has a model of its own after each phone: its tree asks for one after the other, or for halves first.
+const ONE_BY_ONE: &str = "H 1 1 5 4 13 / Q 1 1 / Q 2 2 / Q 3 3 / Q 4 4 / L 0 10 / N 1 1 0 2 3 / L 2 21 / N 3 2 0 4 5 / \
+    L 4 22 / N 5 3 0 6 7 / L 6 23 / N 7 4 0 8 9 / L 8 24 / L 9 25 / L 10 30 / L 11 40 / L 12 50 / \
+    R 1 1 0 / R 2 1 1 / R 3 1 10 / R 4 1 11 / R 5 1 12";
+
+const HALVES: [&str; 2] = [
+    "Q 1 1 / Q 1 2 / Q 2 1 / Q 3 3 / Q 4 4",
+    "N 1 1 0 2 5 / N 2 2 0 3 4 / L 3 21 / L 4 22 / N 5 3 0 6 7",
+];
+
+fn halves() -> String {
+    ONE_BY_ONE
+        .replace("Q 1 1 / Q 2 2 / Q 3 3 / Q 4 4", HALVES[0])
+        .replace("N 1 1 0 2 3 / L 2 21 / N 3 2 0 4 5 / L 4 22 / N 5 3 0 6 7", HALVES[1])
+}
+
+/// The lines of the guide's block that has this line, without the words to their right.
+fn shown(line: &str) -> Vec<u8> {
+    let block = GUIDE.split("```\n").find(|block| block.contains(line)).expect("the book");
+    block.lines().map(|line| format!("{:31}\n", line.get(..31).unwrap_or(line))).collect::<String>().into_bytes()
+}
+
+#[test]
+fn the_guide_shows_the_walks() {
+    assert_eq!(shown("N     1     1     0     2     3     phone 2"), lines(ONE_BY_ONE));
+    assert_eq!(shown("N     1     1     0     2     5     phone 2"), lines(&HALVES.join(" / ")));
+}
+
+#[track_caller]
+fn puts(book: &str, phones: &[u32], given: &str, questions: u64) {
+    let read = Read::new(&lines(book));
+    let answer = plain::transcribe(read.header, read.tables(), phones, &mut vec![0; phones.len()]);
+    assert_eq!(answer.questions, questions);
+    gives(book, phones, given);
+}
+
+#[test]
+fn its_walks() {
+    puts(ONE_BY_ONE, &[1, 4, 2, 5, 2, 1], "10 40 24 50 25 10", 8);
+    puts(&halves(), &[1, 4, 2, 5, 2, 1], "10 40 24 50 25 10", 6);
+    puts(ONE_BY_ONE, &[1, 2, 1, 2, 1], "10 21 10 21 10", 2);
+    puts(&halves(), &[1, 2, 1, 2, 1], "10 21 10 21 10", 4);
 }

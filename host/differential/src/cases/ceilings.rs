@@ -24,6 +24,7 @@ pub fn cases() -> Vec<Box<dyn Case>> {
     metastates(&mut cases);
     arcs(&mut cases);
     largest(&mut cases);
+    sounds(&mut cases);
     network(&mut cases);
     working_space(&mut cases);
     plain_forms(&mut cases);
@@ -86,6 +87,26 @@ fn largest(cases: &mut Vec<Box<dyn Case>>) {
         cases.push(Box::new(Combining { tables, words: COMBINATION * 64 }));
         cases.push(building_with(&book, 10_000, 65540, 1_000_010, 100));
     }
+}
+
+/// Sequences of 1000000 phones and of one more, with room for the models and without; and a great sum, over trees with
+/// walks of 511 questions.
+fn sounds(cases: &mut Vec<Box<dyn Case>>) {
+    for book in [resolving(0, 1, 3, &[0]), resolving(1, 2, 3, &[0, 2]), resolving(3, 3, 2, &[0, 6, 3])] {
+        for count in [MOST_SOUNDS, MOST_SOUNDS + 1] {
+            cases.push(spoken(&book, count, 0));
+            cases.push(spoken(&book, count, 1));
+        }
+    }
+    cases.push(spoken(&nodes_1024(), MOST_SOUNDS, 0));
+}
+
+/// All phones of the book in turn between silences, with so many models too few lent.
+fn spoken(book: &Book, count: usize, too_few: usize) -> Box<dyn Case> {
+    let mut phones: Vec<u32> = (1..=book.phones).cycle().take(count).collect();
+    phones[count - 1] = 1;
+    let models = count * book.states as usize - too_few;
+    Box::new(Transcription { tables: OwnTables::of(book, 0), phones, models })
 }
 
 /// The longest network and its text.

@@ -1,5 +1,6 @@
 //! Plain forms read again: accepted into the tables that had the book, written again as they stand, and with the
-//! models that the book had. The library goes the way; it should bring back the plain form and the book's own models.
+//! models that the book had, after as many questions. The library goes the way; it should bring back the plain form and
+//! the book's own models and questions.
 
 use super::tables::OwnTables;
 use super::transcription::sequence;
@@ -7,7 +8,7 @@ use super::Case;
 use crate::lending::Lent;
 use crate::lent_tables::LentTables;
 use crate::outcome::{Outcome, Side};
-use fulgwerz::{CountAnswer, ReadAnswer};
+use fulgwerz::{CountAnswer, ReadAnswer, TranscriptAnswer};
 use plain::books::random_books::random_book;
 use plain::books::Book;
 use plain::limits::MOST_STATES;
@@ -42,7 +43,7 @@ struct Space {
     models_again: Lent<u32>,
 }
 
-type Answers = (CountAnswer, ReadAnswer, CountAnswer, CountAnswer, CountAnswer);
+type Answers = (CountAnswer, ReadAnswer, CountAnswer, TranscriptAnswer, TranscriptAnswer);
 
 impl PlainForm {
     fn lend(&self) -> Space {

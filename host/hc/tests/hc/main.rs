@@ -11,6 +11,7 @@ mod files;
 mod join;
 mod networks;
 mod plain;
+mod questions;
 mod running;
 mod same;
 mod texts;

@@ -6,14 +6,15 @@ use std::ffi::OsString;
 use std::os::unix::ffi::OsStringExt;
 
 /// All commands; `same` comes last, since its mistakes have a status of their own.
-const USAGES: [(&str, &str); 8] = [
+const USAGES: [(&str, &str); 9] = [
     ("build", "usage: hc build BOOK [-o NETWORK]\n"),
     ("check", "usage: hc check BOOK\n"),
-    ("transcribe", "usage: hc transcribe BOOK PHONE..\n"),
+    ("transcribe", "usage: hc transcribe [--questions] BOOK PHONE..\n"),
     ("arcs", "usage: hc arcs NETWORK STATE\n"),
     ("plain", "usage: hc plain BOOK [-o FILE]\n"),
     ("words", "usage: hc words WORDBOOK\n"),
     ("join", "usage: hc join NETWORK WORDBOOK [-o FILE]\n"),
+    ("questions", "usage: hc questions BOOK\n"),
     ("same", "usage: hc same BOOK BOOK\n"),
 ];
 
@@ -86,6 +87,7 @@ fn too_few_or_too_many() {
         "one BOOK is needed",
         "one WORDBOOK is needed",
         "one NETWORK and one WORDBOOK are needed",
+        "one BOOK is needed",
     ];
     for ((command, usage), wanted) in USAGES.into_iter().zip(wanted) {
         run(&[command]).fails(&format!("hc: {wanted}\n{usage}"));
@@ -99,8 +101,9 @@ fn too_few_or_too_many() {
     run(&["words", "book", "book"]).fails(&format!("hc: {}\n{}", wanted[5], USAGES[5].1));
     run(&["join", "network"]).fails(&format!("hc: {}\n{}", wanted[6], USAGES[6].1));
     run(&["join", "network", "words", "words"]).fails(&format!("hc: {}\n{}", wanted[6], USAGES[6].1));
+    run(&["questions", "book", "book"]).fails(&format!("hc: {}\n{}", wanted[7], USAGES[7].1));
     for arguments in [&["same"][..], &["same", "book"], &["same", "book", "book", "book"]] {
-        run(arguments).decides_nothing(&format!("hc: two BOOKs are needed\n{}", USAGES[7].1));
+        run(arguments).decides_nothing(&format!("hc: two BOOKs are needed\n{}", USAGES[8].1));
     }
 }
 
@@ -114,6 +117,8 @@ fn options() {
     run(&["join", "network", "words", "-o"])
         .fails(&format!("hc: after -o the name of the FILE is needed\n{}", USAGES[6].1));
     run(&["words", "book", "-o", "x"]).fails(&format!("hc: there is no option '-o'\n{}", USAGES[5].1));
+    run(&["check", "book", "--questions"]).fails(&format!("hc: there is no option '--questions'\n{}", USAGES[1].1));
+    run(&["questions", "book", "-o", "x"]).fails(&format!("hc: there is no option '-o'\n{}", USAGES[7].1));
     run(&["check", "book", "-o", "x"]).fails(&format!("hc: there is no option '-o'\n{}", USAGES[1].1));
     run(&["same", "book", "book", "-o", "x"]).decides_nothing("hc: there is no option '-o'\nusage: hc same ");
     // After -- nothing is an option.

@@ -1,5 +1,5 @@
-//! The build, the writer of books and the join as they are written for speed alone, the yardstick of the benchmark: no
-//! proofs, the same answers and words.
+//! The build, the writer of books, the join and the transcription as they are written for speed alone, the yardstick of
+//! the benchmark: no proofs, the same answers and words.
 //!
 //! Metastates are found in a hash map; a turn tries only the combinations of the phones in the shifted centre column,
 //! and leaves a meet at its first empty column; a matrix has just the columns of the half-width, known to the compiler.
@@ -9,13 +9,17 @@ mod connecting;
 mod hashing;
 mod joining;
 mod leaves;
+mod transcribing;
 mod writing;
 
 use crate::foreign::{arcs_known, tables_known};
 use crate::limits::{ARC, JOINED};
 use crate::refusal::{require, Refusal, FOREIGN};
+use crate::trees::judge_utterance;
 use crate::words::words_known;
-use fulgwerz::{BuildAnswer, CountAnswer, Counts, Header, JoinAnswer, Joined, Space, Tables, Words};
+use fulgwerz::{
+    BuildAnswer, CountAnswer, Counts, Header, JoinAnswer, Joined, Space, Tables, TranscriptAnswer, Words,
+};
 
 /// A matrix of W = 2n+1 columns, each a set of phones.
 type Matrix<const W: usize> = [u64; W];
@@ -92,4 +96,17 @@ pub fn join(counts: Counts, arcs: &[u32], words: Words, space: Joined) -> JoinAn
     states[JOINED * used.0..].fill(0);
     joined[ARC * used.1..].fill(0);
     answer
+}
+
+/// The models of a phone sequence, as `fulgwerz::transcribe` gives them.
+pub fn transcribe(header: Header, tables: Tables, phones: &[u32], models: &mut [u32]) -> TranscriptAnswer {
+    if let Err(Refusal { fault, line }) = judge_utterance(header, tables, phones, models.len()) {
+        models.fill(0);
+        return TranscriptAnswer { fault, line, ..TranscriptAnswer::default() };
+    }
+    let count = phones.len() * header.states as usize;
+    let (given, rest) = models.split_at_mut(count);
+    rest.fill(0);
+    let questions = transcribing::transcribe(header, tables, phones, given);
+    TranscriptAnswer { count, questions, ..TranscriptAnswer::default() }
 }
