@@ -2,7 +2,7 @@
 -- the book of the lines, the arcs that are decoded from the arc buffer are those of the network, and what
 -- the contexts reach in the tables is what the trees give by the lines.
 use Rattle.std.specs.Prelude.{◌≡◌, ◌↔◌, List, ℕ, T}
-use Rattle.std.proofs.Math.Logic.{Iff·rfl, Iff·symm, Iff·trans, Iff·and}
+use mathlib.Core.Logic.Iff
 use Rattle.std.proofs.Common.{lit<}
 use Rattle.definitions.specs.declared.Header.{Header}
 use Rattle.definitions.specs.Faults.{Outcome, answered}
@@ -78,5 +78,5 @@ module _ (lent : Lent) (text : List ℕ) (lines : List BookLine) (accepted : rea
     pub exactly-by-lines : (M S : List ℕ)
         → ((places : List ℕ) × Carries net.arcs places M S) ↔ Given lines M S
     exactly-by-lines M S =
-        Iff·trans (book-exactly (book_of lines) net built-from M S)
-        (Iff·and Iff·rfl (Iff·symm (given_is lent text lines accepted S M)))
+        Iff.trans (book-exactly (book_of lines) net built-from M S)
+        (Iff.and Iff.rfl (Iff.symm (given_is lent text lines accepted S M)))

@@ -119,7 +119,7 @@ unfolding choose
 choose-holds phone leaves m [] c i =
     let (h, e) = of_one _ (holds_some m) c i in subst (λ z. T (holds_some z.carried)) (sym e) h
 choose-holds phone leaves m (tree ∷ trees) c i =
-    let (l, j, k) = of-concat_map _ c tree i in choose-holds phone _ _ trees c k
+    let (l, j, k) = of-concat_map _ c tree i in choose-holds phone (leaves ++ (l.node ∷ [])) _ trees c k
 
 chosen : (book : Book) → Sound book → (c : Combination) → IsIn c (combinations book) → Chosen book c
 unfolding combinations combinations_of

@@ -5,7 +5,7 @@
 use Rattle.std.specs.Prelude.{◌≡◌, ◌↔◌, T, eqb}
 use Rattle.std.proofs.Math.Path.{refl, sym, ap, ap₂}
 use Rattle.std.proofs.Common.{◌∙◌, subst, take-append-drop}
-use Rattle.std.proofs.Math.Logic.{Iff·trans, Iff·and}
+use mathlib.Core.Logic.Iff
 use mathlib.Core.List.{List, [], ◌∷◌, ◌++◌, append_assoc}
 use Prim.Native.Nat.{ℕ, suc, ◌+◌, ◌-◌, ◌<◌}
 use native.Mathlib.Omega.{arith}
@@ -121,7 +121,7 @@ module _ (book : Book) (sound : Sound book) where
       let last : ℕ = phones_of book (j ∷ js) ! length js in
       let count : suc (length (phones_of book js)) - 1 ≡ length js =
       omega (arith, length-map js (λ i. (combination_at book i).phone)) in
-      rw count (Iff·trans (T_and (eqb first 1) (eqb last 1)) (Iff·and (T-eqb first 1) (T-eqb last 1)))
+      rw count (Iff.trans (T_and (eqb first 1) (eqb last 1)) (Iff.and (T-eqb first 1) (T-eqb last 1)))
 
   passage-admitted : (x : Metastate) (js : List ℕ) → StartOf book (combinations book) x
       → Passage book x js → Admitted book (x.number ∷ js)

@@ -6,7 +6,7 @@
 use Rattle.std.specs.Prelude.{◌≡◌, refl, ◌↔◌, List, [], ◌∷◌, ◌++◌, Bool, true, false, ◌&&◌, T, eqb, take, drop}
 use Rattle.std.proofs.Common.{sym, ap₂, ◌∙◌, subst, length-take-le, take_at}
 use Rattle.std.proofs.Math.Path.{ap}
-use Rattle.std.proofs.Math.Logic.{Iff·rfl, Iff·trans, Iff·and}
+use mathlib.Core.Logic.Iff
 use Rattle.std.proofs.Math.Bool.{and_assoc, and-true}
 use Prim.Native.Nat.{ℕ, zero, suc, ◌+◌, ◌^◌, ◌≤◌, ◌<◌}
 use Rattle.std.proofs.Math.Nat.{suc_inj}
@@ -221,6 +221,6 @@ admits-start (suc half) (column ∷ m) (p ∷ W) l =
 pub start-admits : (half : ℕ) (m : Matrix) (W : List ℕ) → half ≤ length m
     → T (admits (start_cut half m) W) ↔ (T (admits m W) × (take half W ≡ replicate half 1))
 start-admits half m W l =
-    Iff·trans
+    Iff.trans
     (rw (admits-start half m W l) (T_and (admits m W) (same (take half W) (replicate half 1))))
-    (Iff·and Iff·rfl (same-is (take half W) (replicate half 1)))
+    (Iff.and Iff.rfl (same-is (take half W) (replicate half 1)))

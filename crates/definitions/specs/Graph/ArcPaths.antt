@@ -86,7 +86,7 @@ module _ (arcs : List Arc) where
       let (m, _, h') = (leads-cons s i p u).0 h in
       let (n, _, k') = (leads-cons t j q v).0 k in
       let one : i ≡ j = same_place arcs (arc 0 0 0 0) once i j m n (head-eq_of_cons-eq e) in
-      ap₂ ◌∷◌ one (same-places once _ _ p q u v h' k' (tail-eq_of_cons-eq e))
+      ap₂ ◌∷◌ one (same-places once (arc_at arcs i).to (arc_at arcs j).to p q u v h' k' (tail-eq_of_cons-eq e))
 
   -- a place is on a path when its arc is
   pub place-on : Distinct arcs → (place : ℕ) → place < length arcs → (s : ℕ) (p : List ℕ) (u : ℕ)
@@ -99,4 +99,4 @@ module _ (arcs : List Arc) where
       (T-or (eqb place j) (at_least_one (eqb place) p)).1 (inl here)
   place-on once place k s (j ∷ p) u h (inr i) =
       let (_, _, rest) = (leads-cons s j p u).0 h in
-      (T-or (eqb place j) (at_least_one (eqb place) p)).1 (inr (place-on once place k _ p u rest i))
+      (T-or (eqb place j) (at_least_one (eqb place) p)).1 (inr (place-on once place k (arc_at arcs j).to p u rest i))

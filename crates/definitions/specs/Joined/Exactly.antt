@@ -2,7 +2,7 @@
 -- words and the network has a path that carries M and what is spoken.
 use Rattle.std.specs.Prelude.{◌≡◌, ◌↔◌, List, map, ℕ, T}
 use Rattle.std.proofs.Common.{sym, ap, ◌∙◌, subst}
-use Rattle.std.proofs.Math.Logic.{Iff·rfl}
+use mathlib.Core.Logic.Iff
 use Rattle.definitions.specs.Lists.{every, select}
 use Rattle.definitions.specs.Arcs.{Arc, INITIAL, FINAL}
 use Rattle.definitions.specs.Paths.{accepting, without_zeros, Carries, final_last}
@@ -53,7 +53,7 @@ arcs-path arcs M S l linked models phones =
 module _ (words : List (List ℕ)) (good : Speakable words) (arcs : List Arc) (last : T (final_last arcs))
     (table : List Joined) (place : Joined → ℕ) (joins : List Arc) (laid : Laid arcs words table place joins) where
   ends-placed : (l : List Arc) → Linked joins (place start) l (place end) ↔ Linked joins INITIAL l FINAL
-  ends-placed l = rw (laid.starts.1, laid.ends.1) Iff·rfl
+  ends-placed l = rw (laid.starts.1, laid.ends.1) Iff.rfl
 
   decoded : (M W : List ℕ) → Path joins M W → Words words W × Path arcs M (spoken words W)
   decoded M W path =

@@ -22,7 +22,7 @@
 -- nothing else (Speaking.antt, Spelling.antt), and the join lays the arcs of the product between the states that are
 -- reached (Laid.antt); it always finishes (Finishing.antt).
 use Rattle.std.specs.Prelude.{◌≡◌, ◌↔◌, ℕ, T, length}
-use Rattle.std.proofs.Math.Logic.{Iff·rfl, Iff·trans, Iff·and}
+use mathlib.Core.Logic.Iff
 use mathlib.Core.List.{List}
 use Rattle.std.proofs.Common.{lit<}
 use Rattle.definitions.specs.declared.Counts.{Counts}
@@ -79,7 +79,7 @@ module _ (counts : Counts) (arcs : List ℕ) (count : ℕ) (table : List ℕ) (s
       record {
         exactly = λ M W.
             rw (arcs-read space.arcs net.arcs)
-            (Iff·trans
+            (Iff.trans
             (laid-exactly words speakable network last net.table (place_in net) net.arcs lays M W)
-            (Iff·and Iff·rfl (demand.exactly M (spoken words W))));
+            (Iff.and Iff.rfl (demand.exactly M (spoken words W))));
       }

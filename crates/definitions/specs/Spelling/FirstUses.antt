@@ -21,16 +21,16 @@ seen-stays : (seen sets : List ℕ) (x : ℕ) → IsIn x seen → IsIn x (first_
 unfolding first_uses
 seen-stays seen [] x i = i
 seen-stays seen (set ∷ sets) x i =
-    seen-stays _ sets x (step (IsIn x) seen set (λ h. i) (λ h. in_left x seen (set ∷ []) i))
+    seen-stays (if at_least_one (eqb set) seen then seen else seen ++ (set ∷ [])) sets x (step (IsIn x) seen set (λ h. i) (λ h. in_left x seen (set ∷ []) i))
 
 -- what is used has a class
 pub used-first : (seen sets : List ℕ) (x : ℕ) → IsIn x sets → IsIn x (first_uses seen sets)
 unfolding first_uses
 used-first seen [] x i = absurd i
 used-first seen (set ∷ sets) x (inl q) =
-    seen-stays _ sets x
+    seen-stays (if at_least_one (eqb set) seen then seen else seen ++ (set ∷ [])) sets x
     (step (IsIn x) seen set (λ h. subst (λ s. IsIn s seen) (sym q) h) (λ h. in_right x seen (set ∷ []) (inl q)))
-used-first seen (set ∷ sets) x (inr i) = used-first _ sets x i
+used-first seen (set ∷ sets) x (inr i) = used-first (if at_least_one (eqb set) seen then seen else seen ++ (set ∷ [])) sets x i
 
 -- and no other has
 pub first-used : (seen sets : List ℕ) (x : ℕ) → IsIn x (first_uses seen sets) → IsIn x seen ⊎ IsIn x sets
@@ -38,7 +38,7 @@ unfolding first_uses
 first-used seen [] x i = inl i
 first-used seen (set ∷ sets) x i =
     ⊎_elim (step (λ l. IsIn x l → IsIn x seen ⊎ IsIn x (set ∷ sets)) seen set (λ h j. inl j) (λ h. more))
-    (λ j. inr (inr j)) (first-used _ sets x i)
+    (λ j. inr (inr j)) (first-used (if at_least_one (eqb set) seen then seen else seen ++ (set ∷ [])) sets x i)
   where
     more : IsIn x (seen ++ (set ∷ [])) → IsIn x seen ⊎ IsIn x (set ∷ sets)
     more j = ⊎_elim (λ k. inl k) (λ k. inr (inl (of-single set x k))) (of-append x seen (set ∷ []) j)
@@ -48,4 +48,4 @@ pub uses-Distinct : (seen sets : List ℕ) → Distinct seen → Distinct (first
 unfolding first_uses
 uses-Distinct seen [] u = u
 uses-Distinct seen (set ∷ sets) u =
-    uses-Distinct _ sets (step Distinct seen set (λ h. u) (λ new. distinct_more seen set u new))
+    uses-Distinct (if at_least_one (eqb set) seen then seen else seen ++ (set ∷ [])) sets (step Distinct seen set (λ h. u) (λ new. distinct_more seen set u new))

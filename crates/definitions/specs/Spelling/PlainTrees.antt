@@ -4,7 +4,7 @@
 -- nodes stand between others. Both directions of "the same bytes exactly when" go by it.
 use Rattle.std.specs.Prelude.{◌≡◌}
 use Rattle.std.proofs.Math.Path.{refl, ap, ap₂}
-use Rattle.std.proofs.Common.{◌∙◌, inl, inr, arith}
+use Rattle.std.proofs.Common.{◌∙◌, sym, subst, inl, inr, arith}
 use mathlib.Core.List.{List, [], ◌∷◌, ◌++◌, map, append_assoc}
 use Rattle.std.proofs.Math.Bool.{false}
 use Rattle.std.proofs.Math.Option.{Option, none, some}
@@ -117,7 +117,8 @@ module _ (sets : List ℕ) where
       ap₂ (λ (x : Option Tree) (l : List (Option Tree)). x ∷ l)
       (rw a-node (ap some (tree_again levels k t rest at e (omega arith)
       (λ s i. used s (in_left s (sets_in t) (concat_map sets_in there) i)))))
-      (rw moved (trees-again levels (k ++ own) trees (at + size_of t) next (omega arith) (omega arith)
+      (subst (λ (l : List TreeNode). map (found levels l) (roots_from (at + size_of t) trees) ≡ trees)
+      (sym moved) (trees-again levels (k ++ own) trees (at + size_of t) next (omega arith) (omega arith)
       (λ s i. used s (in_right s (sets_in t) (concat_map sets_in there) i))))
 
 -- the trees of numbered trees are those trees

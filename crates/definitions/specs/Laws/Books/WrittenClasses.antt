@@ -101,7 +101,8 @@ module _ (phones : ℕ) where
   sets-from class (set ∷ sets) done lower h =
       let (below, others) = (every-cons (λ set. ltb set (2 ^ phones)) set sets).0 h in
       ap₂ ◌∷◌ (ap set_of found ∙ phones-again phones set (ltb→lt _ _ below))
-      (rw (sym (append_assoc done (own class set) later))
+      (subst (λ (l : List Member). map (λ c. set_of (phones_of_class c l)) (up_from (suc class) (length sets)) ≡ sets)
+      (append_assoc done (own class set) later)
       (sets-from (suc class) sets (done ++ own class set) up_to others))
     where
       later : List Member

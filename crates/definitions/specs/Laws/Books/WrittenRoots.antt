@@ -41,7 +41,7 @@ follows-parts : (states : ℕ) (edge : ℕ → Bool) (from : ℕ) (k l : List Ro
     → Follows states edge from k → Follows states edge (ends_at states from k) l
     → Follows states edge from (k ++ l)
 follows-parts states edge from [] l f g = g
-follows-parts states edge from (r ∷ k) l f g = (f.0, follows-parts states edge _ k l f.1 g)
+follows-parts states edge from (r ∷ k) l f g = (f.0, follows-parts states edge (suc (root_place states r.phone r.state)) k l f.1 g)
 
 ends-parts : (states from : ℕ) (k l : List Root)
     → ends_at states from (k ++ l) ≡ ends_at states (ends_at states from k) l

@@ -4,7 +4,7 @@
 use Rattle.std.specs.Prelude.{◌≡◌, ◌⊎◌, ◌↔◌, Bool, ◌&&◌, T, eqb, length}
 use Rattle.std.proofs.Math.Path.{refl, ap}
 use Rattle.std.proofs.Common.{sym, ◌∙◌, subst, inl, inr, arith, eqb→eq}
-use Rattle.std.proofs.Math.Logic.{Iff·rfl, Iff·trans, Iff·and}
+use mathlib.Core.Logic.Iff
 use mathlib.Core.List.{List, [], ◌∷◌}
 use Prim.Native.Nat.{ℕ, zero, suc, ◌+◌, ◌<◌}
 use Rattle.std.proofs.Math.Dec.{eqb_refl}
@@ -188,8 +188,8 @@ module _ (book : Book) (combinations : List Combination) where
       ↔ ((phone_of combinations q ≡ 1) × T (end_test book q.carried))
   unfolding may_end
   may-end q =
-      Iff·trans (T_and (eqb (phone_of combinations q) 1) (end_test book q.carried))
-      (Iff·and (T-eqb (phone_of combinations q) 1) Iff·rfl)
+      Iff.trans (T_and (eqb (phone_of combinations q) 1) (end_test book q.carried))
+      (Iff.and (T-eqb (phone_of combinations q) 1) Iff.rfl)
 
   -- ---- followers: the meet with what was shifted, where that leaves some window
 
