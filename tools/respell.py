@@ -10,7 +10,7 @@ import re
 import subprocess
 import sys
 
-CAMEL = re.compile(r"(?<![A-Za-z0-9'])[a-z][a-z0-9']*[A-Z][A-Za-z0-9']*")
+CAMEL = re.compile(r"(?<![A-Za-z0-9'])(?!b'[A-Z]')[a-z][a-z0-9']*[A-Z][A-Za-z0-9']*")
 WORD = re.compile(r"[^\s(){}.,;\"`@⟨⟩\[\]]+")
 
 

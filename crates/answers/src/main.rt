@@ -1,5 +1,7 @@
 // Prints what the build program answers to each input: the books of standard input, and inputs of 65536 bytes and of
 // one more. A book stands below its title, a line that begins with '='; it ends where the next title begins.
+#![tactic(auto)]
+
 ghost use Rattle.program.specs.Reading.{ReadInto};
 
 use program::running::run;

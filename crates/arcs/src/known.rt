@@ -18,7 +18,7 @@ fn counts_known(counts: Counts) -> bool
     in_fixed_ranges(
         Letters::Network,
         Row {
-            letter: b'_w',
+            letter: b'W',
             used: 3,
             numbers: [counts.states, counts.metastates, counts.arcs, 0, 0],
         },

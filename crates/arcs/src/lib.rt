@@ -1,4 +1,6 @@
 // Lent arcs: the test for 18, the arcs that leave a state and where they begin, and the words of an arc.
+#![tactic(auto)]
+
 pub mod known;
 pub mod leaving;
 pub mod putting;
@@ -7,7 +9,7 @@ pub mod starting;
 use definitions::Refusal;
 
 // Where the arcs that leave a state stand in the lent arcs, counted in words; or the refusal.
-#[derive(Drop)]
+#[derive(Clone, Copy)]
 pub enum Standing {
     Part { start: usize, length: usize },
     Refused(Refusal),

@@ -15,7 +15,7 @@ pub fn entry_of(row: Row) -> Entry
 {
     let letter = row.letter;
     let n = row.numbers;
-    if letter == b'_h' {
+    if letter == b'H' {
         let header = Header {
             half: n[0],
             states: n[1],
@@ -25,16 +25,16 @@ pub fn entry_of(row: Row) -> Entry
         };
         return Entry::H(header);
     }
-    if letter == b'_q' {
+    if letter == b'Q' {
         return Entry::Q(n[0], n[1]);
     }
-    if letter == b'_n' {
+    if letter == b'N' {
         return Entry::N(n[0], n[1], n[2], n[3], n[4]);
     }
-    if letter == b'_l' {
+    if letter == b'L' {
         return Entry::L(n[0], n[1]);
     }
-    if letter == b'_b' {
+    if letter == b'B' {
         return Entry::B(n[0], n[1]);
     }
     Entry::R(n[0], n[1], n[2])

@@ -1,4 +1,6 @@
 // The lines of a tree book: what each says, its tests in order, and what is kept of those taken so far.
+#![tactic(auto)]
+
 pub mod entries;
 pub mod judging;
 mod leaving;
@@ -7,7 +9,7 @@ pub mod states;
 use definitions::Header;
 
 // What a line says, by its letter.
-#[derive(Drop)]
+#[derive(Clone, Copy)]
 pub enum Entry {
     H(Header),
     // A class and its phone.
@@ -23,14 +25,14 @@ pub enum Entry {
 }
 
 // The last Q line.
-#[derive(Drop)]
+#[derive(Clone, Copy)]
 pub enum Last {
     Nothing,
     Member(u32, u32),
 }
 
 // What is kept of the lines taken so far.
-#[derive(Drop)]
+#[derive(Clone, Copy)]
 pub struct State {
     pub lines: usize,
     pub header: Header,
@@ -46,7 +48,7 @@ pub struct State {
 }
 
 // The lengths of the lent tables.
-#[derive(Drop)]
+#[derive(Clone, Copy)]
 pub struct Lengths {
     pub nodes: usize,
     pub classes: usize,

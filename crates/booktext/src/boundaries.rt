@@ -15,7 +15,7 @@ fn put_boundary(phone: u32, plain: u32, text: &mut [u8], count: usize) -> usize
         return count;
     }
     let row = Row {
-        letter: b'_b',
+        letter: b'B',
         used: 2,
         numbers: [phone, plain, 0, 0, 0],
     };

@@ -17,7 +17,7 @@ fn put_member(class: u32, set: u64, phone: u32, text: &mut [u8], count: usize) -
         return count;
     }
     let row = Row {
-        letter: b'_q',
+        letter: b'Q',
         used: 2,
         numbers: [class, phone, 0, 0, 0],
     };

@@ -14,14 +14,14 @@ fn put_node(words: &[u32], node: u32, text: &mut [u8], count: usize) -> usize
     let record = node_at(words, node);
     if record.kind != 1 {
         let on_leaf = Row {
-            letter: b'_l',
+            letter: b'L',
             used: 2,
             numbers: [node, record.value, 0, 0, 0],
         };
         return put_line(on_leaf, text, count);
     }
     let on_question = Row {
-        letter: b'_n',
+        letter: b'N',
         used: 5,
         numbers: [node, record.value, record.position, record.yes, record.no],
     };

@@ -27,7 +27,7 @@ pub fn put_book(
         text.old 0 text.new result }
 {
     let row = Row {
-        letter: b'_h',
+        letter: b'H',
         used: 5,
         numbers: [
             header.half,

@@ -19,7 +19,7 @@ fn put_root(states: u32, place: usize, root: u32, text: &mut [u8], count: usize)
     let phone = (place / each + 1) as u32;
     let state = (place % each + 1) as u32;
     let row = Row {
-        letter: b'_r',
+        letter: b'R',
         used: 3,
         numbers: [phone, state, root, 0, 0],
     };

@@ -1,5 +1,7 @@
 // The build program: a tree book on standard input, its network text on standard output, or one line X with the
 // number of the fault and the line of the book. What it prints is `program::running::run` of what it reads.
+#![tactic(auto)]
+
 use program::BUFFER_SIZE;
 use program::running::run;
 

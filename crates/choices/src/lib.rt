@@ -1,18 +1,20 @@
 // The valid choices of leaves, one from each tree of a phone, added to lent space as combinations.
+#![tactic(auto)]
+
 pub mod choosing;
 
 use definitions::Fault;
 use matrix::Matrix;
 
 // What adding combinations leads to: how many there are then, or the fault.
-#[derive(Drop)]
+#[derive(Clone, Copy)]
 pub enum Adding {
     Count(usize),
     Stop(Fault),
 }
 
 // A phone with the leaves chosen so far, one from each of its first trees, and the meet of their matrices.
-#[derive(Drop)]
+#[derive(Clone, Copy)]
 pub struct Choice {
     pub phone: u32,
     pub taken: usize,

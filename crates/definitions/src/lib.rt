@@ -1,5 +1,7 @@
 // What every layer shares: the sizes of records, a book's header, a tree's node, a network's counts, and refusals by
 // fault. Header, node and counts are laid out as in C, since C programs hand them over.
+#![tactic(auto)]
+
 pub mod sizes;
 
 ghost use Rattle.std.specs.Prelude.{◌≡◌};
@@ -46,7 +48,7 @@ pub const MOST_NUMBER: u32 = 999999;
 
 // The numbers of an H line.
 #[repr(C)]
-#[derive(Drop)]
+#[derive(Clone, Copy)]
 pub struct Header {
     // The half-width n: a context has 2n+1 phones.
     pub half: u32,
@@ -59,7 +61,7 @@ pub struct Header {
 
 // The five words of a node record; the last three are 0 at a leaf.
 #[repr(C)]
-#[derive(Drop)]
+#[derive(Clone, Copy)]
 pub struct Node {
     // 1 for a question, 2 for a leaf.
     pub kind: u32,
@@ -72,7 +74,7 @@ pub struct Node {
 
 // The numbers of a W line.
 #[repr(C)]
-#[derive(Drop)]
+#[derive(Clone, Copy)]
 pub struct Counts {
     // States per metastate, k.
     pub states: u32,
@@ -81,7 +83,7 @@ pub struct Counts {
 }
 
 // The faults of documents 01 and 02, by their words and in the order of their numbers.
-#[derive(Drop)]
+#[derive(Clone, Copy)]
 pub enum Fault {
     Ragged,
     Misprint,
@@ -104,7 +106,7 @@ pub enum Fault {
 }
 
 // A fault and the line it was met at, 0 where no line is meant.
-#[derive(Drop)]
+#[derive(Clone, Copy)]
 pub struct Refusal {
     pub fault: Fault,
     pub line: usize,

@@ -1,6 +1,7 @@
 // Reads each tree book of standard input, prints what reading answered and left, puts the trees of accepted books to
 // work and builds their networks. A book stands below its title, a line that begins with '='; it ends where the next
 // title begins. Of a book whose title begins with '=+' only the tables and the network are shown.
+#![tactic(auto)]
 
 mod cases;
 

@@ -1,4 +1,6 @@
 // The followers of a matrix entered one by one, and those of a metastate with the same shifted matrix copied.
+#![tactic(auto)]
+
 pub mod following;
 pub mod repeating;
 
@@ -6,14 +8,14 @@ use growing::Sizes;
 use matrix::Matrix;
 
 // Where arcs leave from: a state, and how large the network is by now.
-#[derive(Drop)]
+#[derive(Clone, Copy)]
 pub struct Source {
     pub state: u32,
     pub sizes: Sizes,
 }
 
 // A metastate whose own arcs were added: its place, its matrix shifted, and how large the network is by now.
-#[derive(Drop)]
+#[derive(Clone, Copy)]
 pub struct Expanded {
     pub place: usize,
     pub shifted: Matrix,

@@ -31,7 +31,7 @@ use trees::Lookup;
 use writing::Written;
 
 // What a refusal says: the number of its fault, and its line.
-#[derive(Drop)]
+#[derive(Clone, Copy)]
 struct Cause {
     fault: u32,
     line: usize,

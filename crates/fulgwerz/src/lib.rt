@@ -1,5 +1,7 @@
 // The entries as functions for C, with the structs that they answer. Each calls one function and answers what that
 // answers. A fault and its line are 0 where nothing is wrong; where something is, all else is 0.
+#![tactic(auto)]
+
 mod answers;
 mod books;
 mod building;
@@ -11,7 +13,7 @@ use definitions::{Counts, Header};
 
 // Of reading a tree book.
 #[repr(C)]
-#[derive(Drop)]
+#[derive(Clone, Copy)]
 pub struct ReadAnswer {
     pub fault: u32,
     pub line: usize,
@@ -20,7 +22,7 @@ pub struct ReadAnswer {
 
 // Of a lookup.
 #[repr(C)]
-#[derive(Drop)]
+#[derive(Clone, Copy)]
 pub struct LeafAnswer {
     pub fault: u32,
     pub line: usize,
@@ -32,7 +34,7 @@ pub struct LeafAnswer {
 
 // Of a transcription.
 #[repr(C)]
-#[derive(Drop)]
+#[derive(Clone, Copy)]
 pub struct TranscriptAnswer {
     pub fault: u32,
     pub line: usize,
@@ -44,7 +46,7 @@ pub struct TranscriptAnswer {
 
 // Of another entry that fills a buffer: how many combinations, bytes or words there are.
 #[repr(C)]
-#[derive(Drop)]
+#[derive(Clone, Copy)]
 pub struct CountAnswer {
     pub fault: u32,
     pub line: usize,
@@ -53,7 +55,7 @@ pub struct CountAnswer {
 
 // Of a build.
 #[repr(C)]
-#[derive(Drop)]
+#[derive(Clone, Copy)]
 pub struct BuildAnswer {
     pub fault: u32,
     pub line: usize,
@@ -65,7 +67,7 @@ pub struct BuildAnswer {
 
 // Of reading network text.
 #[repr(C)]
-#[derive(Drop)]
+#[derive(Clone, Copy)]
 pub struct NetworkAnswer {
     pub fault: u32,
     pub line: usize,
@@ -74,7 +76,7 @@ pub struct NetworkAnswer {
 
 // Of joining a network with words.
 #[repr(C)]
-#[derive(Drop)]
+#[derive(Clone, Copy)]
 pub struct JoinAnswer {
     pub fault: u32,
     pub line: usize,
@@ -84,7 +86,7 @@ pub struct JoinAnswer {
 
 // Where a part of the lent arcs stands, in words.
 #[repr(C)]
-#[derive(Drop)]
+#[derive(Clone, Copy)]
 pub struct PartAnswer {
     pub fault: u32,
     pub line: usize,

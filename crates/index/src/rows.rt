@@ -15,7 +15,7 @@ use matrix::Matrix;
 use matrix::sets::alone;
 
 // Where the rows for a matrix begin.
-#[derive(Drop)]
+#[derive(Clone, Copy)]
 pub struct Rows {
     first: usize,
     second: usize,

@@ -1,5 +1,7 @@
 // A network joined with the words of a word book: joined states are expanded in the order of their numbers, along the
 // arcs of their network states.
+#![tactic(auto)]
+
 mod beginning;
 mod expanding;
 pub mod joining;
@@ -8,14 +10,14 @@ mod turning;
 use definitions::Refusal;
 
 // How many joined states and arcs there are.
-#[derive(Drop)]
+#[derive(Clone, Copy)]
 pub struct JoinedCounts {
     pub states: usize,
     pub arcs: usize,
 }
 
 // What joining answers.
-#[derive(Drop)]
+#[derive(Clone, Copy)]
 pub enum Answer {
     Joined(JoinedCounts),
     Refused(Refusal),

@@ -1,4 +1,6 @@
 // The leaf sets: the leaves of a book's trees with their matrices.
+#![tactic(auto)]
+
 pub mod collecting;
 pub mod walking;
 

@@ -2,6 +2,8 @@
 // word book with the network last read. A text stands below its title, a line that begins with '='; it ends where the
 // next title begins. It is a network where it begins with 'W'. Where a word book's title begins with '+', it is also
 // joined in space of other sizes, and with foreign arcs and words.
+#![tactic(auto)]
+
 mod books;
 mod foreign;
 mod joins;

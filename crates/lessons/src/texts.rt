@@ -40,7 +40,7 @@ pub fn show_text(title: &[u8], text: &[u8], counts: Counts, arcs: &mut [u32]) ->
     print(b"=");
     print(title);
     print(b":");
-    if begins_with(text, b'_w') {
+    if begins_with(text, b'W') {
         return show_network(text, arcs);
     }
     show_book(text, counts, arcs, begins_with(title, b'+'));

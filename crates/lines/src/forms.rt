@@ -7,7 +7,7 @@ ghost use Rattle.lines.specs.Rows.{forms_of};
 use crate::Letters;
 
 // The fixed range of a field: lowest and highest.
-#[derive(Drop)]
+#[derive(Clone, Copy)]
 struct Range(u32, u32);
 
 // How many letters the table has.
@@ -19,7 +19,7 @@ pub const NO_LETTER: usize = FORM_COUNT;
 const UNUSED: Range = Range(0, 0);
 
 // A letter, how many fields it uses, and their ranges, which come first.
-#[derive(Drop)]
+#[derive(Clone, Copy)]
 struct Form {
     letter: u8,
     used: usize,
@@ -30,7 +30,7 @@ struct Form {
 const FORMS: [Form; FORM_COUNT] = [
     // half-width, states per phone, phones, classes, nodes
     Form {
-        letter: b'_h',
+        letter: b'H',
         used: 5,
         ranges: [
             Range(0, 3),
@@ -42,13 +42,13 @@ const FORMS: [Form; FORM_COUNT] = [
     },
     // class, phone
     Form {
-        letter: b'_q',
+        letter: b'Q',
         used: 2,
         ranges: [Range(1, 255), Range(1, 64), UNUSED, UNUSED, UNUSED],
     },
     // node, class, position, yes node, no node
     Form {
-        letter: b'_n',
+        letter: b'N',
         used: 5,
         ranges: [
             Range(0, 4095),
@@ -60,25 +60,25 @@ const FORMS: [Form; FORM_COUNT] = [
     },
     // node, model
     Form {
-        letter: b'_l',
+        letter: b'L',
         used: 2,
         ranges: [Range(0, 4095), Range(1, 65535), UNUSED, UNUSED, UNUSED],
     },
     // boundary phone, plain phone
     Form {
-        letter: b'_b',
+        letter: b'B',
         used: 2,
         ranges: [Range(2, 64), Range(1, 64), UNUSED, UNUSED, UNUSED],
     },
     // phone, state, root node
     Form {
-        letter: b'_r',
+        letter: b'R',
         used: 3,
         ranges: [Range(1, 64), Range(1, 3), Range(0, 4095), UNUSED, UNUSED],
     },
     // states per phone, metastates, arcs
     Form {
-        letter: b'_w',
+        letter: b'W',
         used: 3,
         ranges: [
             Range(1, 3),
@@ -90,7 +90,7 @@ const FORMS: [Form; FORM_COUNT] = [
     },
     // from, to, model, phone
     Form {
-        letter: b'_a',
+        letter: b'A',
         used: 4,
         ranges: [
             Range(0, 196606),
@@ -102,14 +102,14 @@ const FORMS: [Form; FORM_COUNT] = [
     },
     // word, place, phone
     Form {
-        letter: b'_v',
+        letter: b'V',
         used: 3,
         ranges: [Range(1, 9999), Range(1, 64), Range(1, 64), UNUSED, UNUSED],
     },
 ];
 
 // Where the letters of a kind of text begin and end among all letters.
-#[derive(Drop)]
+#[derive(Clone, Copy)]
 struct Block {
     from: usize,
     end: usize,

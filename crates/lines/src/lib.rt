@@ -1,5 +1,7 @@
 // The line of 32 bytes that tree books, network text and word books share, read by the table of its letter; the
 // clearing of lent buffers; and places of what is counted from 1.
+#![tactic(auto)]
+
 pub mod clearing;
 pub mod counting;
 mod fields;
@@ -11,7 +13,7 @@ pub mod texts;
 use definitions::Fault;
 
 // The letters that a kind of text has.
-#[derive(Drop)]
+#[derive(Clone, Copy)]
 pub enum Letters {
     Book,
     Network,
@@ -19,7 +21,7 @@ pub enum Letters {
 }
 
 // A line's letter and the numbers in its used fields, which come first; the other numbers are 0.
-#[derive(Drop)]
+#[derive(Clone, Copy)]
 pub struct Row {
     pub letter: u8,
     pub used: usize,
@@ -27,21 +29,21 @@ pub struct Row {
 }
 
 // A row, where the line is well formed; else it is fault 12, and the row is all 0.
-#[derive(Drop)]
+#[derive(Clone, Copy)]
 pub struct Parsed {
     pub formed: bool,
     pub row: Row,
 }
 
 // What becomes of a line: it passes its tests, or it has a fault.
-#[derive(Drop)]
+#[derive(Clone, Copy)]
 pub enum Verdict {
     Passed,
     Failed(Fault),
 }
 
 // One field of six bytes.
-#[derive(Drop)]
+#[derive(Clone, Copy)]
 enum Field {
     Blank,
     Malformed,

@@ -10,7 +10,7 @@ use crate::forms::{NO_LETTER, place_of, used_at};
 use crate::{Field, Letters, Parsed, Row};
 
 // What a field gives its row, or that it makes the line malformed.
-#[derive(Drop)]
+#[derive(Clone, Copy)]
 enum Entry {
     Value(u32),
     Wrong,

@@ -1,4 +1,6 @@
 // Prints meetings of matrices: how many columns were met, and whether in a valid matrix, or in which words.
+#![tactic(auto)]
+
 use definitions::wide;
 use matrix::Matrix;
 use matrix::meeting::{meet, meets};

@@ -20,7 +20,7 @@ pub fn entry_of(row: Row) -> Entry
 {
     let letter = row.letter;
     let n = row.numbers;
-    if letter == b'_w' {
+    if letter == b'W' {
         let counts = Counts {
             states: n[0],
             metastates: n[1],

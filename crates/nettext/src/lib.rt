@@ -1,4 +1,6 @@
 // Network text: written from lent arcs, and read into them.
+#![tactic(auto)]
+
 mod judging;
 pub mod reader;
 mod states;
@@ -9,14 +11,14 @@ pub mod writer;
 use definitions::{Counts, Fault, Refusal};
 
 // What reading answers.
-#[derive(Drop)]
+#[derive(Clone, Copy)]
 pub enum Reading {
     Accepted(Counts),
     Refused(Refusal),
 }
 
 // What a line says, by its letter.
-#[derive(Drop)]
+#[derive(Clone, Copy)]
 enum Entry {
     W(Counts),
     // From, to, model and phone of an arc.
@@ -24,7 +26,7 @@ enum Entry {
 }
 
 // What is kept of the lines taken so far.
-#[derive(Drop)]
+#[derive(Clone, Copy)]
 struct State {
     lines: usize,
     counts: Counts,
@@ -34,7 +36,7 @@ struct State {
 }
 
 // What taking a line gives: the state after it, or its fault.
-#[derive(Drop)]
+#[derive(Clone, Copy)]
 enum Step {
     Next(State),
     Stop(Fault),

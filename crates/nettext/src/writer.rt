@@ -22,7 +22,7 @@ fn counts_row(counts: Counts) -> Row
     ensures { line_in result ≡ line_of_counts counts }
 {
     Row {
-        letter: b'_w',
+        letter: b'W',
         used: 3,
         numbers: [counts.states, counts.metastates, counts.arcs, 0, 0],
     }
@@ -35,7 +35,7 @@ fn arc_row(arcs: &[u32], place: usize) -> Row
 {
     let at = ARC_SIZE * place;
     Row {
-        letter: b'_a',
+        letter: b'A',
         used: 4,
         numbers: [arcs[at], arcs[at + 1], arcs[at + 2], arcs[at + 3], 0],
     }

@@ -1,18 +1,20 @@
 // The network: the start, the turns up to a limit, and the build from lent tables into lent space.
+#![tactic(auto)]
+
 pub mod building;
 mod connecting;
 
 use definitions::{Counts, Refusal};
 
 // The turns that a build has done, and the counts of its network.
-#[derive(Drop)]
+#[derive(Clone, Copy)]
 pub struct Totals {
     pub turns: u32,
     pub counts: Counts,
 }
 
 // What a build answers: finished, or stopped with a metastate still unexpanded, or the refusal.
-#[derive(Drop)]
+#[derive(Clone, Copy)]
 pub enum Build {
     Finished(Totals),
     Stopped(Totals),

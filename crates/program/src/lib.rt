@@ -1,4 +1,6 @@
 // The build program, from the bytes it reads to the bytes it prints.
+#![tactic(auto)]
+
 pub mod running;
 
 // As many bytes as a book may have: a longer input is refused by 22.
@@ -11,7 +13,7 @@ pub const BUFFER_SIZE: usize = LONGEST_INPUT + 1;
 pub const OUTPUT_SIZE: usize = 32 * (1 + 2000);
 
 // What the program prints: the first `length` bytes; the others are 0.
-#[derive(Drop)]
+#[derive(Clone, Copy)]
 pub struct Output {
     pub bytes: [u8; OUTPUT_SIZE],
     pub length: usize,

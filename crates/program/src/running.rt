@@ -24,7 +24,7 @@ fn print_refusal(refusal: Refusal, output: &mut [u8]) -> usize
 {
     let fault = refusal.fault;
     let row = Row {
-        letter: b'_x',
+        letter: b'X',
         used: 2,
         numbers: [number(fault), refusal.line as u32, 0, 0, 0],
     };

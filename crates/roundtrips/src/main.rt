@@ -1,5 +1,7 @@
 // Reads each network text of standard input, prints what reading answered and left, and writes the networks of
 // accepted ones again. A text stands below its title, a line that begins with '='; it ends where the next title begins.
+#![tactic(auto)]
+
 mod texts;
 mod written;
 

@@ -1,5 +1,7 @@
 // What the example programs share: words and numbers on standard output, buffers compared, and texts cut out below
 // their titles.
+#![tactic(auto)]
+
 pub mod comparing;
 pub mod printing;
 pub mod titles;

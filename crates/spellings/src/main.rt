@@ -1,6 +1,8 @@
 // Reads each tree book of standard input, prints its plain form, and says whether it is the same book as the one that
 // it is compared with. A book stands below its title, a line that begins with '='; it ends where the next title begins.
 // Where a title begins with '+', the books after it are compared with its book.
+#![tactic(auto)]
+
 mod books;
 mod spelled;
 

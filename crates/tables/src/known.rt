@@ -20,7 +20,7 @@ pub fn header_known(header: Header) -> bool
     in_fixed_ranges(
         Letters::Book,
         Row {
-            letter: b'_h',
+            letter: b'H',
             used: 5,
             numbers: [
                 header.half,

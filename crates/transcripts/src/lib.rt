@@ -1,25 +1,27 @@
 // The models that the trees give to a phone sequence, and how many questions were put for them.
+#![tactic(auto)]
+
 mod sequences;
 pub mod transcription;
 
 use definitions::Refusal;
 
 // What a transcription gives beside its models: how many there are, and how many questions were put in all.
-#[derive(Drop)]
+#[derive(Clone, Copy)]
 pub struct Tally {
     pub models: usize,
     pub questions: u64,
 }
 
 // What a transcription answers: what it gave, or the refusal.
-#[derive(Drop)]
+#[derive(Clone, Copy)]
 pub enum Transcript {
     Models(Tally),
     Refused(Refusal),
 }
 
 // What the walk for a state found: the model at its leaf, and how many questions were met.
-#[derive(Drop)]
+#[derive(Clone, Copy)]
 struct Found {
     model: u32,
     questions: u32,

@@ -1,4 +1,6 @@
 // The trees of a book at work: the leaf that a context reaches.
+#![tactic(auto)]
+
 pub mod contexts;
 pub mod leaves;
 mod stages;
@@ -8,21 +10,21 @@ pub mod walking;
 use definitions::Refusal;
 
 // What a walk gives: the node number of its leaf, and how many questions were met on the way.
-#[derive(Drop)]
+#[derive(Clone, Copy)]
 pub struct Walked {
     pub leaf: u32,
     pub questions: u32,
 }
 
 // What a lookup answers: what the walk gave, or the refusal.
-#[derive(Drop)]
+#[derive(Clone, Copy)]
 pub enum Lookup {
     Leaf(Walked),
     Refused(Refusal),
 }
 
 // Where a lookup over node structs stands.
-#[derive(Drop)]
+#[derive(Clone, Copy)]
 enum Stage {
     // The records before this place were judged.
     Judging(u32),

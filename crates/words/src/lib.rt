@@ -1,4 +1,6 @@
 // Word books: read into a lent table, and the test for foreign tables of words.
+#![tactic(auto)]
+
 mod judging;
 pub mod known;
 pub mod reader;
@@ -8,7 +10,7 @@ mod taking;
 use definitions::{Fault, Refusal};
 
 // What reading answers: the count of words, or the refusal.
-#[derive(Drop)]
+#[derive(Clone, Copy)]
 pub enum Reading {
     Accepted(usize),
     Refused(Refusal),
@@ -16,7 +18,7 @@ pub enum Reading {
 
 // What a line says: a word, a place in it, and the phone there. Of the lines taken so far the last one is kept; before
 // the first, one of word 0 and place 0.
-#[derive(Drop)]
+#[derive(Clone, Copy)]
 struct Entry {
     word: u32,
     place: u32,
@@ -24,7 +26,7 @@ struct Entry {
 }
 
 // What taking a line gives: the line, or its fault.
-#[derive(Drop)]
+#[derive(Clone, Copy)]
 enum Step {
     Next(Entry),
     Stop(Fault),

@@ -1,4 +1,6 @@
 // The line of 32 bytes written, and what writing a text answers.
+#![tactic(auto)]
+
 pub mod writing;
 
 ghost use Rattle.std.specs.Prelude.{◌≡◌};
@@ -6,7 +8,7 @@ ghost use Rattle.std.specs.Prelude.{◌≡◌};
 use definitions::{Fault, Refusal};
 
 // What writing a text answers: how many bytes the text has, or the refusal.
-#[derive(Drop)]
+#[derive(Clone, Copy)]
 pub enum Written {
     Bytes(usize),
     Refused(Refusal),

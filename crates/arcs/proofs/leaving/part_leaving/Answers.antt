@@ -1,0 +1,79 @@
+-- `leaving::part_leaving` meets its contract. The part's first arc and its end are found by two searches.
+use mathlib.Core.Path.{◌∙◌}
+use native.Mathlib.Omega.{arith}
+use Rattle.definitions.specs.Laws.Lists.Tests.{held, failed}
+use Rattle.arcs.specs.Laws.Said.{standing-said}
+use Rattle.arcs.specs.Laws.KnownArcs.{known-taken, known-order}
+use Rattle.arcs.specs.Laws.Leaving.{standing-foreign, standing-beyond, Searched, searched, part-order}
+use Rattle.arcs.specs.Laws.Leaving.{part_end, standing-part}
+use Rattle.std.proofs.lemmas.Bool.{not_from_true}
+use Rattle.std.proofs.lemmas.Bool.{not_from_false}
+use Rattle.arcs.proofs.leaving.part_leaving.Goals as goal
+use Rattle.arcs.proofs.leaving.part_leaving.Goals.{After-arcs_below-end}
+
+pub returns-then-not-network_known : goal.returns-then-not-network_known
+returns-then-not-network_known c =
+    let refused = c in
+    standing-said _ (c.no_part.ensures
+    ∙ standing-foreign _ _ _ (failed refused.network_known.ensures (not_from_false _ refused.if-not-network_known.true)))
+
+pub returns-then-not-is_state : goal.returns-then-not-is_state
+returns-then-not-is_state c =
+    let refused = c in
+    let passed = refused in
+    standing-said _ (c.no_part-then-not-is_state.ensures
+    ∙ standing-beyond _ _ _ (held passed.network_known.ensures (not_from_true _ passed.if-not-network_known.false))
+    (failed refused.is_state.ensures (not_from_false _ refused.if-not-is_state.true)))
+
+pub slice_bounds-arcs_below-end : goal.slice_bounds-arcs_below-end
+slice_bounds-arcs_below-end c =
+    let counted = c in
+    let passed = counted in
+    known-taken _ _ counted.wide-used.ensures
+    (held passed.network_known.ensures (not_from_true _ passed.if-not-network_known.false))
+
+pub arcs_below-first-requires : goal.arcs_below-first-requires
+arcs_below-first-requires c =
+    let counted = c in
+    let passed = counted in
+    known-order _ _ counted.wide-used.ensures
+    (held passed.network_known.ensures (not_from_true _ passed.if-not-network_known.false))
+
+pub slice_bounds-arcs_below-end-2 : goal.slice_bounds-arcs_below-end-2
+slice_bounds-arcs_below-end-2 c =
+    let counted = c in
+    let passed = counted in
+    known-taken _ _ counted.wide-used.ensures
+    (held passed.network_known.ensures (not_from_true _ passed.if-not-network_known.false))
+
+pub arcs_below-end-requires : goal.arcs_below-end-requires
+arcs_below-end-requires c =
+    let counted = c in
+    let passed = counted in
+    known-order _ _ counted.wide-used.ensures
+    (held passed.network_known.ensures (not_from_true _ passed.if-not-network_known.false))
+
+-- both searches done
+parted : (c : goal.After-arcs_below-end) → Searched c.args.counts c.args.arcs.now
+    c.args.state c.arcs_below-first.result c.arcs_below-end.result
+parted c =
+    let first = c in
+    let counted = first in
+    let listed = counted in
+    let passed = listed in
+    searched _ _ (held passed.network_known.ensures (not_from_true _ passed.if-not-network_known.false))
+    (held listed.is_state.ensures (not_from_true _ listed.if-not-is_state.false))
+    counted.wide-used.ensures first.wide.ensures c.wide-2.ensures
+    first.arcs_below-first.ensures c.arcs_below-end.ensures
+
+pub overflow_mul-result : goal.overflow_mul-result
+overflow_mul-result c = omega (arith, part-order (parted (goal.at.overflow_mul-result c).After-arcs_below-end), part_end (parted (goal.at.overflow_mul-result c).After-arcs_below-end), c.well_formed.1.0.0)
+
+pub overflow_sub-result : goal.overflow_sub-result
+overflow_sub-result c = omega (arith, part-order (parted (goal.at.overflow_sub-result c).After-arcs_below-end))
+
+pub overflow_mul-result-2 : goal.overflow_mul-result-2
+overflow_mul-result-2 c = omega (arith, part-order (parted (goal.at.overflow_mul-result-2 c).After-arcs_below-end), part_end (parted (goal.at.overflow_mul-result-2 c).After-arcs_below-end), c.well_formed.1.0.0)
+
+pub returns : goal.returns
+returns c = standing-said _ (standing-part (parted (goal.at.returns c).After-arcs_below-end))

@@ -1,0 +1,30 @@
+-- `starting::counted_on` meets its contract. The loop's invariant: they are at least `at`.
+use Prim.Native.Nat.{◌-◌, ◌/◌}
+use native.Mathlib.Omega.{arith}
+use lib.ListN.{length}
+use Rattle.definitions.specs.Arcs.{arc_size}
+use Rattle.arcs.specs.Laws.Leaving.{Bracketed, bracket-from, bracket-up, bracket-down, bracket-end}
+use borrow.Author.Rules.{rules}
+use Rattle.arcs.proofs.starting.counted_on.Goals as goal
+
+pub loop-at-init : goal.loop-at-init
+loop-at-init c = bracket-from _ c.requires.1
+
+pub returns-then-state-wide : goal.returns-then-state-wide
+returns-then-state-wide c =
+    let read = c in
+    let turn = read in
+    let start = turn in
+    bracket-end (bracket-down start.requires.0 turn.loop-at.invariant turn.loop-at-test.true
+    (omega (arith, read.wide.ensures, c.if-state-wide.true))) (search rules)
+
+pub loop-at-preserved : goal.loop-at-preserved
+loop-at-preserved c =
+    let read = c in
+    let turn = read in
+    let start = turn in
+    bracket-up start.requires.0 turn.loop-at.invariant turn.loop-at-test.true
+    (omega (arith, read.wide.ensures, c.if-state-wide.false))
+
+pub returns : goal.returns
+returns c = bracket-end c.loop-at.invariant c.loop-at-test.false

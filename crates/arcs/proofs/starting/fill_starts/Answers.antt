@@ -1,0 +1,35 @@
+-- `starting::fill_starts` meets its contract. The loop's invariant: the places of the states before `state` are filled.
+use Prim.Native.Nat.{◌-◌}
+use lib.ListN.{length}
+use Rattle.arcs.specs.Laws.Leaving.{below_all}
+use Rattle.arcs.specs.Laws.Starting.{Filling, filling-start, filling-more, filling-done}
+use borrow.Author.Rules.{rules}
+use Rattle.arcs.proofs.starting.fill_starts.Goals as goal
+
+pub loop-state-init : goal.loop-state-init
+loop-state-init c = filling-start _ _
+
+pub counted_on-at-requires : goal.counted_on-at-requires
+counted_on-at-requires c =
+    (c.requires.0, c.loop-state.invariant.low_at)
+
+pub returns-then-at-count : goal.returns-then-at-count
+returns-then-at-count c = filling-done c.loop-state.invariant
+
+pub overflow_cast-starts : goal.overflow_cast-starts
+overflow_cast-starts c =
+    let call = c in
+    let turn = call in
+    let start = turn in
+    let most = below_all start.args.arcs.now turn.loop-state.state in
+    let few = start.requires.1 in
+    let is = call.counted_on-at.ensures in
+    search rules
+
+pub loop-state-preserved : goal.loop-state-preserved
+loop-state-preserved c =
+    let turn = c in
+    filling-more turn.loop-state.invariant turn.loop-state-test.true c.counted_on-at.ensures
+
+pub returns : goal.returns
+returns c = filling-done c.loop-state.invariant

@@ -1,0 +1,30 @@
+-- `storing::put_no_roots` meets its contract: the first words of the table are filled.
+use mathlib.Core.Path.{ap, ap₂, ◌∙◌}
+use mathlib.Core.List.{List}
+use Prim.Native.Nat.{ℕ, ◌*◌}
+use native.Mathlib.Omega.{arith}
+use lib.ListN.{replicate}
+use Rattle.definitions.specs.BookLines.{root_count, no_root}
+use Rattle.lines.specs.Putting.{put_at}
+use Rattle.definitions.specs.Laws.Lists.Products.{product-fits}
+use Rattle.book.specs.Laws.Putting.{first-filled}
+use Rattle.book.proofs.storing.put_no_roots.Goals as goal
+
+pub overflow_mul-end : goal.overflow_mul-end
+overflow_mul-end c = record { fits = product-fits (omega arith) (omega arith) }
+
+pub slice_bounds-fill_words-end : goal.slice_bounds-fill_words-end
+unfolding root_count
+slice_bounds-fill_words-end c = rw (c.wide.ensures, c.wide-2.ensures) c.requires
+
+pub returns : goal.returns
+unfolding root_count
+returns c =
+    let filled = c in
+    let product = filled in
+    let start = product in
+    let count = ap₂ ◌*◌ product.wide.ensures product.wide-2.ensures in
+    let table : List ℕ = start.args.roots.now in
+    let end : ℕ = product.wide.result * product.wide-2.result in
+    first-filled table _ end no_root (rw count start.requires) filled.fill_words.ensures
+    ∙ ap (λ (n : ℕ). put_at 0 (replicate n no_root) table) count

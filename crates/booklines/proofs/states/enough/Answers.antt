@@ -1,0 +1,26 @@
+-- `states::enough` meets its contract.
+use native.Mathlib.Omega.{arith}
+use Rattle.definitions.specs.BookLines.{root_count}
+use Rattle.booklines.specs.States.{enough_in, left_out_in}
+use Rattle.definitions.specs.Laws.Lists.Products.{product-fits}
+use Rattle.booklines.specs.Laws.Numbers.{above_zero}
+use Rattle.booklines.proofs.states.enough.Goals as goal
+
+pub returns-then-s-eq0 : goal.returns-then-s-eq0
+unfolding enough_in left_out_in root_count
+returns-then-s-eq0 c = rw c.if-s-eq0.true
+
+pub overflow_mul-roots : goal.overflow_mul-roots
+overflow_mul-roots c = record { fits = product-fits (omega arith) (omega arith) }
+
+pub may_leave_out-requires : goal.may_leave_out-requires
+may_leave_out-requires c =
+    let started = c in
+    started.requires (omega (arith, started.if-s-eq0.false))
+
+pub returns : goal.returns
+unfolding enough_in left_out_in root_count
+returns c =
+    let product = c in
+    let some = above_zero _ product.if-s-eq0.false in
+    rw some (rw (product.wide.ensures, product.wide-2.ensures) at c.may_leave_out.ensures)

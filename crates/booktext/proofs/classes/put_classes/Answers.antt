@@ -1,0 +1,35 @@
+-- `classes::put_classes` meets its contract. The loop's invariant: what is left to write, from the next class on.
+use Prim.Native.Nat.{◌+◌, ◌-◌}
+use native.Mathlib.Omega.{arith}
+use lib.ListN.{length, drop}
+use Rattle.booktext.specs.Parts.{class_lines}
+use Rattle.booktext.specs.Laws.ClassLines.{classes-next, classes-end}
+use Rattle.booktext.specs.Laws.Putting.{Left, left-start, left-countable, left-more, left_end}
+use Rattle.booktext.proofs.classes.put_classes.Goals as goal
+
+pub loop-i-init : goal.loop-i-init
+loop-i-init c =
+    let a = c.args in
+    left-start (class_lines a.phones 1 a.sets.now) a.text.now a.count
+
+pub put_class-next-requires : goal.put_class-next-requires
+put_class-next-requires c =
+    let at = c.loop-i in
+    let start = c in
+    let a = start.args in
+    left-countable at.invariant (classes-next a.phones at.i a.sets.now (omega arith)) start.requires.1
+
+pub loop-i-preserved : goal.loop-i-preserved
+loop-i-preserved c =
+    let turn = c in
+    let at = turn.loop-i in
+    let a = turn.args in
+    let done = c.put_class-next in
+    left-more at.invariant (classes-next a.phones at.i a.sets.now (omega arith))
+    done.auto.1.1.1.0 done.ensures
+
+pub returns : goal.returns
+returns c =
+    let at = c.loop-i in
+    let a = c.args in
+    left_end at.invariant (classes-end a.phones at.i a.sets.now (omega arith))

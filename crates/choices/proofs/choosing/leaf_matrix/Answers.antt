@@ -1,0 +1,16 @@
+-- `choosing::leaf_matrix` meets its contract: seven words are there after the node.
+use mathlib.Core.Path.{◌∙◌}
+use Prim.Native.Nat.{◌+◌, ◌*◌}
+use native.Mathlib.Omega.{arith}
+use Rattle.matrix.specs.Laws.Words.{seven-there}
+use Rattle.leafsets.specs.Leaves.{leaf_size}
+use Rattle.choices.proofs.choosing.leaf_matrix.Goals as goal
+
+pub whole_matrix-requires : goal.whole_matrix-requires
+whole_matrix-requires c = omega (arith, c.requires)
+
+pub returns : goal.returns
+returns c =
+    let start = c in
+    c.whole_matrix.ensures
+    ∙ seven-there start.args.leaves.now (leaf_size * start.args.place + 1) (omega (arith, start.requires))

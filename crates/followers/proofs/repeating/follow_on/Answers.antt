@@ -1,0 +1,120 @@
+-- `repeating::follow_on` meets its contract: the arcs copied, or entered and noted.
+use Prim.Native.Nat.{◌≤◌}
+use native.Mathlib.Omega.{arith}
+use Rattle.index.specs.Laws.Followers.{narrow}
+use Rattle.followers.specs.Spans.{SlotWithin}
+use Rattle.followers.specs.Turns.{BetweenTurns}
+use Rattle.followers.specs.Laws.Repeating.{span-order, span-within}
+use Rattle.followers.specs.Laws.Turns.{place_few, arcs-fit}
+use Rattle.followers.specs.Laws.Repeating.{repeated-on, followed-few, followed-noted, followed-refused}
+use Rattle.followers.proofs.repeating.follow_on.Goals as goal
+use Rattle.followers.proofs.repeating.follow_on.Goals.{After-slot_for-slot, Start}
+
+abbrev entry : goal.After-slot_for-slot → goal.Start
+entry c = c
+
+between : (c : goal.Start)
+    → BetweenTurns c.args.header c.args.nodes.now c.args.combinations.now c.args.index.now
+    c.args.metastates.now c.args.arcs.now c.args.chains.now c.args.spans.now
+    c.args.expanded.sizes
+between c = c.requires.expandable.between
+
+thin : (c : goal.Start) → c.args.header.half ≤ 3
+thin c = narrow (between c).searchable.connectable.usable
+
+slot-there : (c : goal.After-slot_for-slot) → SlotWithin (entry c).args.spans.now c.slot_for-slot.result
+slot-there c = c.slot_for-slot.ensures.0
+
+pub slot_for-slot-requires : goal.slot_for-slot-requires
+slot_for-slot-requires c =
+    let start = c in (thin (goal.at.slot_for-slot-requires c).Start, (between (goal.at.slot_for-slot-requires c).Start).slots)
+
+pub last_state-from-requires : goal.last_state-from-requires
+last_state-from-requires c =
+    let start = entry (goal.at.last_state-from-requires c).After-slot_for-slot in
+    ((between (goal.at.last_state-from-requires c).Start).searchable.connectable.usable.header-known, place_few start.requires.expandable)
+
+pub repeats-requires : goal.repeats-requires
+repeats-requires c =
+    let slot = c in
+    (thin (entry (goal.at.repeats-requires c).After-slot_for-slot), slot-there (goal.at.repeats-requires c).After-slot_for-slot)
+
+pub overflow_add-at-then-repeats : goal.overflow_add-at-then-repeats
+overflow_add-at-then-repeats c =
+    record { fits = omega (arith, c.slot_for-slot.ensures.1) }
+
+pub offset_bounds-spans-at-then-repeats : goal.offset_bounds-spans-at-then-repeats
+offset_bounds-spans-at-then-repeats c =
+    record { fits = omega (arith, c.slot_for-slot.ensures.1) }
+
+pub repeat-requires : goal.repeat-requires
+repeat-requires c =
+    let test = c in
+    let slot = test in
+    let s = (entry (goal.at.repeat-requires c).After-slot_for-slot).requires in
+    let (other, is, alike) = test.repeats.ensures test.if-repeats.true in
+    record {
+      held = s.expandable.between.underway.kept.arc-words;
+      order =
+          omega (
+            arith,
+            span-order s _ (slot-there (goal.at.repeat-requires c).After-slot_for-slot) is alike,
+            c.wide.ensures,
+            c.wide-then-repeats.ensures,
+          );
+      within = omega (arith, span-within s _ (slot-there (goal.at.repeat-requires c).After-slot_for-slot) is alike, c.wide-then-repeats.ensures);
+      fit = arcs-fit s.expandable;
+    }
+
+pub returns-then-repeats : goal.returns-then-repeats
+returns-then-repeats c =
+    let copy = c in
+    let second = copy in
+    let test = second in
+    let slot = test in
+    let (other, is, alike) = test.repeats.ensures test.if-repeats.true in
+    repeated-on (entry (goal.at.returns-then-repeats c).After-slot_for-slot).requires _ (slot-there (goal.at.returns-then-repeats c).After-slot_for-slot) is alike second.wide.ensures
+    second.wide-then-repeats.ensures test.last_state-from.ensures
+    copy.repeat.ensures
+
+pub follow-step-requires : goal.follow-step-requires
+follow-step-requires c =
+    let start = entry (goal.at.follow-step-requires c).After-slot_for-slot in
+    record {
+      searchable = (between (goal.at.follow-step-requires c).Start).searchable;
+      underway = (between (goal.at.follow-step-requires c).Start).underway;
+      shaped = start.requires.shaped;
+    }
+
+pub note_span-requires : goal.note_span-requires
+note_span-requires c =
+    let arm = c in
+    let call = arm in
+    let slot = slotted call in
+    let start = entry (goal.at.note_span-requires c).After-slot_for-slot in
+    let last = call in
+    record {
+      within = slot-there (goal.at.note_span-requires c).After-slot_for-slot;
+      place_few = place_few start.requires.expandable;
+      first_few = omega (arith, arcs-fit start.requires.expandable);
+      end_few =
+          followed-few start.requires last.last_state-from.ensures call.follow-step.ensures arm.in-Next.is;
+    }
+
+pub returns-in-Next : goal.returns-in-Next
+returns-in-Next c =
+    let noted = c in
+    let arm = noted in
+    let call = arm in
+    let slot = slotted call in
+    let at = call.last_state-from.ensures in
+    followed-noted (entry (goal.at.returns-in-Next c).After-slot_for-slot).requires at call.follow-step.ensures _ (slot-there (goal.at.returns-in-Next c).After-slot_for-slot) arm.in-Next.is
+    noted.note_span.ensures
+
+pub returns-in-Stop : goal.returns-in-Stop
+returns-in-Stop c =
+    let arm = c in
+    let call = arm in
+    let at = call.last_state-from.ensures in
+    followed-refused (entry (slotted call)).requires at call.follow-step.ensures
+    arm.in-Stop.is

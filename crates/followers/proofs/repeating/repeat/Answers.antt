@@ -1,0 +1,29 @@
+-- `repeating::repeat` meets its contract.
+use mathlib.Core.Path.{◌≡◌}
+use mathlib.Core.Bool.{true, false}
+use Prim.Native.Nat.{◌+◌, ◌-◌}
+use native.Mathlib.Omega.{arith}
+use lib.Dec.{leb}
+use borrow.Author.Tests.{le-leb, lt-leb}
+use Rattle.growing.specs.Steps.{arc_room}
+use Rattle.followers.proofs.repeating.repeat.Goals as goal
+
+pub returns-then-arc_room-sizes : goal.returns-then-arc_room-sizes
+returns-then-arc_room-sizes c =
+    let start = c in
+    let a = start.args in
+    let over : leb (a.sizes.arcs + (a.end - a.first)) (arc_room a.arcs.now) ≡ false =
+    lt-leb (a.sizes.arcs + (a.end - a.first)) (arc_room a.arcs.now)
+    (omega (arith, c.if-arc_room-sizes.true, c.arc_room.ensures)) in
+    record { answers = rw over; words = rw over }
+
+pub returns : goal.returns
+returns c =
+    let copy = c in
+    let test = copy in
+    let start = test in
+    let a = start.args in
+    let fits : leb (a.sizes.arcs + (a.end - a.first)) (arc_room a.arcs.now) ≡ true =
+    le-leb (a.sizes.arcs + (a.end - a.first)) (arc_room a.arcs.now)
+    (omega (arith, test.if-arc_room-sizes.false, test.arc_room.ensures)) in
+    record { answers = rw fits; words = rw fits copy.copy_span.ensures }

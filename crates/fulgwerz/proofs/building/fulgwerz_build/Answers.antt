@@ -1,0 +1,9 @@
+-- `building::fulgwerz_build` meets its contract: what the function called answers, as a struct, and
+-- what it leaves in the buffers.
+use mathlib.Core.Path.{ap, ◌∙◌}
+use Rattle.fulgwerz.specs.Answers.{build_answer}
+use Rattle.fulgwerz.proofs.building.fulgwerz_build.Goals as goal
+
+pub returns : goal.returns
+returns c =
+    let called = c in record { answer = c.build_answer.ensures ∙ ap build_answer called.build.ensures.answer; leaves = called.build.ensures.leaves }

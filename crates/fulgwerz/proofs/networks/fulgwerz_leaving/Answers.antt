@@ -1,0 +1,9 @@
+-- `networks::fulgwerz_leaving` meets its contract: what the function called answers, as a struct.
+use mathlib.Core.Path.{ap, ◌∙◌}
+use Rattle.fulgwerz.specs.Answers.{part_answer}
+use Rattle.fulgwerz.proofs.networks.fulgwerz_leaving.Goals as goal
+
+pub returns : goal.returns
+returns c =
+    let called = c in
+    c.part_answer.ensures ∙ ap part_answer called.part_leaving.ensures

@@ -1,0 +1,25 @@
+-- `adding::add_arc` meets its contract: with room, the words of the arc stand after the others.
+use Prim.Native.Nat.{◌≤◌, ◌<◌}
+use native.Mathlib.Omega.{arith}
+use borrow.Author.Tests.{lt-ltb, le-ltb}
+use Rattle.definitions.specs.Arcs.{arc_words}
+use Rattle.lines.specs.Putting.{put_at}
+use Rattle.growing.specs.Steps.{arc_room}
+use Rattle.growing.proofs.adding.add_arc.Goals as goal
+
+pub returns-then-arc_room-sizes : goal.returns-then-arc_room-sizes
+returns-then-arc_room-sizes c =
+    let a = c.args in
+    let full : arc_room a.arcs.now ≤ a.sizes.arcs =
+    omega (arith, c.if-arc_room-sizes.true, c.arc_room.ensures) in
+    record { answers = rw (le-ltb _ _ full); words = rw (le-ltb _ _ full) }
+
+pub returns : goal.returns
+unfolding put_at arc_words
+returns c =
+    let put = c in
+    let test = put in
+    let a = test.args in
+    let free : a.sizes.arcs < arc_room a.arcs.now =
+    omega (arith, test.if-arc_room-sizes.false, test.arc_room.ensures) in
+    record { answers = rw (lt-ltb _ _ free); words = rw (lt-ltb _ _ free) put.put_arc.ensures }

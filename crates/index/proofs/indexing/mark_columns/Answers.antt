@@ -1,0 +1,85 @@
+-- `indexing::mark_columns` meets its contract. The loop's invariant: the columns before `column` are marked.
+use mathlib.Core.Path.{sym, ap, ◌∙◌}
+use mathlib.Core.List.{List}
+use Prim.Native.Nat.{ℕ, ◌+◌, ◌-◌}
+use native.Mathlib.Omega.{arith}
+use lib.Seq.{get_or-drop}
+use Rattle.definitions.specs.Lists.{◌!◌}
+use Rattle.definitions.specs.Combinations.{combination_size}
+use Rattle.definitions.specs.Laws.Matrices.Sizes.{columns-held}
+use Rattle.index.specs.RecordWords.{record_of, IsRecord}
+use Rattle.index.specs.Laws.CutRecords.{cut-within, cut-is}
+use Rattle.index.specs.Filling.{ColumnsMarked}
+use Rattle.index.specs.Laws.Filling.{columns-none, columns-more, columns-all}
+use Rattle.index.proofs.indexing.mark_columns.Goals as goal
+use Rattle.index.proofs.indexing.mark_columns.Goals.{After-record_at-record}
+
+-- the record that is cut out
+record_is : (c : goal.After-record_at-record)
+    → IsRecord (combination_size c.args.header.half)
+    c.args.combinations.now c.args.number
+    c.record_at-record.result.now
+record_is c = cut-is c.combination_size.ensures c.record_at-record.ensures
+
+pub record_at-record-requires : goal.record_at-record-requires
+record_at-record-requires c =
+    let start = c in
+    cut-within c.combination_size.ensures start.args.combinations.now start.args.number
+    start.requires.within
+
+pub loop-column-init : goal.loop-column-init
+loop-column-init c = columns-none _
+
+pub overflow_add-column : goal.overflow_add-column
+overflow_add-column c =
+    let pre = c.requires in
+    record {
+      fits = omega (arith, c.loop-column-test.true, c.wide.ensures, pre.narrow.half_few, pre.number_few);
+    }
+
+pub bounds-record-column : goal.bounds-record-column
+bounds-record-column c =
+    let turn = c in
+    let pre = turn.requires in
+    omega (
+      arith,
+      turn.loop-column-test.true,
+      turn.wide.ensures,
+      columns-held _ pre.narrow.half_few,
+      (record_is (goal.at.bounds-record-column c).After-record_at-record).sized,
+    )
+
+pub mark_column-requires : goal.mark_column-requires
+mark_column-requires c =
+    let turn = c in
+    let pre = turn.requires in (
+      record {
+        phones_few = pre.narrow.phones_few;
+        blocks_few = pre.blocks_few;
+        left = omega (arith, turn.loop-column-test.true, turn.wide.ensures, pre.narrow.half_few);
+      },
+      pre.number_few,
+    )
+
+pub loop-column-smaller : goal.loop-column-smaller
+loop-column-smaller c =
+    let turn = c in
+    omega (arith, turn.loop-column-test.true, turn.wide.ensures)
+
+pub loop-column-preserved : goal.loop-column-preserved
+loop-column-preserved c =
+    let marked = c in
+    let turn = marked in
+    let a = turn.args in
+    let own = record_of (combination_size a.header.half) a.combinations.now a.number in
+    columns-more turn.loop-column.invariant
+    (ap (λ (l : List ℕ). l ! (4 + turn.loop-column.column)) (record_is (goal.at.loop-column-preserved c).After-record_at-record).is
+    ∙ sym (get_or-drop 4 own turn.loop-column.column 0))
+    marked.mark_column.ensures
+
+pub shape_of-index : goal.shape_of-index
+shape_of-index c = c.loop-column.invariant.marking.sized
+
+pub returns : goal.returns
+returns c =
+    columns-all (omega (arith, c.loop-column-test.false, c.wide.ensures)) c.loop-column.invariant

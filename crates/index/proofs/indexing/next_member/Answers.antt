@@ -1,0 +1,30 @@
+-- `indexing::next_member` meets its contract, by the zeros at the end of what is left of the set.
+use Prim.Native.Nat.{◌-◌, ◌/◌, ◌^◌}
+use native.Mathlib.Omega.{arith}
+use lib.Count.{trailing_le}
+use Rattle.index.specs.Laws.NextMember.{next_past, next-none, next-found}
+use Rattle.index.proofs.indexing.next_member.Goals as goal
+
+pub returns-then-from-gt64 : goal.returns-then-from-gt64
+returns-then-from-gt64 c =
+    let start = c in
+    let (some, within) = start.requires in
+    next_past start.args.set start.args.from some c.if-from-gt64.true within
+
+pub overflow_add-next : goal.overflow_add-next
+overflow_add-next c =
+    let a = c.args in
+    let (some, within) = c.requires in
+    record { fits = omega (arith, within, trailing_le 64 (a.set / 2 ^ (a.from - 1))) }
+
+pub returns-then-next-gt64 : goal.returns-then-next-gt64
+returns-then-next-gt64 c =
+    let start = c in
+    let (some, within) = start.requires in
+    next-none start.args.set start.args.from some c.if-from-gt64.false c.if-next-gt64.true
+
+pub returns : goal.returns
+returns c =
+    let start = c in
+    let (some, within) = start.requires in
+    next-found start.args.set start.args.from some c.if-next-gt64.false

@@ -1,0 +1,27 @@
+-- `indexing::note_ends` meets its contract. The loop's invariant: the ends before `i` were noted.
+use Prim.Native.Nat.{◌-◌}
+use native.Mathlib.Omega.{arith}
+use Rattle.index.specs.Filling.{Noted}
+use Rattle.index.specs.Laws.Filling.{noted-none, noted_more, noted-all}
+use Rattle.index.proofs.indexing.note_ends.Goals as goal
+
+pub loop-i-init : goal.loop-i-init
+loop-i-init c = noted-none _ _
+
+pub bounds-index-i : goal.bounds-index-i
+bounds-index-i c =
+    let turn = c in
+    let (sized, room) = turn.requires in
+    omega (arith, turn.loop-i.invariant.sized, room, turn.loop-i-test.true)
+
+pub loop-i-preserved : goal.loop-i-preserved
+loop-i-preserved c =
+    let turn = c in
+    let (sized, room) = turn.requires in
+    noted_more turn.loop-i.invariant turn.loop-i-test.true room c.wide.ensures
+
+pub shape_of-index : goal.shape_of-index
+shape_of-index c = c.loop-i.invariant.sized
+
+pub returns : goal.returns
+returns c = noted-all c.loop-i.invariant c.loop-i-test.false

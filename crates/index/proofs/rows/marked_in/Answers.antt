@@ -1,0 +1,12 @@
+-- `rows::marked_in` meets its contract: a place that is set in three words is set in their meet.
+use Rattle.index.specs.Laws.Rows.{in_all}
+use Rattle.index.proofs.rows.marked_in.Goals as goal
+
+pub returns : goal.returns
+returns c =
+    let second = c in
+    let first = second in
+    λ p a b all.
+    in_all p first.row_word-first.result second.row_word-second.result c.row_word-third.result
+    (first.row_word-first.ensures p a b all.first) (second.row_word-second.ensures p a b all.second)
+    (c.row_word-third.ensures p a b all.third)

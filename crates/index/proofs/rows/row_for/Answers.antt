@@ -1,0 +1,47 @@
+-- `rows::row_for` meets its contract: no row, or the row of the phone that the column has alone.
+use native.Mathlib.Omega.{arith}
+use Rattle.definitions.specs.Laws.Books.AcceptedKnown.{header-ranges}
+use Rattle.index.specs.Laws.RecordWords.{combinations-length}
+use Rattle.index.specs.Laws.Rows.{no_row, row-admits}
+use Rattle.index.proofs.rows.row_for.Goals as goal
+
+pub returns-then-wide-column : goal.returns-then-wide-column
+returns-then-wide-column c =
+    let (s, left) = c.requires in no_row s
+
+pub returns-then-set-alone : goal.returns-then-set-alone
+returns-then-set-alone c =
+    let (s, left) = c.requires in no_row s
+
+pub row_at-requires : goal.row_at-requires
+row_at-requires c =
+    let alone = c in
+    let start = alone in
+    let a = start.args in
+    let (s, left) = start.requires in (
+      record {
+        phones_few = (header-ranges a.header s.usable.header-known).phones_range.high;
+        blocks_few =
+            omega (
+              arith,
+              c.blocks_in.ensures,
+              s.usable.few,
+              combinations-length a.header a.combinations.now,
+            );
+        left = left;
+      },
+      alone.next_member-phone.ensures.within,
+    )
+
+pub returns : goal.returns
+returns c =
+    let blocks = c in
+    let test = blocks in
+    let alone = test in
+    let member = alone in
+    let left = member in
+    let (s, few) = left.requires in
+    row-admits s
+    (omega (arith, left.if-wide-column.false, left.wide.ensures)) member.next_member-phone.ensures.after
+    alone.alone.ensures test.if-set-alone.false blocks.blocks_in.ensures c.row_at.ensures.0
+    c.row_at.ensures.1

@@ -1,0 +1,92 @@
+-- `searching::after` meets its contract: where the centre lacks the phone, so it does up to the next phone
+-- that it has.
+use mathlib.Core.Path.{sym, ap, subst, ◌∙◌}
+use Prim.Native.Nat.{ℕ, ◌-◌, ◌≤◌}
+use native.Mathlib.Omega.{arith}
+use Rattle.definitions.specs.Lists.{◌!◌}
+use Rattle.matrix.specs.Shapes.{matrix_in}
+use Rattle.index.specs.Combinations.{combinations_in}
+use Rattle.index.specs.Following.{Beyond}
+use Rattle.index.specs.Laws.RecordWords.{combinations-length, has-phone}
+use Rattle.index.specs.Laws.Followers.{narrow, beyond-one, beyond-all, beyond-phones}
+use Rattle.index.proofs.searching.after.Goals as goal
+use Rattle.index.proofs.searching.after.Goals.{After-phone_of-phone}
+
+phone-few : (c : goal.After-phone_of-phone) → c.phone_of-phone.result ≤ 64
+phone-few c =
+    let failed = c.requires in
+    omega (arith, c.phone_of-phone.ensures, (has-phone _ _ failed.seeking.usable _ failed.listed).few)
+
+pub bounds-shifted-wide : goal.bounds-shifted-wide
+bounds-shifted-wide c =
+    omega (arith, c.wide.ensures, narrow c.requires.seeking.usable)
+
+pub phone_of-phone-requires : goal.phone_of-phone-requires
+phone_of-phone-requires c =
+    let failed = c.requires in
+    has-phone _ _ failed.seeking.usable _ failed.listed
+
+pub overflow_add-result : goal.overflow_add-result
+overflow_add-result c =
+    let failed = c.requires in
+    omega (arith, failed.listed, failed.seeking.usable.few)
+
+pub returns-then-has_phone : goal.returns-then-has_phone
+returns-then-has_phone c =
+    let failed = c.requires in
+    let s = failed.seeking in
+    beyond-one s.usable s.shaped failed.listed failed.fails
+
+pub overflow_add-phone : goal.overflow_add-phone
+overflow_add-phone c = omega (arith, phone-few (goal.at.overflow_add-phone c).After-phone_of-phone)
+
+pub next_member-next-requires : goal.next_member-next-requires
+next_member-next-requires c = (omega arith, omega (arith, phone-few (goal.at.next_member-next-requires c).After-phone_of-phone))
+
+pub returns-then-header-next : goal.returns-then-header-next
+returns-then-header-next c =
+    let member = c in
+    let left = member in
+    let tested = left in
+    let known = tested in
+    let start = known in
+    let a = start.args in
+    let s = start.requires.seeking in
+    subst (λ (n : ℕ).
+    Beyond (matrix_in a.header.half a.shifted.columns) (combinations_in a.header a.combinations.now)
+    a.number n)
+    (combinations-length a.header a.combinations.now ∙ sym c.count_of.ensures)
+    (beyond-all s.usable s.shaped s.indexed start.requires.listed known.phone_of-phone.ensures
+    known.wide.ensures (sym tested.has_phone.ensures ∙ left.if-has_phone.false)
+    member.next_member-next.ensures c.if-header-next.true)
+
+pub overflow_sub-result : goal.overflow_sub-result
+overflow_sub-result c = omega (arith, c.wide-2.ensures, c.next_member-next.ensures.after)
+
+pub bounds-index-wide : goal.bounds-index-wide
+bounds-index-wide c =
+    let widened = c in
+    let member = widened in
+    let start = member in
+    omega (
+      arith,
+      widened.wide-2.ensures,
+      member.next_member-next.ensures.within,
+      member.next_member-next.ensures.after,
+      start.requires.seeking.indexed.sized,
+    )
+
+pub returns : goal.returns
+returns c =
+    let widened = c in
+    let test = widened in
+    let member = test in
+    let left = member in
+    let tested = left in
+    let known = tested in
+    let start = known in
+    let s = start.requires.seeking in
+    beyond-phones s.usable s.shaped s.indexed start.requires.listed known.phone_of-phone.ensures
+    known.wide.ensures (sym tested.has_phone.ensures ∙ left.if-has_phone.false)
+    member.next_member-next.ensures test.if-header-next.false
+    (ap (λ (k : ℕ). start.args.index.now ! (k - 1)) widened.wide-2.ensures)

@@ -1,0 +1,22 @@
+-- `searching::next_follower` meets its contract. The loop's invariant: none before `number` follows.
+use mathlib.Core.Path.{◌≡◌, sym, ◌∙◌}
+use Prim.Native.Nat.{◌-◌, ◌<◌}
+use native.Mathlib.Omega.{arith}
+use lib.ListN.{length}
+use Rattle.definitions.specs.Searching.{NoneFrom}
+use Rattle.definitions.specs.Laws.Lists.Searching.{none_more, none_found, none-all}
+use Rattle.matrix.specs.Shapes.{matrix_in}
+use Rattle.index.specs.Combinations.{combinations_in}
+use Rattle.index.specs.Following.{follows_at}
+use Rattle.index.specs.Laws.RecordWords.{combinations-length}
+use Rattle.index.specs.Laws.Rows.{admitting-near, marked-none}
+use Rattle.index.proofs.searching.next_follower.Given as goal
+
+abbrev pub invariant-loop-number : goal.invariant-loop-number
+invariant-loop-number l =
+    NoneFrom (follows_at (matrix_in l.header.half l.shifted.columns) (combinations_in l.header l.combinations))
+    (length (combinations_in l.header l.combinations)) l.from l.number
+
+abbrev pub decreases-loop-number : goal.decreases-loop-number
+decreases-loop-number l =
+    l.count - l.number

@@ -1,0 +1,19 @@
+-- `beginning::join_known` meets its contract: whatever the number of heads, they are cleared, and there are more than
+-- joined states have room for.
+use native.Mathlib.Omega.{arith}
+use Rattle.definitions.specs.Joining.{join_room}
+use Rattle.joining.specs.Laws.Starting.{cleared-chains}
+use Rattle.joining.proofs.beginning.join_known.Goals as goal
+
+pub join_with-requires : goal.join_with-requires
+unfolding join_room
+join_with-requires c =
+    let test = c in
+    let start = test in
+    (start.requires, cleared-chains start.requires 8192 (omega (arith, test.if-state_room-lt-FEW.true, test.state_room.ensures)))
+
+pub join_with-requires-2 : goal.join_with-requires-2
+unfolding join_room
+join_with-requires-2 c =
+    let start = c in
+    (start.requires, cleared-chains start.requires 131072 (omega arith))

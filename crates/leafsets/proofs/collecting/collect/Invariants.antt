@@ -1,0 +1,17 @@
+-- `collecting::collect` meets its contract. The loop's invariant: the records before `node` that were used are
+-- listed, `count` of them, and no longer used; those from `node` on are as they were.
+use mathlib.Core.Path.{◌∙◌}
+use mathlib.Core.Logic.{⊎_elim}
+use Prim.Native.Nat.{◌+◌, ◌-◌, ◌/◌, ◌<◌}
+use native.Mathlib.Omega.{arith}
+use lib.ListN.{length}
+use Rattle.leafsets.specs.Laws.CollectingLeaves.{Collected, collected-start, node-inside, place_inside}
+use Rattle.leafsets.specs.Laws.CollectingLeaves.{collected-more, collected-past, collected-end}
+use Rattle.leafsets.proofs.collecting.collect.Given as goal
+
+abbrev pub invariant-loop-node : goal.invariant-loop-node
+invariant-loop-node l =
+    Collected l.initial.table l.initial.list l.node l.count l.table l.list
+
+abbrev pub decreases-loop-node : goal.decreases-loop-node
+decreases-loop-node l = l.last + 1 - l.node

@@ -1,0 +1,15 @@
+-- `clearing::clear_bytes` meets its contract. The loop's invariant: all before `i` is 0, the rest is as it
+-- came.
+use Prim.Native.Nat.{◌-◌}
+use lib.ListN.{length}
+use Rattle.lines.specs.Laws.Filling.{FilledWith, filled-start, with-more, with-end}
+use Rattle.lines.proofs.clearing.clear_bytes.Goals as goal
+
+pub loop-i-init : goal.loop-i-init
+loop-i-init c = filled-start _ _
+
+pub loop-i-preserved : goal.loop-i-preserved
+loop-i-preserved c = with-more 0 c.loop-i.invariant c.loop-i-test.true
+
+pub returns : goal.returns
+returns c = with-end 0 c.loop-i.invariant c.loop-i-test.false

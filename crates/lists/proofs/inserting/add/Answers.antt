@@ -1,0 +1,33 @@
+-- `inserting::add` meets its contract: only a valid matrix is put in.
+use mathlib.Core.Path.{◌≡◌, ap, ◌∙◌}
+use Prim.Native.Nat.{ℕ}
+use lib.ListN.{take}
+use Rattle.definitions.specs.Matrices.{valid}
+use Rattle.definitions.specs.Laws.Lists.Tests.{held, failed}
+use Rattle.matrix.specs.Shapes.{matrix_in}
+use Rattle.lists.specs.Laws.Meeting.{added-valid, added-invalid}
+use Rattle.std.proofs.lemmas.Bool.{not_from_true}
+use Rattle.std.proofs.lemmas.Bool.{not_from_false}
+use Rattle.lists.proofs.inserting.add.Goals as goal
+use Rattle.lists.proofs.inserting.add.Goals.{After-valid, Start}
+
+-- the test is of the matrix
+module _ (c : goal.After-valid) where
+  abbrev start : goal.Start
+  start = c
+
+  tested : c.valid.result ≡ valid (matrix_in start.args.half start.args.m.columns)
+  tested =
+      c.valid.ensures
+      ∙ ap (λ (k : ℕ). valid (take k start.args.m.columns)) c.width_of_lem.ensures.0
+
+pub returns-then-not-valid : goal.returns-then-not-valid
+returns-then-not-valid c =
+    let call = c in
+    added-invalid _ (failed (tested (goal.at.returns-then-not-valid c).After-valid) (not_from_false _ c.if-not-valid.true)) (start (goal.at.returns-then-not-valid c).After-valid).requires
+
+pub returns : goal.returns
+returns c =
+    let call = c in
+    added-valid _ (held (tested (goal.at.returns c).After-valid) (not_from_true _ c.if-not-valid.false))
+    c.insert.ensures

@@ -1,0 +1,66 @@
+-- `inserting::insert_at` meets its contract: the gap is opened, filled and counted, where there is room for it.
+use mathlib.Core.Path.{◌≡◌, sym, ◌∙◌}
+use Prim.Native.Nat.{◌+◌, ◌≤◌, ◌<◌}
+use native.Mathlib.Omega.{arith}
+use lib.ListN.{length, length-set}
+use Rattle.definitions.specs.Lists.{◌!◌}
+use Rattle.definitions.specs.Matrices.{matrix_size}
+use Rattle.lists.specs.Laws.Held.{wide_enough}
+use Rattle.lists.specs.Laws.Inserting.{gap-fits, gap-as, inserted, ninth}
+use borrow.Author.Rules.{rules}
+use Rattle.lists.proofs.inserting.insert_at.Goals as goal
+use Rattle.lists.proofs.inserting.insert_at.Goals.{After-start_of, Start}
+
+pub returns-then-count-eq8 : goal.returns-then-count-eq8
+returns-then-count-eq8 c =
+    let start = c in
+    ninth _ _ start.requires.1 (sym c.matrices_in-count.ensures ∙ c.if-count-eq8.true)
+
+sized : (c : goal.Start) → length c.args.m.columns ≡ 7
+sized c = search rules
+
+-- where the matrix goes, and where the last one ends
+module _ (c : goal.After-start_of) where
+  abbrev start : goal.Start
+  start = c
+
+  abbrev count_is : c.matrices_in-count.result ≡ start.args.list.now ! 0
+  count_is = c.matrices_in-count.ensures
+
+  within : start.args.place ≤ c.matrices_in-count.result
+  within = omega (arith, count_is, start.requires.1)
+
+  few : c.matrices_in-count.result < 8
+  few = omega (arith, count_is, start.requires.0.few, c.if-count-eq8.false)
+
+  fits : (c.start_of-from.result ≤ c.start_of.result)
+      × (c.start_of.result + matrix_size start.args.half ≤ length start.args.list.now)
+  fits = gap-fits start.requires.0 _ _ within c c.start_of-from.ensures c.start_of.ensures
+
+pub open_gap-requires : goal.open_gap-requires
+open_gap-requires c = ((fits (goal.at.open_gap-requires c).After-start_of).0, omega (arith, (fits (goal.at.open_gap-requires c).After-start_of).1, c.matrix_size.ensures.0))
+
+pub put_columns-requires : goal.put_columns-requires
+put_columns-requires c =
+    let gap = c in
+    let call = gap in
+    let space = (start (goal.at.put_columns-requires c).After-start_of).requires.0.space in (
+      space.narrow,
+      omega (arith, fits (goal.at.put_columns-requires c).After-start_of, gap.open_gap.ensures.sized, wide_enough space),
+    )
+
+pub shape_of-list : goal.shape_of-list
+shape_of-list c =
+    let put = c in
+    length-set put.put_columns.new.1.0 0 _
+    ∙ put.put_columns.ensures.sized ∙ put.open_gap.ensures.sized
+
+pub returns : goal.returns
+returns c =
+    let put = c in
+    let gap = put in
+    let call = gap in
+    inserted (start (goal.at.returns c).After-start_of).requires.0 _ _ (sized (start (goal.at.returns c).After-start_of)) (count_is (goal.at.returns c).After-start_of) (within (goal.at.returns c).After-start_of) (few (goal.at.returns c).After-start_of)
+    call.start_of-from.ensures call.start_of.ensures
+    (gap-as gap.matrix_size.ensures.0 gap.open_gap.ensures)
+    put.put_columns.ensures

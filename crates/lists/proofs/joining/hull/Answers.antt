@@ -1,0 +1,38 @@
+-- `joining::hull` meets its contract. The loop's invariant: the matrices before `place` are joined.
+use Prim.Native.Nat.{◌-◌}
+use Rattle.lists.specs.Held.{list_in}
+use Rattle.lists.specs.Laws.Held.{columns-length, Turn, turn-of, turns-end}
+use Rattle.lists.specs.Laws.Joining.{Joined, joined-start, joined-more, joined_end}
+use Rattle.lists.proofs.joining.hull.Goals as goal
+use Rattle.lists.proofs.joining.hull.Goals.{After-start_of, Start}
+
+pub loop-place-init : goal.loop-place-init
+loop-place-init c =
+    let start = c in
+    joined-start start.requires.space.narrow _
+
+-- a turn's matrix
+module _ (c : goal.After-start_of) where
+  abbrev start : goal.Start
+  start = c
+
+  turn : Turn start.args.half start.args.list.now c.loop-place.place
+      c.start_of.result
+  turn =
+      turn-of start.requires c.matrices_in-count.ensures c.loop-place.place
+      c.loop-place-test.true c.start_of.ensures
+
+pub join_from-sofar-requires : goal.join_from-sofar-requires
+join_from-sofar-requires c = ((start (goal.at.join_from-sofar-requires c).After-start_of).requires.space.narrow, (turn (goal.at.join_from-sofar-requires c).After-start_of).there)
+
+pub loop-place-preserved : goal.loop-place-preserved
+loop-place-preserved c =
+    let at = c in
+    joined-more at.loop-place.invariant _ (turn (goal.at.loop-place-preserved c).After-start_of).inside (turn (goal.at.loop-place-preserved c).After-start_of).its
+    (columns-length _ _ _ (turn (goal.at.loop-place-preserved c).After-start_of).there) c.join_from-sofar.ensures
+
+pub returns : goal.returns
+returns c =
+    joined_end c.loop-place.invariant
+    (turns-end c.requires c.matrices_in-count.ensures _
+    c.loop-place-test.false)

@@ -1,0 +1,44 @@
+-- `joining::join_from` meets its contract. The loop's invariant: the first `c` columns are joined.
+use mathlib.Core.Path.{◌≡◌}
+use Prim.Native.Nat.{◌-◌, ◌≤◌}
+use native.Mathlib.Omega.{arith}
+use lib.ListN.{length}
+use Rattle.definitions.specs.Matrices.{most_columns, matrix_words}
+use Rattle.lines.specs.Laws.Filling.{filled-start}
+use Rattle.matrix.specs.Shapes.{width_of, matrix_in}
+use Rattle.matrix.specs.Laws.Words.{Columns}
+use Rattle.lists.specs.Held.{columns_at}
+use Rattle.lists.specs.Joining.{join}
+use Rattle.lists.specs.Laws.Joining.{joined_length, joined-column}
+use Rattle.lists.specs.Laws.Values.{made_more, made-end}
+use borrow.Author.Rules.{rules}
+use Rattle.lists.proofs.joining.join_from.Goals as goal
+use Rattle.lists.proofs.joining.join_from.Goals.{Start}
+
+pub loop-c-init : goal.loop-c-init
+loop-c-init c = (c.width_of_lem.ensures.0, omega arith, filled-start _ _)
+
+sized : (c : goal.Start) → length c.args.m.columns ≡ most_columns
+sized c = search rules
+
+pub loop-c-preserved : goal.loop-c-preserved
+loop-c-preserved c =
+    let turn = c in
+    let start = turn in
+    let a = start.args in (
+      turn.loop-c.invariant.0,
+      search rules,
+      made_more start.requires.0 _
+          (joined_length start.requires.0 a.m.columns (sized (goal.at.loop-c-preserved c).Start) a.words.now a.from start.requires.1)
+          turn.loop-c.invariant.2 (omega arith)
+          (joined-column start.requires.0 a.m.columns (sized (goal.at.loop-c-preserved c).Start) a.words.now a.from start.requires.1 _
+          (omega arith)),
+    )
+
+pub returns : goal.returns
+returns c =
+    let start = c in
+    let a = start.args in
+    made-end start.requires.0 _
+    (joined_length start.requires.0 a.m.columns (sized (goal.at.returns c).Start) a.words.now a.from start.requires.1)
+    c.loop-c.invariant.2 (omega arith)

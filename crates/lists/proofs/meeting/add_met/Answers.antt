@@ -1,0 +1,41 @@
+-- `meeting::add_met` meets its contract: only a valid meet is put in.
+use mathlib.Core.Path.{◌≡◌}
+use lib.ListN.{length}
+use Rattle.definitions.specs.Matrices.{most_columns}
+use Rattle.lists.specs.Laws.Held.{columns-length}
+use Rattle.lists.specs.Laws.Meeting.{met-none, met_some, met-is, added-valid, added-invalid}
+use borrow.Author.Rules.{rules}
+use Rattle.lists.proofs.meeting.add_met.Goals as goal
+use Rattle.lists.proofs.meeting.add_met.Goals.{Start}
+
+pub matrix_from-requires : goal.matrix_from-requires
+matrix_from-requires c = (c.requires.1.space.narrow, c.requires.0)
+
+seven : (c : goal.Start) → length c.args.m.columns ≡ most_columns
+seven c = search rules
+
+pub returns-then-met-eq0 : goal.returns-then-met-eq0
+returns-then-met-eq0 c =
+    let met = c in
+    let a = met.args in
+    added-invalid _
+    (met-none met.requires.1.space.narrow a.m.columns (seven (goal.at.returns-then-met-eq0 c).Start) _
+    (columns-length a.half a.words.now a.from met.requires.0)
+    met.matrix_from.ensures met.width_of_lem.ensures.0 met.meet-meeting.ensures.matrix
+    c.if-met-eq0.true)
+    met.requires.1
+
+pub returns : goal.returns
+returns c =
+    let call = c in
+    let other = call in
+    let met = other in
+    let a = met.args in
+    let x = columns-length a.half a.words.now a.from met.requires.0 in
+    let read = met.matrix_from.ensures in
+    let width = met.width_of_lem.ensures.0 in
+    let narrow = met.requires.1.space.narrow in
+    added-valid _
+    (met_some narrow a.m.columns (seven (goal.at.returns c).Start) _ x read width met.meet-meeting.ensures.matrix other.if-met-eq0.false)
+    (rw (met-is narrow a.m.columns (seven (goal.at.returns c).Start) _ x read width met.meet-meeting.ensures.matrix
+    other.if-met-eq0.false) at call.insert.ensures)

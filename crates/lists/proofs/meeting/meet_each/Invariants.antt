@@ -1,0 +1,23 @@
+-- `meeting::meet_each` meets its contract. The loop's invariant: the meets with the matrices before `place`
+-- are in.
+use mathlib.Core.Path.{refl, ap, ◌∙◌}
+use mathlib.Core.List.{map}
+use Prim.Native.Nat.{◌-◌}
+use Rattle.definitions.specs.Matrices.{meet}
+use Rattle.definitions.specs.MatrixLists.{gather}
+use Rattle.definitions.specs.Laws.Lists.Tests.{held, failed}
+use Rattle.matrix.specs.Shapes.{matrix_in}
+use Rattle.lists.specs.Held.{list_in}
+use Rattle.lists.specs.Laws.Held.{Turn, turn-of, turns-end}
+use Rattle.lists.specs.Laws.Meeting.{Gathered, gathered-start, gathered-more, gathered-stop, gathered-end}
+use Rattle.lists.specs.Laws.Meeting.{met_alone, met-each}
+use Rattle.lists.proofs.meeting.meet_each.Given as goal
+
+abbrev pub invariant-loop-place : goal.invariant-loop-place
+invariant-loop-place l =
+    Gathered l.half (met_alone (matrix_in l.half l.m.columns)) (list_in l.half l.list)
+    (gather (list_in l.half l.initial.out) (map (meet (matrix_in l.half l.m.columns)) (list_in l.half l.list)))
+    l.place l.initial.out l.out
+
+abbrev pub decreases-loop-place : goal.decreases-loop-place
+decreases-loop-place l = l.count - l.place

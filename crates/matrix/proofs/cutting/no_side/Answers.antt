@@ -1,0 +1,24 @@
+-- `cutting::no_side` meets its contract: a store into one column, or none.
+use mathlib.Core.Path.{◌≡◌}
+use native.Mathlib.Omega.{arith}
+use lib.ListN.{length}
+use mir.Syntax.{w64}
+use mir.Val.{Fits}
+use Rattle.definitions.specs.Lists.{◌!◌}
+use Rattle.matrix.specs.Laws.Columns.{no_cut, no-beyond}
+use borrow.Author.Rules.{rules}
+use Rattle.matrix.proofs.cutting.no_side.Goals as goal
+
+pub returns-then-at-lt7 : goal.returns-then-at-lt7
+returns-then-at-lt7 c =
+    let a = c.args in
+    let word : Fits w64 (a.m.columns ! c.wide-at.result) = search rules in
+    no_cut a.position a.set a.m.columns c.wide-at.result
+    c.wide-at.ensures word.fits c.ranges.set.fits
+
+pub returns-else-at-lt7 : goal.returns-else-at-lt7
+returns-else-at-lt7 c =
+    let a = c.args in
+    let sized : length a.m.columns ≡ 7 = search rules in
+    no-beyond a.position a.set a.m.columns
+    (omega (arith, sized, c.if-at-lt7.false, c.wide-at.ensures))

@@ -1,0 +1,16 @@
+-- `meeting::meets` meets its contract: the first word of a meeting is 0 exactly where it is not valid.
+use mathlib.Core.Path.{◌≡◌, sym, ◌∙◌}
+use lib.ListN.{length}
+use Rattle.matrix.specs.Laws.Meeting.{first-tells}
+use borrow.Author.Rules.{rules}
+use Rattle.matrix.proofs.meeting.meets.Goals as goal
+
+pub returns : goal.returns
+returns c =
+    let met = c in
+    let start = met in
+    let a = start.args.a.columns in
+    let b = start.args.b.columns in
+    let seven : length a ≡ 7 = search rules in
+    let other : length b ≡ 7 = search rules in
+    first-tells a b start.args.width seven (other ∙ sym seven) start.requires met.meet-met.ensures.matrix

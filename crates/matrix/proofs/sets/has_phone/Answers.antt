@@ -1,0 +1,16 @@
+-- `sets::has_phone` meets its contract: the bit worth 2^(phone-1); a word has none beyond 64.
+use Rattle.matrix.specs.Laws.Sets.{has-zero, has-beyond, has-bit}
+use Rattle.matrix.proofs.sets.has_phone.Goals as goal
+
+pub returns-then-phone-eq0 : goal.returns-then-phone-eq0
+returns-then-phone-eq0 c = has-zero c.args.phone c.args.set c.if-phone-eq0.true
+
+pub returns-then-phone-gt64 : goal.returns-then-phone-gt64
+returns-then-phone-gt64 c =
+    let start = c in
+    has-beyond start.args.phone start.args.set start.ranges.set.fits c.if-phone-gt64.true
+
+pub returns : goal.returns
+returns c =
+    let start = c in
+    has-bit start.args.phone start.args.set c.if-phone-eq0.false

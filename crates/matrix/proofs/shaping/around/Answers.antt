@@ -1,0 +1,28 @@
+-- `shaping::around` meets its contract. The loop's invariant: the columns before `c` are made, the rest are 0.
+use mathlib.Core.Path.{◌∙◌}
+use Prim.Native.Nat.{◌-◌}
+use lib.ListN.{take}
+use Rattle.definitions.specs.Matrices.{most_columns, matrix_words}
+use Rattle.lines.specs.Laws.Filling.{filled-start}
+use Rattle.matrix.specs.Shapes.{columns_around}
+use Rattle.matrix.specs.Laws.Words.{Columns, columns-more, columns-end}
+use Rattle.matrix.specs.Laws.Shapes.{around-seven, around-at}
+use Rattle.matrix.proofs.shaping.around.Goals as goal
+
+pub loop-c-init : goal.loop-c-init
+loop-c-init c = filled-start _ _
+
+pub loop-c-preserved : goal.loop-c-preserved
+loop-c-preserved c =
+    let turn = c in
+    let a = turn.args in
+    columns-more (around-seven a.half a.left a.centre a.right) turn.loop-c.invariant
+    turn.loop-c-test.true
+    (c.column_around.ensures
+    ∙ around-at a.half a.left a.centre a.right _ turn.loop-c-test.true)
+
+pub returns : goal.returns
+returns c =
+    let a = c.args in
+    columns-end (around-seven a.half a.left a.centre a.right) c.loop-c.invariant
+    c.loop-c-test.false

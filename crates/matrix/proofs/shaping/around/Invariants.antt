@@ -1,0 +1,17 @@
+-- `shaping::around` meets its contract. The loop's invariant: the columns before `c` are made, the rest are 0.
+use mathlib.Core.Path.{◌∙◌}
+use Prim.Native.Nat.{◌-◌}
+use lib.ListN.{take}
+use Rattle.definitions.specs.Matrices.{most_columns, matrix_words}
+use Rattle.lines.specs.Laws.Filling.{filled-start}
+use Rattle.matrix.specs.Shapes.{columns_around}
+use Rattle.matrix.specs.Laws.Words.{Columns, columns-more, columns-end}
+use Rattle.matrix.specs.Laws.Shapes.{around-seven, around-at}
+use Rattle.matrix.proofs.shaping.around.Given as goal
+
+abbrev pub invariant-loop-c : goal.invariant-loop-c
+invariant-loop-c l =
+    Columns (take most_columns (matrix_words (columns_around l.half l.left l.centre l.right))) l.c l.columns
+
+abbrev pub decreases-loop-c : goal.decreases-loop-c
+decreases-loop-c l = 7 - l.c

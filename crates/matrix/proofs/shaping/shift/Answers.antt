@@ -1,0 +1,21 @@
+-- `shaping::shift` meets its contract. The loop's invariant: the columns before `c` are shifted, the
+-- rest are 0.
+use mathlib.Core.Path.{◌∙◌}
+use Prim.Native.Nat.{◌-◌}
+use Rattle.lines.specs.Laws.Filling.{filled-start}
+use Rattle.matrix.specs.Shapes.{shifted_words}
+use Rattle.matrix.specs.Laws.Words.{Columns, columns-more, columns-end}
+use Rattle.matrix.specs.Laws.Shapes.{shifted-length, shifted_at}
+use Rattle.matrix.proofs.shaping.shift.Goals as goal
+
+pub loop-c-init : goal.loop-c-init
+loop-c-init c = filled-start _ _
+
+pub loop-c-preserved : goal.loop-c-preserved
+loop-c-preserved c =
+    let turn = c in
+    columns-more (shifted-length _ _ _) turn.loop-c.invariant turn.loop-c-test.true
+    (c.column_shifted.ensures ∙ shifted_at _ _ _ _ turn.loop-c-test.true)
+
+pub returns : goal.returns
+returns c = columns-end (shifted-length _ _ _) c.loop-c.invariant c.loop-c-test.false

@@ -1,0 +1,30 @@
+-- `whole::whole_matrix` meets its contract. The loop's invariant: the columns before `c` are read.
+use mathlib.Core.Path.{sym, ◌∙◌}
+use mathlib.Core.List.{List}
+use Prim.Native.Nat.{ℕ, ◌-◌}
+use lib.ListN.{drop}
+use lib.Seq.{get_or-drop}
+use Rattle.lines.specs.Laws.Filling.{filled-start}
+use Rattle.matrix.specs.Laws.Words.{Columns, columns-more, columns-end, seven-length, seven_at}
+use Rattle.matrix.specs.Words.{first_seven}
+use Rattle.matrix.proofs.whole.whole_matrix.Goals as goal
+use Rattle.matrix.proofs.whole.whole_matrix.Goals.{Start}
+
+-- the words from the place on
+abbrev rest : goal.Start → List ℕ
+rest c = drop c.args.from c.args.words.now
+
+pub loop-c-init : goal.loop-c-init
+loop-c-init c = filled-start _ _
+
+pub loop-c-preserved : goal.loop-c-preserved
+loop-c-preserved c =
+    let turn = c in
+    let start = turn in
+    columns-more (seven-length (rest (goal.at.loop-c-preserved c).Start)) turn.loop-c.invariant turn.loop-c-test.true
+    (sym (get_or-drop start.args.from start.args.words.now _ 0)
+    ∙ seven_at (rest (goal.at.loop-c-preserved c).Start) _ turn.loop-c-test.true)
+
+pub returns : goal.returns
+returns c =
+    columns-end (seven-length (rest (goal.at.returns c).Start)) c.loop-c.invariant c.loop-c-test.false

@@ -1,0 +1,62 @@
+-- `reader::read_lines` meets its contract. The loop's invariant: the first `i` lines were taken.
+use Prim.Native.Nat.{◌-◌, ◌/◌}
+use native.Mathlib.Omega.{arith}
+use lib.ListN.{length}
+use Rattle.definitions.specs.Laws.Lists.Tests.{held, failed}
+use Rattle.lines.specs.Laws.Judging.{next-bytes}
+use Rattle.nettext.specs.Laws.Reading.{Turn, first-turn, turn-ready, turn-endable, turn-next}
+use Rattle.nettext.specs.Laws.Reading.{torn-returns, stop-returns, end_returns}
+use Rattle.std.proofs.lemmas.Bool.{not_from_true}
+use Rattle.std.proofs.lemmas.Bool.{not_from_false}
+use Rattle.nettext.proofs.reader.read_lines.Goals as goal
+
+pub returns-then-not-whole_lines-clause-answer : goal.returns-then-not-whole_lines-clause-answer
+returns-then-not-whole_lines-clause-answer c = (torn-returns _ _ (failed c.whole_lines.ensures (not_from_false _ c.if-not-whole_lines.true))).0
+
+pub returns-then-not-whole_lines-clause-arcs : goal.returns-then-not-whole_lines-clause-arcs
+returns-then-not-whole_lines-clause-arcs c = (torn-returns _ _ (failed c.whole_lines.ensures (not_from_false _ c.if-not-whole_lines.true))).1
+
+pub loop-i-init : goal.loop-i-init
+loop-i-init c =
+    let whole = held c.whole_lines.ensures (not_from_true _ c.if-not-whole_lines.false) in
+    let start = c in
+    first-turn _ _ _ whole c.no_lines-state.ensures start.requires
+
+pub take_line-step-requires : goal.take_line-step-requires
+take_line-step-requires c =
+    let turn = c in
+    let at = turn.loop-i in
+    turn-ready at.invariant _ (next-bytes _ at.i) turn.loop-i-test.true (omega arith) (omega arith)
+
+pub returns-in-Stop-clause-answer : goal.returns-in-Stop-clause-answer
+returns-in-Stop-clause-answer c = (let call = c in
+    let taken = call.take_line-step.ensures in
+    let at = call.loop-i in
+    stop-returns at.inv _ _ _ _ (next-bytes _ at.i) call.loop-i-test.true taken.0
+    c.in-Stop.is taken.1).0
+
+pub returns-in-Stop-clause-arcs : goal.returns-in-Stop-clause-arcs
+returns-in-Stop-clause-arcs c = (let call = c in
+    let taken = call.take_line-step.ensures in
+    let at = call.loop-i in
+    stop-returns at.inv _ _ _ _ (next-bytes _ at.i) call.loop-i-test.true taken.0
+    c.in-Stop.is taken.1).1
+
+pub loop-i-preserved : goal.loop-i-preserved
+loop-i-preserved c =
+    let call = c in
+    let taken = call.take_line-step.ensures in
+    let at = call.loop-i in
+    turn-next at.inv _ _ _ _ (next-bytes _ at.i) call.loop-i-test.true taken.0
+    c.in-Next.is taken.1
+
+pub finish-requires : goal.finish-requires
+finish-requires c = turn-endable c.loop-i.invariant (omega arith)
+
+pub returns-clause-answer : goal.returns-clause-answer
+returns-clause-answer c = (let head = c in
+    end_returns head.loop-i.invariant _ head.loop-i-test.false c.finish.ensures).0
+
+pub returns-clause-arcs : goal.returns-clause-arcs
+returns-clause-arcs c = (let head = c in
+    end_returns head.loop-i.invariant _ head.loop-i-test.false c.finish.ensures).1

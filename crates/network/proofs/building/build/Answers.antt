@@ -1,0 +1,66 @@
+-- `building::build` meets its contract: combining refuses, or what it left is connected.
+use Rattle.network.specs.Laws.Building.{connect-ready, connect-returns, combine-returns}
+use Rattle.network.proofs.building.build.Goals as goal
+
+pub connect_in-requires : goal.connect_in-requires
+connect_in-requires c =
+    let chosen = c in
+    let after = chosen in
+    let words = after in
+    let sets = words in
+    let a = sets.args in
+    connect-ready a.header a.nodes.now a.classes.now a.roots.now a.plains.now
+    a.combinations.now a.metastates.now a.arcs.now sets.clear_wide_words.ensures
+    words.clear_words.ensures
+    after.combine-by_phone.ensures.answer after.combine-by_phone.ensures.ends.0 after.combine-by_phone.ensures.ends.1
+    _ chosen.in-Combinations.is
+
+pub returns-in-Combinations-clause-answer : goal.returns-in-Combinations-clause-answer
+returns-in-Combinations-clause-answer c = (let connected = c in
+    let chosen = connected in
+    let after = chosen in
+    let words = after in
+    let sets = words in
+    let a = sets.args in
+    connect-returns a.header a.nodes.now a.classes.now a.roots.now a.plains.now
+    a.combinations.now a.metastates.now a.arcs.now sets.clear_wide_words.ensures
+    words.clear_words.ensures
+    after.combine-by_phone.ensures.answer after.combine-by_phone.ensures.ends.0 after.combine-by_phone.ensures.ends.1
+    _ chosen.in-Combinations.is a.limit connected.connect_in.ensures).0
+
+pub returns-in-Combinations-clause-leaves : goal.returns-in-Combinations-clause-leaves
+returns-in-Combinations-clause-leaves c = (let connected = c in
+    let chosen = connected in
+    let after = chosen in
+    let words = after in
+    let sets = words in
+    let a = sets.args in
+    connect-returns a.header a.nodes.now a.classes.now a.roots.now a.plains.now
+    a.combinations.now a.metastates.now a.arcs.now sets.clear_wide_words.ensures
+    words.clear_words.ensures
+    after.combine-by_phone.ensures.answer after.combine-by_phone.ensures.ends.0 after.combine-by_phone.ensures.ends.1
+    _ chosen.in-Combinations.is a.limit connected.connect_in.ensures).1
+
+pub returns-in-Refused-clause-answer : goal.returns-in-Refused-clause-answer
+returns-in-Refused-clause-answer c = (let refused = c in
+    let after = refused in
+    let words = after in
+    let sets = words in
+    let a = sets.args in
+    combine-returns a.header a.nodes.now a.classes.now a.roots.now a.plains.now
+    a.combinations.now a.metastates.now a.arcs.now sets.clear_wide_words.ensures
+    words.clear_words.ensures
+    after.combine-by_phone.ensures.answer after.combine-by_phone.ensures.ends.0 after.combine-by_phone.ensures.ends.1
+    a.limit _ refused.in-Refused.is).0
+
+pub returns-in-Refused-clause-leaves : goal.returns-in-Refused-clause-leaves
+returns-in-Refused-clause-leaves c = (let refused = c in
+    let after = refused in
+    let words = after in
+    let sets = words in
+    let a = sets.args in
+    combine-returns a.header a.nodes.now a.classes.now a.roots.now a.plains.now
+    a.combinations.now a.metastates.now a.arcs.now sets.clear_wide_words.ensures
+    words.clear_words.ensures
+    after.combine-by_phone.ensures.answer after.combine-by_phone.ensures.ends.0 after.combine-by_phone.ensures.ends.1
+    a.limit _ refused.in-Refused.is).1

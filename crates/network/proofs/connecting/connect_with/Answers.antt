@@ -1,0 +1,44 @@
+-- `connecting::connect_with` meets its contract.
+use Rattle.network.specs.Workspace.{Startable}
+use Rattle.network.specs.Laws.Connecting.{fillable, startable, start_between, connected, start-refused}
+use Rattle.network.proofs.connecting.connect_with.Goals as goal
+use Rattle.network.proofs.connecting.connect_with.Goals.{After-fill_index, After-start-arg4}
+
+abbrev entry : goal.After-start-arg4 → goal.start-step
+entry c = c
+
+-- the index was filled, so the build may start
+ready : (c : goal.After-fill_index)
+    → Startable c.args.header c.args.nodes.now c.args.combinations.now
+    c.fill_index.new.1.1.1.0 c.args.metastates.now c.args.arcs.now
+    c.args.chains.now
+ready c = let (given, work) = c.requires in startable given work c.fill_index.ensures
+
+pub fill_index-requires : goal.fill_index-requires
+fill_index-requires c =
+    let (given, work) = c.requires in
+    fillable given work
+
+pub start-step-requires : goal.start-step-requires
+start-step-requires c = ready (goal.at.start-step-requires c).After-fill_index
+
+pub take_turns-requires : goal.take_turns-requires
+take_turns-requires c =
+    let arm = c in
+    let call = arm in
+    let (given, work) = (entry call).requires in
+    start_between (ready (goal.at.take_turns-requires c).After-fill_index) call.start-step.ensures arm.in-Next.is work
+
+pub returns-in-Next : goal.returns-in-Next
+returns-in-Next c =
+    let turned = c in
+    let arm = turned in
+    let call = arm in
+    connected (ready (goal.at.returns-in-Next c).After-fill_index) call.start-step.ensures arm.in-Next.is
+    (entry call).args.limit turned.take_turns.ensures
+
+pub returns-in-Stop : goal.returns-in-Stop
+returns-in-Stop c =
+    let call = c in
+    start-refused (ready (goal.at.returns-in-Stop c).After-fill_index) call.start-step.ensures (entry call).args.limit
+    c.in-Stop.is

@@ -1,0 +1,27 @@
+-- `numbering::number_root` meets its contract: a word of 4096 is no root and has no tree.
+use Rattle.plainform.specs.Laws.LentTrees.{root-node}
+use Rattle.plainform.specs.Laws.Numbering.{numbered-absent, root-numberable, numbered-root}
+use Rattle.plainform.proofs.numbering.number_root.Goals as goal
+
+pub returns-then-root-eq-NO_ROOT : goal.returns-then-root-eq-NO_ROOT
+returns-then-root-eq-NO_ROOT c =
+    let a = c.args in
+    numbered-absent a.header a.nodes.now a.classes.now a.sets.now a.root a.at a.table.now
+    c.if-root-eq-NO_ROOT.true
+
+pub number-requires : goal.number-requires
+number-requires c =
+    let start = c in
+    let a = start.args in
+    let there = c.if-root-eq-NO_ROOT.false in (
+      root-node start.requires.0 there,
+      root-numberable a.header a.nodes.now a.classes.now a.sets.now a.root a.at there
+          start.requires.1,
+    )
+
+pub returns : goal.returns
+returns c =
+    let test = c in
+    let a = test.args in
+    numbered-root a.header a.nodes.now a.classes.now a.sets.now a.root a.at test.if-root-eq-NO_ROOT.false
+    c.number.ensures

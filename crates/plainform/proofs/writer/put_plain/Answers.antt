@@ -1,0 +1,143 @@
+-- `writer::put_plain` meets its contract: the sets that were collected and the trees numbered by them are the plain
+-- form, so its lines are those that are written.
+use mathlib.Core.Path.{◌≡◌, refl, sym, ap₂}
+use Prim.Native.Nat.{◌*◌, ◌≤◌}
+use native.Mathlib.Omega.{arith}
+use lib.Seq.{length-take-le}
+use lib.ListN.{length, take}
+use Rattle.definitions.specs.Forms.{most_nodes}
+use Rattle.definitions.specs.Tables.{Tables}
+use Rattle.tables.specs.Lending.{lent_tables}
+use Rattle.plainform.specs.Laws.Writing.{LentBook, root_room, roots-known, uses-fit, roots-fit, plains-fit}
+use Rattle.plainform.specs.Laws.Writing.{used-few, used-many, trees-numberable, plain-written}
+use Rattle.plainform.specs.Laws.Writing.{own_room, roots-lent, roots-narrow, own-lent, own_put}
+use Rattle.plainform.proofs.writer.put_plain.Goals as goal
+use Rattle.plainform.proofs.writer.put_plain.Goals.{After-collect_all-used, After-number_all, After-wide}
+
+abbrev tables : goal.After-wide → Tables
+tables c = let a = c.args in lent_tables a.nodes.now a.classes.now a.roots.now a.plains.now
+
+-- how many roots there are
+roots-many : (c : goal.After-wide)
+    → c.wide-phones.result * c.wide.result
+    ≡ c.args.header.phones * c.args.header.states
+roots-many c = ap₂ ◌*◌ c.wide-phones.ensures c.wide.ensures
+
+pub overflow_mul-many : goal.overflow_mul-many
+overflow_mul-many c = omega (arith, roots-many (goal.at.overflow_mul-many c).After-wide, roots-narrow c.args.header (tables (goal.at.overflow_mul-many c).After-wide) c.requires)
+
+-- the tables cut to what the header says
+record Cut (c : goal.After-wide) : Type 0 where
+  classes : c.wide-held.result ≤ length c.args.classes.now
+  roots : c.wide-phones.result * c.wide.result ≤ length c.args.roots.now
+  plains : c.wide-phones.result ≤ length c.args.plains.now
+  lent :
+      LentBook c.args.header c.args.nodes.now
+      (take c.wide-held.result c.args.classes.now)
+      (take (c.wide-phones.result * c.wide.result) c.args.roots.now)
+      (take c.wide-phones.result c.args.plains.now)
+
+cut : (c : goal.After-wide) → Cut c
+cut c =
+    let header = c.args.header in
+    let held = c.wide-held.ensures in
+    let phones = c.wide-phones.ensures in
+    record {
+      classes = omega (arith, (own_room header (tables c) c.requires).classes, held);
+      roots = omega (arith, roots-many c, roots-lent header (tables c) c.requires);
+      plains = omega (arith, (own_room header (tables c) c.requires).plains, phones);
+      lent = own-lent header (tables c) c.requires held (roots-many c) phones;
+    }
+
+pub slice_bounds-kept-end : goal.slice_bounds-kept-end
+slice_bounds-kept-end c = sym (length-take-le _ _ (cut (goal.at.slice_bounds-kept-end c).After-wide).classes)
+
+pub slice_bounds-given-end : goal.slice_bounds-given-end
+slice_bounds-given-end c = sym (length-take-le _ _ (cut (goal.at.slice_bounds-given-end c).After-wide).roots)
+
+pub collect_all-used-requires : goal.collect_all-used-requires
+collect_all-used-requires c =
+    let lent = (cut (goal.at.collect_all-used-requires c).After-wide).lent in
+    (roots-known lent, uses-fit lent)
+
+record Many (c : goal.After-collect_all-used) : Type 0 where
+  few : c.collect_all-used.result ≤ most_nodes
+  taken : length (take c.collect_all-used.result c.collect_all-used.new.1.1.1.1.0) ≡ c.collect_all-used.result
+  sized : length c.collect_all-used.new.1.1.1.1.0 ≡ most_nodes
+
+many : (c : goal.After-collect_all-used) → Many c
+many c =
+    let lent = (cut c.before.before).lent in
+    let done = c.collect_all-used.ensures in
+    record {
+      few = used-few lent refl done;
+      taken = used-many lent refl done;
+      sized = done.sized;
+    }
+
+pub slice_bounds-sets-end : goal.slice_bounds-sets-end
+slice_bounds-sets-end c = let m = many (goal.at.slice_bounds-sets-end c).After-collect_all-used in omega (arith, m.few, m.sized)
+
+pub slice_bounds-own-end : goal.slice_bounds-own-end
+slice_bounds-own-end c = sym (many (goal.at.slice_bounds-own-end c).After-collect_all-used).taken
+
+pub number_all-requires : goal.number_all-requires
+number_all-requires c =
+    let collected = c in
+    let lent = (cut (goal.at.number_all-requires c).After-wide).lent in (
+      roots-known lent,
+      trees-numberable lent refl collected.collect_all-used.ensures refl,
+      roots-fit lent,
+    )
+
+-- the roots that were put
+record Roots (c : goal.After-number_all) : Type 0 where
+  sized : length c.number_all.new.1.1.1.1.1.1.0 ≡ root_room
+  few :
+      (counted c).wide-phones.result * (counted c).wide.result
+      ≤ length c.number_all.new.1.1.1.1.1.1.0
+
+roots-put : (c : goal.After-number_all) → Roots c
+roots-put c =
+    let w = counted c in
+    let narrow = roots-narrow w.args.header (tables c.before.before.before.before.before.before.before) w.requires in
+    let all = c.number_all.auto.1.1.1.1.1.1.0 in
+    record { sized = all; few = omega (arith, all, roots-many c.before.before.before.before.before.before.before, narrow) }
+
+pub overflow_cast-plain : goal.overflow_cast-plain
+overflow_cast-plain c = omega (arith, (many (goal.at.overflow_cast-plain c).After-collect_all-used).few)
+
+pub slice_bounds-starts-end : goal.slice_bounds-starts-end
+slice_bounds-starts-end c = (roots-put (goal.at.slice_bounds-starts-end c).After-number_all).few
+
+pub slice_bounds-put_book-end-2 : goal.slice_bounds-put_book-end-2
+slice_bounds-put_book-end-2 c = sym (length-take-le _ _ (roots-put (goal.at.slice_bounds-put_book-end-2 c).After-number_all).few)
+
+pub slice_bounds-put_book-end-3 : goal.slice_bounds-put_book-end-3
+slice_bounds-put_book-end-3 c =
+    sym (length-take-le _ _ (cut (counted c)).plains)
+
+pub put_book-requires : goal.put_book-requires
+put_book-requires c =
+    let numbered = c in
+    let starts = numbered.number_all.new.1.1.1.1.1.1.0 in
+    let w = counted numbered in
+    let m = many (goal.at.put_book-requires c).After-collect_all-used in
+    let r = roots-put (goal.at.put_book-requires c).After-number_all in (
+      (cut (goal.at.put_book-requires c).After-wide).lent.stated.in-range.states_range.low,
+      omega (arith, m.few, m.taken),
+      omega (arith, r.sized, r.few, length-take-le (w.wide-phones.result * w.wide.result) starts r.few),
+      plains-fit (cut (goal.at.put_book-requires c).After-wide).lent,
+    )
+
+pub returns : goal.returns
+returns c =
+    let put = c in
+    let numbered = put in
+    let w = counted numbered in
+    let done = numbered.number_all.ensures in
+    let same =
+    plain-written (cut (goal.at.returns c).After-wide).lent refl numbered.collect_all-used.ensures _ _ _
+    (sym (length-take-le _ _ (cut (goal.at.returns c).After-wide).roots)) done.0 done.1 in
+    own_put w.args.header (tables (goal.at.returns c).After-wide) w.requires w.wide-held.ensures (roots-many (goal.at.returns c).After-wide)
+    w.wide-phones.ensures same put.put_book.ensures

@@ -1,0 +1,22 @@
+-- `foreign::name_all_children` meets its contract. The loop's invariant: the children of the records before
+-- `at` are counted.
+use Prim.Native.Nat.{◌-◌}
+use Rattle.tables.specs.Laws.NamingTables.{ChildrenNamed, children-start, children-more, children-end}
+use borrow.Author.Rules.{rules}
+use Rattle.tables.proofs.foreign.name_all_children.Goals as goal
+
+pub loop-at-init : goal.loop-at-init
+loop-at-init c = children-start _ _ _
+
+pub loop-at-preserved : goal.loop-at-preserved
+loop-at-preserved c =
+    let called = c in
+    let found = called in
+    children-more found.loop-at.invariant (search rules) found.node_at.ensures
+    called.name_children.ensures
+
+pub shape_of-counts : goal.shape_of-counts
+shape_of-counts c = c.loop-at.invariant.sized
+
+pub returns : goal.returns
+returns c = children-end c.loop-at.invariant (search rules)

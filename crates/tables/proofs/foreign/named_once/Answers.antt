@@ -1,0 +1,55 @@
+-- `foreign::named_once` meets its contract: the counts of children and roots tell the first orphan.
+use mathlib.Core.Path.{sym}
+use native.Mathlib.Omega.{arith}
+use lib.Seq.{length-take-le}
+use Rattle.definitions.specs.Laws.Books.Books.{roots_few}
+use Rattle.definitions.specs.Laws.Books.AcceptedKnown.{header-ranges}
+use Rattle.tables.specs.Laws.TableTests.{root-count, roots-taken}
+use Rattle.tables.specs.Laws.NamingTables.{once-counted}
+use Prim.Native.Nat.{◌≤◌}
+use lib.ListN.{length}
+use Rattle.tables.proofs.foreign.named_once.Goals as goal
+use Rattle.tables.proofs.foreign.named_once.Goals.{After-wide-count}
+
+pub overflow_mul-used : goal.overflow_mul-used
+overflow_mul-used c =
+    let start = c in
+    let count = root-count start.args.header c.wide.ensures c.wide-2.ensures in
+    let few = roots_few start.args.header (header-ranges start.args.header start.requires.0) in
+    record { fits = omega (arith, count, few) }
+
+pub slice_bounds-name_roots-end-2 : goal.slice_bounds-name_roots-end-2
+slice_bounds-name_roots-end-2 c =
+    let second = c in
+    let start = second in
+    roots-taken _ _ (root-count start.args.header second.wide.ensures second.wide-2.ensures)
+    start.requires.1
+
+-- as many counts as nodes
+counted : (c : After-wide-count) → c.wide-count.result ≤ length c.name_roots.new.counts
+counted c =
+    omega (
+      arith,
+      c.wide-count.ensures,
+      (header-ranges c.args.header c.requires.0).nodes_range.high,
+      c.name_roots.auto.counts,
+      c.name_all_children.auto.counts,
+    )
+
+pub slice_bounds-counts-end : goal.slice_bounds-counts-end
+slice_bounds-counts-end c = counted (goal.at.slice_bounds-counts-end c).After-wide-count
+
+pub slice_bounds-first_misnamed-end : goal.slice_bounds-first_misnamed-end
+slice_bounds-first_misnamed-end c =
+    sym (length-take-le _ _ (counted (goal.at.slice_bounds-first_misnamed-end c).After-wide-count))
+
+pub returns : goal.returns
+returns c =
+    let third = c in
+    let roots = third in
+    let second = roots in
+    let children = second in
+    let start = children in
+    once-counted _ _ _ start.requires.0 (root-count _ second.wide.ensures second.wide-2.ensures)
+    third.wide-count.ensures children.name_all_children.ensures roots.name_roots.ensures
+    c.first_misnamed.ensures

@@ -1,0 +1,27 @@
+-- `known::plain_table_known` meets its contract.
+use mathlib.Core.Path.{◌∙◌}
+use Rattle.definitions.specs.ForeignTables.{plain_table_known}
+use Rattle.definitions.specs.Laws.Lists.Tests.{held, failed}
+use Rattle.tables.specs.Laws.TableTests.{holds-taken}
+use Rattle.tables.specs.Laws.PhoneTests.{plains-left}
+use Rattle.std.proofs.lemmas.Bool.{not_from_true}
+use Rattle.std.proofs.lemmas.Bool.{not_from_false}
+use Rattle.tables.proofs.known.plain_table_known.Goals as goal
+
+pub returns-then-not-holds_only : goal.returns-then-not-holds_only
+unfolding plain_table_known
+returns-then-not-holds_only c =
+    let called = c in
+    rw (← called.wide-phones.ensures, failed called.holds_only.ensures (not_from_false _ c.if-not-holds_only.true))
+
+pub slice_bounds-plains_known-end : goal.slice_bounds-plains_known-end
+slice_bounds-plains_known-end c =
+    let passed = c in
+    holds-taken _ _ (held passed.holds_only.ensures (not_from_true _ passed.if-not-holds_only.false))
+
+pub returns : goal.returns
+returns c =
+    let passed = c in
+    let called = passed in
+    c.plains_known.ensures
+    ∙ plains-left _ _ called.wide-phones.ensures (held called.holds_only.ensures (not_from_true _ passed.if-not-holds_only.false))

@@ -1,0 +1,14 @@
+-- `known::plains_known` meets its contract. The loop's invariant: the words before `i` are known.
+use Prim.Native.Nat.{◌-◌}
+use lib.ListN.{length}
+use borrow.Author.Tests.{eq-eqb, ne_eqb}
+use Rattle.definitions.specs.ForeignTables.{plain_known, plains_known}
+use Rattle.definitions.specs.Laws.Lists.Tests.{held, failed}
+use Rattle.lines.specs.Laws.Passing.{Passed, passed-more, passed-stop, passed-end}
+use Rattle.tables.proofs.known.plains_known.Given as goal
+
+abbrev pub invariant-loop-i : goal.invariant-loop-i
+invariant-loop-i l = Passed (plain_known l.header l.plains) l.plains (plains_known l.header l.plains) l.i
+
+abbrev pub decreases-loop-i : goal.decreases-loop-i
+decreases-loop-i l = length l.plains - l.i

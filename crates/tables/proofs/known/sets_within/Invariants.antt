@@ -1,0 +1,17 @@
+-- `known::sets_within` meets its contract. The loop's invariant: the sets before `i` hold no phone beyond the
+-- last.
+use mathlib.Core.Bool.{Bool}
+use Prim.Native.Nat.{◌^◌, ℕ, ◌-◌}
+use lib.Dec.{ltb}
+use lib.ListN.{length, set}
+use Rattle.definitions.specs.Lists.{every}
+use Rattle.lines.specs.Laws.Passing.{Passed, passed_start, passed-more, passed-stop, passed-end}
+use Rattle.tables.specs.Laws.RecordTests.{set-within, set_beyond}
+use Rattle.tables.proofs.known.sets_within.Given as goal
+
+abbrev pub invariant-loop-i : goal.invariant-loop-i
+invariant-loop-i l =
+    let test : (ℕ → Bool) = λ set. ltb set (2 ^ l.phones) in Passed test l.sets (every test l.sets) l.i
+
+abbrev pub decreases-loop-i : goal.decreases-loop-i
+decreases-loop-i l = length l.sets - l.i

@@ -1,0 +1,15 @@
+-- `sequences::fill_context` meets its contract. The loop's invariant: the columns before `column` hold the
+-- context's phones, the others are as they were.
+use mathlib.Core.Path.{◌≡◌, ◌∙◌}
+use Prim.Native.Nat.{◌-◌}
+use lib.ListN.{length}
+use Rattle.definitions.specs.Laws.Trees.Contexts.{context_at, silent-context-length}
+use Rattle.lines.specs.Laws.Filling.{Filled, filled-start, filled_more, filled-end}
+use Rattle.transcripts.proofs.sequences.fill_context.Given as goal
+
+abbrev pub invariant-loop-column : goal.invariant-loop-column
+invariant-loop-column l =
+    Filled (context_at l.half l.sequence l.place) l.initial.context l.column l.context
+
+abbrev pub decreases-loop-column : goal.decreases-loop-column
+decreases-loop-column l = length l.initial.context - l.column

@@ -1,0 +1,80 @@
+-- `expanding::expand` meets its contract.
+use native.Mathlib.Omega.{arith}
+use Rattle.index.specs.Laws.Followers.{narrow}
+use Rattle.followers.specs.Laws.Turns.{place-within, expand-placed, arcs-fit}
+use Rattle.turns.specs.Laws.Expanding.{new-few, turn-stops, next-onward, turn-goes}
+use Rattle.std.proofs.lemmas.Bool.{not_from_true}
+use Rattle.std.proofs.lemmas.Bool.{not_from_false}
+use Rattle.turns.proofs.expanding.expand.Goals as goal
+use Rattle.turns.proofs.expanding.expand.Goals.{After-metastate_at-q, Start}
+
+-- where the metastate was read, and where the arcs were added
+abbrev start_of : goal.After-metastate_at-q → goal.Start
+start_of c = c
+
+pub metastate_at-q-requires : goal.metastate_at-q-requires
+metastate_at-q-requires c =
+    let s = c.requires in
+    (narrow s.between.searchable.connectable.usable, place-within s)
+
+pub plain_arcs-new-requires : goal.plain_arcs-new-requires
+plain_arcs-new-requires c = expand-placed (start_of (goal.at.plain_arcs-new-requires c).After-metastate_at-q).requires c.metastate_at-q.ensures
+
+pub add_arcs-requires : goal.add_arcs-requires
+add_arcs-requires c =
+    let m = c in
+    let start = start_of (goal.at.add_arcs-requires c).After-metastate_at-q in
+    (arcs-fit start.requires, new-few start.requires m.metastate_at-q.ensures c.plain_arcs-new.ensures)
+
+pub returns-then-not-add_arcs : goal.returns-then-not-add_arcs
+returns-then-not-add_arcs c =
+    let added = c in
+    let m = added in
+    let start = start_of (goal.at.returns-then-not-add_arcs c).After-metastate_at-q in
+    let e = added.add_arcs.ensures in
+    turn-stops start.requires m.metastate_at-q.ensures added.plain_arcs-new.ensures e.0 e.1
+    (not_from_false _ c.if-not-add_arcs.true)
+
+pub overflow_add-next : goal.overflow_add-next
+overflow_add-next c =
+    let added = c in
+    let m = added in
+    let start = start_of (goal.at.overflow_add-next c).After-metastate_at-q in
+    omega (
+      arith,
+      arcs-fit start.requires,
+      new-few start.requires m.metastate_at-q.ensures added.plain_arcs-new.ensures,
+    )
+
+pub overflow_mul-wide : goal.overflow_mul-wide
+overflow_mul-wide c =
+    let s = (start_of (matrix-of (adding-of c))).requires in
+    omega (arith, c.wide.ensures, narrow s.between.searchable.connectable.usable)
+
+pub follow_on-requires : goal.follow_on-requires
+follow_on-requires c =
+    let shifted = c in
+    let phones = shifted in
+    let half = phones in
+    let enough = half in
+    let added = enough in
+    let m = added in
+    let e = added.add_arcs.ensures in
+    next-onward (start_of (goal.at.follow_on-requires c).After-metastate_at-q).requires m.metastate_at-q.ensures added.plain_arcs-new.ensures
+    e.0 e.1
+    (not_from_true _ enough.if-not-add_arcs.false) half.wide.ensures phones.all_phones.ensures shifted.shift-shifted.ensures
+
+pub returns : goal.returns
+returns c =
+    let followed = c in
+    let shifted = followed in
+    let phones = shifted in
+    let half = phones in
+    let enough = half in
+    let added = enough in
+    let m = added in
+    let e = added.add_arcs.ensures in
+    turn-goes (start_of (goal.at.returns c).After-metastate_at-q).requires m.metastate_at-q.ensures added.plain_arcs-new.ensures
+    e.0 e.1
+    (not_from_true _ enough.if-not-add_arcs.false) half.wide.ensures phones.all_phones.ensures shifted.shift-shifted.ensures
+    followed.follow_on.ensures

@@ -1,0 +1,9 @@
+-- `expanding::with_arc` meets its contract.
+use Rattle.turns.specs.Laws.OwnArcs.{arc-stored}
+use borrow.Author.Rules.{rules}
+use Rattle.turns.proofs.expanding.with_arc.Goals as goal
+
+pub returns : goal.returns
+returns c arcs are =
+    let start = c in
+    arc-stored start.args.new arcs _ _ _ (search rules) start.requires.few are

@@ -1,0 +1,18 @@
+-- `writing::write_number` meets its contract. The loop's invariant: the field's text is the bytes that are
+-- still to be written, and those of the buffer from `i` on.
+use mathlib.Core.Path.{◌≡◌, sym, ◌∙◌}
+use mathlib.Core.List.{◌++◌}
+use Prim.Native.Nat.{◌≤◌}
+use native.Mathlib.Omega.{arith}
+use lib.ListN.{length, drop, length-set}
+use Rattle.definitions.specs.Lines.{field_text}
+use Rattle.writing.specs.Writing.{leading}
+use Rattle.writing.specs.Laws.Writing.{leading-first, leading-more, leading_end}
+use Rattle.writing.proofs.writing.write_number.Given as goal
+
+abbrev pub invariant-loop-i : goal.invariant-loop-i
+invariant-loop-i l =
+    (l.i ≤ 5) × (length l.field ≡ 6) × (field_text l.n ≡ leading l.i l.rest ++ drop l.i l.field)
+
+abbrev pub decreases-loop-i : goal.decreases-loop-i
+decreases-loop-i l = l.i
