@@ -11,7 +11,7 @@ use Rattle.lines.specs.Judging.{verdict_of}
 use Rattle.lines.specs.Rows.{line_in}
 use Rattle.booklines.specs.Entries.{entry_line, lent_of}
 use Rattle.booklines.specs.States.{tests_in}
-use Rattle.definitions.specs.Laws.Lists.Tests.{held}
+use Rattle.definitions.proofs.Laws.Lists.Tests.{held}
 use Rattle.lines.specs.Laws.Judging.{LeftTo, test-held, test-failed, none-failed}
 use Rattle.std.proofs.lemmas.Bool.{not_from_true}
 use Rattle.std.proofs.lemmas.Bool.{not_from_false}

@@ -8,7 +8,7 @@ use lib.ListN.{length}
 use Rattle.definitions.specs.Lists.{cleared}
 use Rattle.definitions.specs.Tables.{Tables}
 use Rattle.definitions.specs.ForeignTables.{tables_known}
-use Rattle.definitions.specs.Laws.Lists.Tests.{held, failed}
+use Rattle.definitions.proofs.Laws.Lists.Tests.{held, failed}
 use Rattle.tables.specs.Lending.{lent_tables}
 use Rattle.tables.specs.Laws.KnownTables.{known-forceable, tables-fit, forced-book}
 use Rattle.combinations.specs.Laws.Combining.{ends_foreign, ends-stopped, ends-combined}

@@ -3,7 +3,7 @@ use mathlib.Core.Path.{◌≡◌, ap, ◌∙◌}
 use Prim.Native.Nat.{ℕ}
 use lib.ListN.{take}
 use Rattle.definitions.specs.Matrices.{valid}
-use Rattle.definitions.specs.Laws.Lists.Tests.{held, failed}
+use Rattle.definitions.proofs.Laws.Lists.Tests.{held, failed}
 use Rattle.matrix.specs.Shapes.{matrix_in}
 use Rattle.lists.specs.Laws.Meeting.{added-valid, added-invalid}
 use Rattle.std.proofs.lemmas.Bool.{not_from_true}

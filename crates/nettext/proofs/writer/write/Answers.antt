@@ -5,7 +5,7 @@ use mathlib.Core.Bool.{true}
 use native.Mathlib.Omega.{arith}
 use lib.ListN.{length}
 use Rattle.definitions.specs.NetworkText.{network_known}
-use Rattle.definitions.specs.Laws.Lists.Tests.{held, failed}
+use Rattle.definitions.proofs.Laws.Lists.Tests.{held, failed}
 use Rattle.arcs.specs.Laws.KnownArcs.{known-taken}
 use Rattle.nettext.specs.Laws.Writing.{lent-ready, counts-written, write-foreign, write-short, write_done}
 use Rattle.std.proofs.lemmas.Bool.{not_from_true}

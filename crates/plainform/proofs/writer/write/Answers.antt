@@ -8,7 +8,7 @@ use lib.ListN.{length}
 use Rattle.definitions.specs.Lists.{cleared}
 use Rattle.definitions.specs.Tables.{Tables}
 use Rattle.definitions.specs.ForeignTables.{tables_known}
-use Rattle.definitions.specs.Laws.Lists.Tests.{held, failed}
+use Rattle.definitions.proofs.Laws.Lists.Tests.{held, failed}
 use Rattle.tables.specs.Lending.{lent_tables}
 use Rattle.plainform.specs.Laws.Writing.{write-foreign, write-short, write_done}
 use Rattle.std.proofs.lemmas.Bool.{not_from_true}

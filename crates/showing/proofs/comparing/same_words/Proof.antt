@@ -2,8 +2,8 @@
 use Prim.Native.Nat.{◌-◌}
 use lib.ListN.{length}
 use borrow.Author.Rules.{rules}
-use Rattle.definitions.specs.Laws.Lists.Same.{Alike, same-lengths, alike-start, alike-more, alike-stop}
-use Rattle.definitions.specs.Laws.Lists.Same.{alike_end}
+use Rattle.definitions.proofs.Laws.Lists.Same.{Alike, same-lengths, alike-start, alike-more, alike-stop}
+use Rattle.definitions.proofs.Laws.Lists.Same.{alike_end}
 use Rattle.showing.proofs.comparing.same_words.Statement.{statement}
 use Rattle.showing.proofs.comparing.same_words.Tie as tie
 

@@ -8,7 +8,7 @@ use lib.Seq.{length-take-le}
 use lib.ListN.{length, take}
 use Rattle.definitions.specs.Lookup.{is_context}
 use Rattle.definitions.specs.Transcription.{questions_at}
-use Rattle.definitions.specs.Laws.Trees.Contexts.{context_at}
+use Rattle.definitions.proofs.Laws.Trees.Contexts.{context_at}
 use Rattle.tables.specs.Usable.{book_with, Fit}
 use Rattle.transcripts.specs.Answers.{state_models}
 use Rattle.transcripts.specs.Laws.Models.{context-fits, window-inside, window-taken}

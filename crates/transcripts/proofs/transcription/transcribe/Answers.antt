@@ -9,7 +9,7 @@ use lib.ListN.{length}
 use Rattle.definitions.specs.Tables.{Tables}
 use Rattle.definitions.specs.ForeignTables.{tables_known}
 use Rattle.definitions.specs.Transcription.{is_utterance}
-use Rattle.definitions.specs.Laws.Lists.Tests.{held, failed}
+use Rattle.definitions.proofs.Laws.Lists.Tests.{held, failed}
 use Rattle.tables.specs.Lending.{lent_tables}
 use Rattle.tables.specs.Usable.{book_with}
 use Rattle.tables.specs.Laws.KnownTables.{tables-fit, forced-book, known-forceable}

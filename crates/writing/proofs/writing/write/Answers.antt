@@ -6,7 +6,7 @@ use Prim.Native.Nat.{ℕ}
 use native.Mathlib.Omega.{arith}
 use lib.ListN.{length, length-set}
 use borrow.Author.Tests.{lt-leb, le-leb}
-use Rattle.definitions.specs.Laws.Lists.Tests.{held, failed}
+use Rattle.definitions.proofs.Laws.Lists.Tests.{held, failed}
 use Rattle.writing.specs.Writing.{writable}
 use Rattle.writing.specs.Laws.WrittenLines.{middle-length, put-length, line-put}
 use Rattle.std.proofs.lemmas.Bool.{not_from_true}
