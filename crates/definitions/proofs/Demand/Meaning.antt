@@ -12,7 +12,7 @@ use Rattle.definitions.specs.Tables.{Book, root_of}
 use Rattle.definitions.specs.Lookup.{model_at, leaf_reached}
 use Rattle.definitions.specs.Combinations.{combinations}
 use Rattle.definitions.specs.Metastates.{Metastate, combination_of, phone_of, models_of}
-use Rattle.definitions.specs.TreesGive.{windows, contexts_within, silences, with_silence, contexts}
+use Rattle.definitions.specs.TreesGive.{contexts_within, silences, with_silence, contexts}
 use Rattle.definitions.specs.TreesGive.{silent_ends}
 use Rattle.definitions.specs.Transcription.{model_of, transcription}
 use Rattle.definitions.proofs.Laws.Lists.Lists.{concat_map-map}

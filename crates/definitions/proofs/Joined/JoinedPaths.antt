@@ -5,7 +5,6 @@ use mathlib.Core.List.{List}
 use Rattle.std.proofs.Common.{lit<}
 use Rattle.definitions.specs.declared.Counts.{Counts}
 use Rattle.definitions.specs.Faults.{answered}
-use Rattle.definitions.specs.Lists.{every}
 use Rattle.definitions.specs.BookLines.{BookLine}
 use Rattle.definitions.specs.Arcs.{Arc, arcs_in}
 use Rattle.definitions.specs.Growing.{Grown, Room}

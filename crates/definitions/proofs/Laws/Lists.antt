@@ -12,5 +12,6 @@ pub mod Occurrences
 pub mod Sums
 pub mod Fewer
 pub mod Products
+pub mod Orders
 pub mod Rising
 pub mod Records

@@ -1,6 +1,6 @@
 -- Laws about the tree below a node: what stands at the node is what the tree is, and where children are greater
 -- nodes of the list, as many levels as there are nodes are enough. So the number of levels is no rule of its own.
-use Rattle.std.specs.Prelude.{◌≡◌, List, ℕ, zero, suc, ◌+◌, ◌-◌, ◌≤◌, ◌<◌, length}
+use Rattle.std.specs.Prelude.{◌≡◌, List, ℕ, zero, suc, ◌+◌, ◌≤◌, ◌<◌, length}
 use Rattle.std.proofs.Common.{sym, ap₂, ◌∙◌, arith}
 use Rattle.definitions.specs.BookLines.{TreeNode, question, leaf, Asked}
 use Rattle.definitions.specs.Lookup.{node_at}

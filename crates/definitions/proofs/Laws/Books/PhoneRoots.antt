@@ -1,14 +1,14 @@
 -- A phone's roots in tables that are known, as a fact: all of them are nodes, or it is a boundary phone and none of
 -- them is given. The laws about written and read books and about the trees in force take it apart so.
-use Rattle.std.specs.Prelude.{◌≡◌, ◌⊎◌, ◌↔◌, ◌≢◌, List, map, Bool, not, ◌&&◌, ℕ, ◌-◌, ◌≤◌, ◌<◌, T}
+use Rattle.std.specs.Prelude.{◌≡◌, ◌⊎◌, ◌↔◌, ◌≢◌, List, Bool, not, ◌&&◌, ℕ, ◌-◌, ◌≤◌, ◌<◌, T}
 use Rattle.std.proofs.Math.Logic.{inl, inr, ⊎_elim}
 use Rattle.std.proofs.Common.{arith, ne_eqb}
 use Rattle.std.proofs.Math.Dec.{ltb, eqb, ltb→lt, lt→ltb, eqb→eq}
 use Rattle.definitions.specs.declared.Header.{Header}
-use Rattle.definitions.specs.Lists.{◌!◌, every, up_from, IsIn}
+use Rattle.definitions.specs.Lists.{◌!◌, every, up_from}
 use Rattle.definitions.specs.BookLines.{root_place, no_root}
 use Rattle.definitions.specs.ForeignTables.{roots_of_phone, phone_known, roots_known}
-use Rattle.definitions.proofs.Laws.Lists.Tests.{T_and, T-or, eq→eqb, by-test}
+use Rattle.definitions.proofs.Laws.Lists.Tests.{T_and, T-or, eq→eqb}
 use Rattle.definitions.proofs.Laws.Lists.Members.{in-every, every_in, in_map, of_map, in-up_from, of-up_from}
 
 module _ (header : Header) (plains roots : List ℕ) where

@@ -12,7 +12,7 @@ use Rattle.std.proofs.Math.Dec.{T, eqb, eqb→eq}
 use Rattle.definitions.specs.declared.Header.{Header}
 use Rattle.definitions.specs.Lists.{IsIn, ◌!◌, every, map_option, up_from}
 use Rattle.definitions.specs.Faults.{answered}
-use Rattle.definitions.specs.BookLines.{BookLine, B, header_of, root_count, roots_of, Root, Boundary, boundaries_of}
+use Rattle.definitions.specs.BookLines.{BookLine, header_of, root_count, roots_of, Root, Boundary, boundaries_of}
 use Rattle.definitions.specs.BookLines.{is_boundary, plain_for, plain_given, plain_words, root_place, root_for}
 use Rattle.definitions.specs.BookLines.{root_given, root_words, no_root}
 use Rattle.definitions.specs.BookReading.{Lent, left_out_to, plains_plain, read_book}

@@ -4,7 +4,7 @@
 -- by class. The laws about the texts of books use them.
 use Rattle.std.specs.Prelude.{◌≡◌, ◌&&◌, T, eqb, length}
 use Rattle.std.proofs.Math.Path.{refl, ap₂}
-use Rattle.std.proofs.Common.{sym, ap, ◌∙◌, subst, inl, inr, arith, ltb→lt, eq-eqb, ne_eqb}
+use Rattle.std.proofs.Common.{ap, ◌∙◌, subst, inl, inr, arith, ltb→lt, eq-eqb, ne_eqb}
 use Rattle.std.proofs.Math.Logic.{⊎_elim}
 use mathlib.Core.List.{List, [], ◌∷◌, ◌++◌, map, map-append, append_assoc, append-nil}
 use Prim.Native.Nat.{ℕ, zero, suc, ◌+◌, ◌^◌, ◌≤◌, ◌<◌}

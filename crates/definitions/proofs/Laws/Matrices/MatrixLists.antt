@@ -7,7 +7,7 @@ use Rattle.definitions.specs.Matrices.{Matrix, valid}
 use Rattle.definitions.specs.MatrixLists.{insert_matrix, added, gather, normal, same_list}
 use Rattle.definitions.proofs.Laws.Lists.Tests.{T_and}
 use Rattle.definitions.proofs.Laws.Lists.Lists.{same_lists, same_self}
-use Rattle.definitions.proofs.Laws.Lists.Rising.{Before, precedes-irreflexive, precedes-trans, precedes-total}
+use Rattle.definitions.proofs.Laws.Lists.Orders.{Before, precedes-irreflexive, precedes-trans, precedes-total}
 use Rattle.definitions.proofs.Laws.Lists.Rising.{Rising}
 
 -- ---- members

@@ -28,7 +28,7 @@ use Rattle.definitions.specs.Arcs.{Arc}
 use Rattle.definitions.specs.Growing.{Grown, Event, plain, enter, Machine, place_from, Room, add_arc}
 use Rattle.definitions.specs.Growing.{add_element, add_both, Done, finished, begun, perform, perform_all}
 use Rattle.definitions.specs.Growing.{grown_in, expand, turns_from, grow}
-use Rattle.definitions.specs.Connecting.{start_events, arc_into, Built, machine_of}
+use Rattle.definitions.specs.Connecting.{Built, machine_of}
 use Rattle.definitions.specs.Building.{Space, room_in, build}
 use Rattle.definitions.specs.BookBuilding.{build_read, build_book}
 use Rattle.definitions.specs.Joining.{joining, join_in}

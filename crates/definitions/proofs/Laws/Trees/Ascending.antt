@@ -4,7 +4,7 @@
 use Rattle.std.specs.Prelude.{◌≡◌, refl, ◌≢◌, List, [], ◌∷◌, ◌++◌, map, Bool, true, false, not, ℕ, zero, suc, ◌≤◌, ◌<◌, T, length, get_or}
 use Rattle.std.proofs.Common.{sym, ap, ap₂, ◌∙◌, subst, inl, inr, append_assoc, append-nil, arith, ltb→lt, nltb→le}
 use Rattle.std.proofs.lemmas.List.{map-append}
-use Rattle.definitions.specs.Lists.{if◌then◌else◌, concat_map, up_from, precedes, IsIn, Distinct}
+use Rattle.definitions.specs.Lists.{if◌then◌else◌, concat_map, up_from, IsIn, Distinct}
 use Rattle.definitions.specs.Faults.{answered}
 use Rattle.definitions.specs.BookLines.{BookLine, nodes_of, root_names, roots_of}
 use Rattle.definitions.specs.BookReading.{Lent, read_book, ChildOnce}
@@ -13,7 +13,7 @@ use Rattle.definitions.specs.Combinations.{Leaf, leaves_below, is_before, insert
 use Rattle.definitions.specs.Combinations.{Combination, choose, combinations_of, combinations, on_yes, on_no}
 use Rattle.definitions.specs.Metastates.{no_combination}
 use Rattle.definitions.proofs.Laws.Lists.Members.{in_map, of_map, of-concat_map, of_one}
-use Rattle.definitions.proofs.Laws.Lists.Rising.{precedes-first, precedes-after, precedes-irreflexive}
+use Rattle.definitions.proofs.Laws.Lists.Rising.{precedes, precedes-first, precedes-after, precedes-irreflexive}
 use Rattle.definitions.proofs.Laws.Lists.Rising.{Rising, rising-at, rising-concat_map, rising-up_from}
 use Rattle.definitions.proofs.Laws.Books.Books.{accepted-orderly}
 use Rattle.definitions.proofs.Laws.Trees.Walks.{Forward, by-node}

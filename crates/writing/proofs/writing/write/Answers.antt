@@ -39,21 +39,21 @@ write_fields-requires c =
     (fit (goal.at.write_fields-requires c).Else-not-is_writable, middle-length start.args.bytes.now start.args.row.letter (omega arith))
 
 -- what was lent came back as long as it was, and so has the whole its length
-thirty : (c : goal.After-slice_known-2-1) → length c.write_fields.new.1.0 ≡ 30
+thirty : (c : goal.After-slice_known-2-1) → length c.write_fields.new.bytes.0 ≡ 30
 thirty c =
     let a = c.args in
-    c.write_fields.auto.1.0 ∙ middle-length a.bytes.now a.row.letter (omega arith)
+    c.write_fields.auto.bytes.0 ∙ middle-length a.bytes.now a.row.letter (omega arith)
 
 pub bounds-bytes-31 : goal.bounds-bytes-31
 bounds-bytes-31 c =
     let a = c.args in
-    let part : List ℕ = c.write_fields.new.1.0 in
+    let part : List ℕ = c.write_fields.new.bytes.0 in
     omega (arith, put-length a.bytes.now part a.row.letter (omega arith) (thirty (goal.at.bounds-bytes-31 c).After-slice_known-2-1))
 
 pub shape_of-bytes : goal.shape_of-bytes
 shape_of-bytes c =
     let a = c.args in
-    let part : List ℕ = c.write_fields.new.1.0 in
+    let part : List ℕ = c.write_fields.new.bytes.0 in
     rw length-set (put-length a.bytes.now part a.row.letter (omega arith) (thirty (goal.at.shape_of-bytes c).After-slice_known-2-1))
 
 pub returns : goal.returns
