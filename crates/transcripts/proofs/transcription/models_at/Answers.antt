@@ -24,7 +24,7 @@ half-small c = omega (arith, (fit c.before.before.before.before.before.before).r
 
 -- the front of the window, filled with the context
 abbrev filled : goal.After-fill_context → List ℕ
-filled c = c.fill_context.last.1.1.1.0
+filled c = c.fill_context.last.half.1.1.0
 
 inside : (c : goal.After-fill_context) (rest : List ℕ)
     → 2 * c.wide-half.result + 1 ≤ length (filled c ++ rest)
