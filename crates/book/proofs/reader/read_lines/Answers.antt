@@ -42,14 +42,14 @@ overflow_add-result c = record { fits = next-number (goal.at.overflow_add-result
 
 pub returns-in-Stop-clause-answer : goal.returns-in-Stop-clause-answer
 returns-in-Stop-clause-answer c = (let call = c in
-    let taken = call.take_line-step.ensures in
+    let taken = (call.take_line-step.ensures.step, (call.take_line-step.ensures.nodes, (call.take_line-step.ensures.classes, (call.take_line-step.ensures.roots, (call.take_line-step.ensures.plains, call.take_line-step.ensures.counts))))) in
     let at = call.loop-i in
     stop-returns at.inv _ _ _ _ _ _ _ (next-bytes _ at.i) call.loop-i-test.true taken.0
     c.in-Stop.is taken.1.0 taken.1.1.0 taken.1.1.1.0 taken.1.1.1.1.0).0
 
 pub returns-in-Stop-clause-tables : goal.returns-in-Stop-clause-tables
 returns-in-Stop-clause-tables c = (let call = c in
-    let taken = call.take_line-step.ensures in
+    let taken = (call.take_line-step.ensures.step, (call.take_line-step.ensures.nodes, (call.take_line-step.ensures.classes, (call.take_line-step.ensures.roots, (call.take_line-step.ensures.plains, call.take_line-step.ensures.counts))))) in
     let at = call.loop-i in
     stop-returns at.inv _ _ _ _ _ _ _ (next-bytes _ at.i) call.loop-i-test.true taken.0
     c.in-Stop.is taken.1.0 taken.1.1.0 taken.1.1.1.0 taken.1.1.1.1.0).1
@@ -60,7 +60,7 @@ overflow_add-i c = record { fits = next-number (goal.at.overflow_add-i c).After-
 pub loop-i-preserved : goal.loop-i-preserved
 loop-i-preserved c =
     let call = c in
-    let taken = call.take_line-step.ensures in
+    let taken = (call.take_line-step.ensures.step, (call.take_line-step.ensures.nodes, (call.take_line-step.ensures.classes, (call.take_line-step.ensures.roots, (call.take_line-step.ensures.plains, call.take_line-step.ensures.counts))))) in
     let at = call.loop-i in
     turn-next at.inv _ _ _ _ _ _ _ _ (next-bytes _ at.i) call.loop-i-test.true taken.0
     c.in-Next.is taken.1.0 taken.1.1.0 taken.1.1.1.0 taken.1.1.1.1.0

@@ -31,7 +31,7 @@ returns-in-Accepted-clause-answer c = (let left = c in
     accepted-returns (lent (goal.at.returns-in-Accepted-clause-answer c).Start) (space (goal.at.returns-in-Accepted-clause-answer c).Start) s.args.limit s.args.text.now
     read.read-reading.ensures.answer read.read-reading.ensures.tables _ accepted.in-Accepted.is _ _ _
     (search rules) (search rules) (search rules) (search rules)
-    built.build_read.ensures.answer built.build_read.ensures.tables.0 built.build_read.ensures.tables.1).0
+    built.build_read.ensures.answer built.build_read.ensures.tables built.build_read.ensures.leaves).0
 
 pub returns-in-Accepted-clause-tables : goal.returns-in-Accepted-clause-tables
 returns-in-Accepted-clause-tables c = (let left = c in
@@ -42,7 +42,7 @@ returns-in-Accepted-clause-tables c = (let left = c in
     accepted-returns (lent (goal.at.returns-in-Accepted-clause-tables c).Start) (space (goal.at.returns-in-Accepted-clause-tables c).Start) s.args.limit s.args.text.now
     read.read-reading.ensures.answer read.read-reading.ensures.tables _ accepted.in-Accepted.is _ _ _
     (search rules) (search rules) (search rules) (search rules)
-    built.build_read.ensures.answer built.build_read.ensures.tables.0 built.build_read.ensures.tables.1).1
+    built.build_read.ensures.answer built.build_read.ensures.tables built.build_read.ensures.leaves).1
 
 pub returns-in-Accepted-clause-leaves : goal.returns-in-Accepted-clause-leaves
 returns-in-Accepted-clause-leaves c = (let left = c in
@@ -53,7 +53,7 @@ returns-in-Accepted-clause-leaves c = (let left = c in
     accepted-returns (lent (goal.at.returns-in-Accepted-clause-leaves c).Start) (space (goal.at.returns-in-Accepted-clause-leaves c).Start) s.args.limit s.args.text.now
     read.read-reading.ensures.answer read.read-reading.ensures.tables _ accepted.in-Accepted.is _ _ _
     (search rules) (search rules) (search rules) (search rules)
-    built.build_read.ensures.answer built.build_read.ensures.tables.0 built.build_read.ensures.tables.1).2
+    built.build_read.ensures.answer built.build_read.ensures.tables built.build_read.ensures.leaves).2
 
 pub returns-in-Accepted-clause-demand : goal.returns-in-Accepted-clause-demand
 returns-in-Accepted-clause-demand c = (let left = c in
@@ -64,7 +64,7 @@ returns-in-Accepted-clause-demand c = (let left = c in
     accepted-returns (lent (goal.at.returns-in-Accepted-clause-demand c).Start) (space (goal.at.returns-in-Accepted-clause-demand c).Start) s.args.limit s.args.text.now
     read.read-reading.ensures.answer read.read-reading.ensures.tables _ accepted.in-Accepted.is _ _ _
     (search rules) (search rules) (search rules) (search rules)
-    built.build_read.ensures.answer built.build_read.ensures.tables.0 built.build_read.ensures.tables.1).3
+    built.build_read.ensures.answer built.build_read.ensures.tables built.build_read.ensures.leaves).3
 
 pub returns-in-Accepted-clause-ending : goal.returns-in-Accepted-clause-ending
 returns-in-Accepted-clause-ending c = (let left = c in
@@ -75,7 +75,7 @@ returns-in-Accepted-clause-ending c = (let left = c in
     accepted-returns (lent (goal.at.returns-in-Accepted-clause-ending c).Start) (space (goal.at.returns-in-Accepted-clause-ending c).Start) s.args.limit s.args.text.now
     read.read-reading.ensures.answer read.read-reading.ensures.tables _ accepted.in-Accepted.is _ _ _
     (search rules) (search rules) (search rules) (search rules)
-    built.build_read.ensures.answer built.build_read.ensures.tables.0 built.build_read.ensures.tables.1).4
+    built.build_read.ensures.answer built.build_read.ensures.tables built.build_read.ensures.leaves).4
 
 pub returns-in-Refused-clause-answer : goal.returns-in-Refused-clause-answer
 returns-in-Refused-clause-answer c = (let third = c in

@@ -59,22 +59,13 @@ store-requires c =
     let step = step-passed _ _ _ (verdict (goal.at.store-requires c).After-judge_line ∙ passed.in_default.is) in
     rw (judged.entry_of-entry.ensures, parsed.parse-parsed.ensures) (parsed.requires.room _ (sym step))
 
-pub returns-clause-step : goal.returns-clause-step
+pub returns : goal.returns
 unfolding arcs_taken line_taken network_kind
-returns-clause-step c = (let stored = c in
+returns c =
+    let stored = c in
     let passed = stored in
     let judged = passed in
     let parsed = judged in
-    let step = step-passed _ _ _ (verdict (goal.at.returns-clause-step c).After-judge_line ∙ passed.in_default.is) in
+    let step = step-passed _ _ _ (verdict (goal.at.returns c).After-judge_line ∙ passed.in_default.is) in
     let said = rw parsed.parse-parsed.ensures at judged.entry_of-entry.ensures in
-    rw (← said) (ap Next c.next_state.ensures ∙ rw said step, stored.store.ensures)).0
-
-pub returns-clause-arcs : goal.returns-clause-arcs
-unfolding arcs_taken line_taken network_kind
-returns-clause-arcs c = (let stored = c in
-    let passed = stored in
-    let judged = passed in
-    let parsed = judged in
-    let step = step-passed _ _ _ (verdict (goal.at.returns-clause-arcs c).After-judge_line ∙ passed.in_default.is) in
-    let said = rw parsed.parse-parsed.ensures at judged.entry_of-entry.ensures in
-    rw (← said) (ap Next c.next_state.ensures ∙ rw said step, stored.store.ensures)).1
+    rw (← said) (record { step = ap Next c.next_state.ensures ∙ rw said step; arcs = stored.store.ensures })

@@ -10,7 +10,7 @@ entry c = (c)
 -- the index was filled, so the build may start
 ready : (c : goal.After-fill_index)
     → Startable c.args.header c.args.nodes.now c.args.combinations.now
-    c.fill_index.new.combinations.1.1.0 c.args.metastates.now c.args.arcs.now
+    c.fill_index.new.index c.args.metastates.now c.args.arcs.now
     c.args.chains.now
 ready c = let (given, work) = c.requires in startable given work c.fill_index.ensures
 

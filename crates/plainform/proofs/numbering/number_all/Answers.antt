@@ -35,7 +35,7 @@ loop-i-preserved c =
     let turn = c in
     let (_, room, few) = turn.requires in
     all_more turn.loop-i.invariant (omega arith) done.ensures started.result started.ensures room few
-    done.auto.1.1.1.1.1.0
+    done.auto.table
 
 pub returns-clause-table : goal.returns-clause-table
 returns-clause-table c = (all_end c.loop-i.invariant (omega arith)).0

@@ -42,8 +42,8 @@ put_plain-count-requires c = known (goal.at.put_plain-count-requires c).Else-not
 
 -- the text that lines were put into is as long as it was
 sized : (c : goal.After-put_plain-count)
-    → length c.put_plain-count.new.nodes.1.1.1.1.0 ≡ length c.args.text.now
-sized c = c.put_plain-count.auto.nodes.1.1.1.1.0 ∙ c.clear_bytes.auto.bytes
+    → length c.put_plain-count.new.text ≡ length c.args.text.now
+sized c = c.put_plain-count.auto.text ∙ c.clear_bytes.auto.bytes
 
 pub returns-then-text-count-clause-answer : goal.returns-then-text-count-clause-answer
 returns-then-text-count-clause-answer c = let cleared-again = (c in
