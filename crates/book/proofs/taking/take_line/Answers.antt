@@ -9,10 +9,9 @@ use Rattle.book.specs.Steps.{book_taken, verdict_in, step_of, where_taken}
 use Rattle.lines.specs.Laws.Rows.{none-parsed, some-parsed, whole_row}
 use Rattle.lines.specs.Laws.Judging.{verdict-full, verdict-misprint, verdict-line}
 use Rattle.book.specs.Laws.Taking.{step-failed, step-passed}
-use Rattle.std.proofs.lemmas.Bool.{not_from_true}
-use Rattle.std.proofs.lemmas.Bool.{not_from_false}
+use Rattle.lines.specs.declared.Verdict.TheVariants.{Passed}
 use Rattle.book.proofs.taking.take_line.Goals as goal
-use Rattle.book.proofs.taking.take_line.Goals.{After-judge_line, After-parse-parsed, In_default, Start}
+use Rattle.book.proofs.taking.take_line.Goals.{After-judge_line, After-parse-parsed}
 
 -- a line may follow
 unfinished : (c : goal.After-parse-parsed) → full_in c.args.s ≡ false
@@ -23,18 +22,14 @@ verdict : (c : goal.After-judge_line) → let a = c.args in
     verdict_in (lengths_of a.nodes.now a.classes.now a.roots.now a.plains.now) a.s a.bytes.now
     ≡ c.judge_line.result
 verdict c =
-    let formed = not-false _ (not_from_true _ c.if-not-parsed.false) in
-    verdict-line _ _ _ (unfinished c.before.before.before.before.before) (some-parsed _ c.parse-parsed.ensures formed)
+    let formed = not-false _ c.if-not-parsed.false in
+    verdict-line _ _ _ (sym c.full.ensures ∙ c.if-full.false) (some-parsed _ c.parse-parsed.ensures formed)
     ∙ rw (← c.entry_of-entry.ensures) (sym c.judge_line.ensures)
 
--- the line passed, so it is taken
-abbrev start : goal.In_default → goal.Start
-start c = (c)
-
-taken : (c : goal.In_default) → let a = (start c).args in
-    step_of (lengths_of a.nodes-1.now a.classes-1.now a.roots-1.now a.plains-1.now) a.s a.bytes.now
+taken : (c : goal.After-judge_line) → c.judge_line.result ≡ Passed → let a = c.args in
+    step_of (lengths_of a.nodes.now a.classes.now a.roots.now a.plains.now) a.s a.bytes.now
     ≡ Next (next_state a.s (book_taken a.bytes.now))
-taken c = sym (step-passed _ _ _ (verdict c.before.before ∙ c.in_default.is))
+taken c passed = sym (step-passed _ _ _ (verdict c ∙ passed))
 
 pub returns-then-full : goal.returns-then-full
 unfolding where_taken
@@ -47,7 +42,7 @@ pub returns-then-not-parsed : goal.returns-then-not-parsed
 unfolding where_taken
 returns-then-not-parsed c =
     let parsed = c in
-    let unformed = none-parsed _ parsed.parse-parsed.ensures (not-true _ (not_from_false _ c.if-not-parsed.true)) in
+    let unformed = none-parsed _ parsed.parse-parsed.ensures (not-true _ c.if-not-parsed.true) in
     let step = step-failed _ _ _ (verdict-misprint _ _ _ (unfinished (goal.at.returns-then-not-parsed c).After-parse-parsed) unformed) in
     record { step = step; nodes = refl; classes = refl; roots = refl; plains = refl; counts = refl }
 
@@ -65,15 +60,15 @@ pub store-requires : goal.store-requires
 store-requires c =
     let passed = c in
     let judged = passed in
-    rw (judged.entry_of-entry.ensures, judged.parse-parsed.ensures) ((start (goal.at.store-requires c).In_default).requires.room _ (taken (goal.at.store-requires c).In_default))
+    rw (judged.entry_of-entry.ensures, judged.parse-parsed.ensures) (passed.requires.room _ (taken (goal.at.store-requires c).After-judge_line c.in_default.is))
 
 pub next_state-requires : goal.next_state-requires
 next_state-requires c =
     let stored = c in
     let passed = stored in
     let judged = passed in (
-      (start (goal.at.next_state-requires c).In_default).requires.counts,
-      rw (judged.entry_of-entry.ensures, judged.parse-parsed.ensures) ((start (goal.at.next_state-requires c).In_default).requires.phones _ (taken (goal.at.next_state-requires c).In_default)),
+      passed.requires.counts,
+      rw (judged.entry_of-entry.ensures, judged.parse-parsed.ensures) (passed.requires.phones _ (taken (goal.at.next_state-requires c).After-judge_line c.in_default.is)),
     )
 
 pub returns : goal.returns
@@ -83,4 +78,4 @@ returns c =
     let passed = stored in
     let judged = passed in
     let said = rw judged.parse-parsed.ensures at judged.entry_of-entry.ensures in
-    rw (← said) (record { step = ap Next c.next_state.ensures ∙ rw said (sym (taken (goal.at.returns c).In_default)); nodes = stored.store.ensures.nodes; classes = stored.store.ensures.classes; roots = stored.store.ensures.roots; plains = stored.store.ensures.plains; counts = stored.store.ensures.counts })
+    rw (← said) (record { step = ap Next c.next_state.ensures ∙ rw said (sym (taken (goal.at.returns c).After-judge_line c.in_default.is)); nodes = stored.store.ensures.nodes; classes = stored.store.ensures.classes; roots = stored.store.ensures.roots; plains = stored.store.ensures.plains; counts = stored.store.ensures.counts })
