@@ -10,7 +10,7 @@ use Rattle.plainform.proofs.numbering.number_all.Goals as goal
 
 pub loop-i-init : goal.loop-i-init
 loop-i-init c = let a = c.args in
-    all_start (tree_in a.header a.nodes.now a.classes.now) a.sets.now a.roots.now a.table-1.now
+    all_start (tree_in a.header a.nodes.now a.classes.now) a.sets.now a.roots.now a.table.now
     a.starts.now
 
 pub bounds-starts-i : goal.bounds-starts-i
