@@ -11,8 +11,6 @@ use Rattle.nettext.specs.declared.Step.TheVariants.{Next}
 use Rattle.nettext.specs.States.{complete_in}
 use Rattle.nettext.specs.Taking.{verdict_in, arcs_taken}
 use Rattle.nettext.specs.Laws.Taking.{step-failed, step-passed}
-use Rattle.std.proofs.lemmas.Bool.{not_from_true}
-use Rattle.std.proofs.lemmas.Bool.{not_from_false}
 use Rattle.nettext.proofs.taking.take_line.Goals as goal
 use Rattle.nettext.proofs.taking.take_line.Goals.{After-judge_line, After-parse-parsed}
 
@@ -24,8 +22,8 @@ unfinished c = sym c.complete.ensures ∙ c.if-complete.false
 verdict : (c : goal.After-judge_line) → let a = c.args in
     verdict_in (length a.arcs.now) a.s a.bytes.now ≡ c.judge_line.result
 verdict c =
-    let formed = not-false _ (not_from_true _ c.if-not-parsed.false) in
-    verdict-line _ _ _ (unfinished c.before.before.before.before.before) (some-parsed _ c.parse-parsed.ensures formed)
+    let formed = not-false _ c.if-not-parsed.false in
+    verdict-line _ _ _ (sym c.complete.ensures ∙ c.if-complete.false) (some-parsed _ c.parse-parsed.ensures formed)
     ∙ rw (← c.entry_of-entry.ensures) (sym c.judge_line.ensures)
 
 pub returns-then-complete : goal.returns-then-complete
@@ -38,7 +36,7 @@ pub returns-then-not-parsed : goal.returns-then-not-parsed
 unfolding arcs_taken
 returns-then-not-parsed c =
     let parsed = c in
-    let unformed = none-parsed _ parsed.parse-parsed.ensures (not-true _ (not_from_false _ c.if-not-parsed.true)) in
+    let unformed = none-parsed _ parsed.parse-parsed.ensures (not-true _ c.if-not-parsed.true) in
     record { step = step-failed _ _ _ (verdict-misprint _ _ _ (unfinished (goal.at.returns-then-not-parsed c).After-parse-parsed) unformed); arcs = refl }
 
 pub entry_of-entry-requires : goal.entry_of-entry-requires

@@ -76,7 +76,7 @@ returns-clause-answer c = (let lines = c in
     let text = first.write in
     let size = length a.text.now in
     let line =
-    counts-written a.counts a.arcs.now (known (goal.at.returns-clause-answer c).Else-not-network_known) size clear.last.bytes text.new.bytes
+    counts-written a.counts a.arcs.now (known (goal.at.returns-clause-answer c).Else-not-network_known) size clear.new.bytes text.new.bytes
     row.counts_row.result (omega arith) clear.ensures (five (goal.at.returns-clause-answer c).After-counts_row) row.counts_row.ensures
     (text.ensures.answer, text.ensures.leaves) in
     write_done a.counts a.arcs.now size (known (goal.at.returns-clause-answer c).Else-not-network_known) counted.wide-count.ensures (omega arith)
@@ -93,7 +93,7 @@ returns-clause-leaves c = (let lines = c in
     let text = first.write in
     let size = length a.text.now in
     let line =
-    counts-written a.counts a.arcs.now (known (goal.at.returns-clause-leaves c).Else-not-network_known) size clear.last.bytes text.new.bytes
+    counts-written a.counts a.arcs.now (known (goal.at.returns-clause-leaves c).Else-not-network_known) size clear.new.bytes text.new.bytes
     row.counts_row.result (omega arith) clear.ensures (five (goal.at.returns-clause-leaves c).After-counts_row) row.counts_row.ensures
     (text.ensures.answer, text.ensures.leaves) in
     write_done a.counts a.arcs.now size (known (goal.at.returns-clause-leaves c).Else-not-network_known) counted.wide-count.ensures (omega arith)
