@@ -11,29 +11,22 @@ loop-turns-init c = turning-start c.requires
 
 pub expand-step-requires : goal.expand-step-requires
 expand-step-requires c =
-    let turn = c in
-    turning-asks turn.requires turn.loop-turns.invariant turn.loop-turns-test.true
+    turning-asks c.requires c.loop-turns.invariant c.loop-turns-test.true
 
 pub returns-in-Stop : goal.returns-in-Stop
 returns-in-Stop c =
-    let call = c in
-    let turn = call in
-    turning-stop turn.requires turn.loop-turns.invariant turn.loop-turns-test.true call.expand-step.ensures
+    turning-stop c.requires c.loop-turns.invariant c.loop-turns-test.true c.expand-step.ensures
     c.in-Stop.is
 
 pub loop-turns-smaller : goal.loop-turns-smaller
 loop-turns-smaller c =
-    let turn = c in
-    omega (arith, turning-within turn.requires turn.loop-turns.invariant turn.loop-turns-test.true)
+    omega (arith, turning-within c.requires c.loop-turns.invariant c.loop-turns-test.true)
 
 pub loop-turns-preserved : goal.loop-turns-preserved
 loop-turns-preserved c =
-    let call = c in
-    let turn = call in
-    turning-more turn.requires turn.loop-turns.invariant turn.loop-turns-test.true call.expand-step.ensures
+    turning-more c.requires c.loop-turns.invariant c.loop-turns-test.true c.expand-step.ensures
     c.in-Next.is
 
 pub returns : goal.returns
 returns c =
-    let start = c in
-    turning-done start.requires c.loop-turns.invariant c.loop-turns-test.false
+    turning-done c.requires c.loop-turns.invariant c.loop-turns-test.false
