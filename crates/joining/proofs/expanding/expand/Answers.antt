@@ -1,13 +1,11 @@
 -- `expanding::expand` meets its contract. The loop's invariant: the arcs of the state before `at` are followed.
 use mathlib.Core.Path.{◌≡◌, ap, ◌∙◌}
-use Prim.Native.Nat.{ℕ, ◌-◌, ◌/◌}
+use Prim.Native.Nat.{ℕ}
 use native.Mathlib.Omega.{arith}
-use lib.ListN.{length}
-use Rattle.definitions.specs.Arcs.{arc_size}
 use Rattle.arcs.specs.Whole.{all_arcs}
 use Rattle.arcs.specs.Below.{below}
 use Rattle.joined.specs.Laws.Entering.{joined-few}
-use Rattle.joining.specs.Laws.Expanding.{Expanding, expand-row, sources-after, expanding-start, expanding-done}
+use Rattle.joining.specs.Laws.Expanding.{expand-row, sources-after, expanding-start, expanding-done}
 use Rattle.joining.specs.Laws.Expanding.{expanding-next, expanding-asks, expanding-more, expanding-stop}
 use borrow.Author.Rules.{rules}
 use Rattle.joining.proofs.expanding.expand.Goals as goal
@@ -51,13 +49,12 @@ pub hop_at-hop-requires : goal.hop_at-hop-requires
 hop_at-hop-requires c = c.loop-at-test.true
 
 pub follow-step-requires : goal.follow-step-requires
-follow-step-requires c =
-    (
-      expanding-asks c.requires c.joined_at-x.ensures c.wanted-wants.ensures
-          c.loop-at.invariant c.loop-at-test.true
-          c.hop_at-hop.ensures,
-      c.wanted-wants.ensures,
-    )
+follow-step-requires c = (
+  expanding-asks c.requires c.joined_at-x.ensures c.wanted-wants.ensures
+      c.loop-at.invariant c.loop-at-test.true
+      c.hop_at-hop.ensures,
+  c.wanted-wants.ensures,
+)
 
 pub returns-in-Stop : goal.returns-in-Stop
 returns-in-Stop c =

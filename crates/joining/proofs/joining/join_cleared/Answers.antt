@@ -14,6 +14,7 @@ use borrow.Author.Rules.{rules}
 use Rattle.joining.proofs.joining.join_cleared.Goals as goal
 use Rattle.joining.proofs.joining.join_cleared.Goals.{Else-state_room-lt2}
 
+-- what they say
 network : (c : goal.Else-state_room-lt2) → network_known c.args.counts c.args.arcs.now ≡ true
 network c = held c.network_known.ensures (not_from_true _ c.if-not-network_known.false)
 
@@ -25,10 +26,13 @@ returns-then-not-network_known c =
     let a = c.args in
     let foreign =
     foreign-arcs a.counts a.arcs.now a.count a.words.now a.states.now a.joined.now
-    (failed c.network_known.ensures (not_from_false _ c.if-not-network_known.true)) in record { answer = c.refuse.ensures
+    (failed c.network_known.ensures (not_from_false _ c.if-not-network_known.true)) in record {
+      answer = c.refuse.ensures
           ∙ refusal-answer a.counts a.arcs.now a.count a.words.now a.states.now a.joined.now
-          foreign; left = refusal-held a.counts a.arcs.now a.count a.words.now a.states.now a.joined.now foreign
-          refl refl }
+          foreign;
+      left = refusal-held a.counts a.arcs.now a.count a.words.now a.states.now a.joined.now foreign
+          refl refl;
+    }
 
 pub returns-then-not-words_known : goal.returns-then-not-words_known
 returns-then-not-words_known c =
@@ -36,10 +40,13 @@ returns-then-not-words_known c =
     let foreign =
     foreign-words a.counts a.arcs.now a.count a.words.now a.states.now a.joined.now
     (held c.network_known.ensures (not_from_true _ c.if-not-network_known.false))
-    (failed c.words_known.ensures (not_from_false _ c.if-not-words_known.true)) in record { answer = c.refuse-then-not-words_known.ensures
+    (failed c.words_known.ensures (not_from_false _ c.if-not-words_known.true)) in record {
+      answer = c.refuse-then-not-words_known.ensures
           ∙ refusal-answer a.counts a.arcs.now a.count a.words.now a.states.now a.joined.now
-          foreign; left = refusal-held a.counts a.arcs.now a.count a.words.now a.states.now a.joined.now foreign
-          refl refl }
+          foreign;
+      left = refusal-held a.counts a.arcs.now a.count a.words.now a.states.now a.joined.now foreign
+          refl refl;
+    }
 
 pub returns-then-state_room-lt2 : goal.returns-then-state_room-lt2
 returns-then-state_room-lt2 c =
@@ -48,10 +55,13 @@ returns-then-state_room-lt2 c =
     too_few a.counts a.arcs.now a.count a.words.now a.states.now a.joined.now
     (held c.network_known.ensures (not_from_true _ c.if-not-network_known.false))
     (held c.words_known.ensures (not_from_true _ c.if-not-words_known.false))
-    (omega (arith, c.if-state_room-lt2.true, c.state_room.ensures)) in record { answer = c.refuse-then-state_room-lt2.ensures
+    (omega (arith, c.if-state_room-lt2.true, c.state_room.ensures)) in record {
+      answer = c.refuse-then-state_room-lt2.ensures
           ∙ refusal-answer a.counts a.arcs.now a.count a.words.now a.states.now a.joined.now
-          crowded; left = refusal-held a.counts a.arcs.now a.count a.words.now a.states.now a.joined.now crowded
-          refl refl }
+          crowded;
+      left = refusal-held a.counts a.arcs.now a.count a.words.now a.states.now a.joined.now crowded
+          refl refl;
+    }
 
 pub overflow_mul-spelled : goal.overflow_mul-spelled
 overflow_mul-spelled c =
@@ -79,15 +89,21 @@ join_known-step-requires c =
 pub returns-in-Next : goal.returns-in-Next
 returns-in-Next c =
     let a = c.args in
-    record { answer = join-answered a.counts a.arcs.now a.count a.words.now a.states.now a.joined.now
-          (network (goal.at.returns-in-Next c).Else-state_room-lt2) (book (goal.at.returns-in-Next c).Else-state_room-lt2) c.wide-used.ensures c.join_known-step.ensures c.in-Next.is; left = join-held a.counts a.arcs.now a.count a.words.now a.states.now a.joined.now
-          (network (goal.at.returns-in-Next c).Else-state_room-lt2) (book (goal.at.returns-in-Next c).Else-state_room-lt2) c.wide-used.ensures c.join_known-step.ensures }
+    record {
+      answer = join-answered a.counts a.arcs.now a.count a.words.now a.states.now a.joined.now
+          (network (goal.at.returns-in-Next c).Else-state_room-lt2) (book (goal.at.returns-in-Next c).Else-state_room-lt2) c.wide-used.ensures c.join_known-step.ensures c.in-Next.is;
+      left = join-held a.counts a.arcs.now a.count a.words.now a.states.now a.joined.now
+          (network (goal.at.returns-in-Next c).Else-state_room-lt2) (book (goal.at.returns-in-Next c).Else-state_room-lt2) c.wide-used.ensures c.join_known-step.ensures;
+    }
 
 pub returns-in-Stop : goal.returns-in-Stop
 returns-in-Stop c =
     let a = c.args in
-    record { answer = c.refuse-in-Stop.ensures
+    record {
+      answer = c.refuse-in-Stop.ensures
           ∙ join-refused a.counts a.arcs.now a.count a.words.now a.states.now a.joined.now
           (network (goal.at.returns-in-Stop c).Else-state_room-lt2) (book (goal.at.returns-in-Stop c).Else-state_room-lt2) c.wide-used.ensures c.join_known-step.ensures
-          c.in-Stop.is; left = join-held a.counts a.arcs.now a.count a.words.now a.states.now a.joined.now
-          (network (goal.at.returns-in-Stop c).Else-state_room-lt2) (book (goal.at.returns-in-Stop c).Else-state_room-lt2) c.wide-used.ensures c.join_known-step.ensures }
+          c.in-Stop.is;
+      left = join-held a.counts a.arcs.now a.count a.words.now a.states.now a.joined.now
+          (network (goal.at.returns-in-Stop c).Else-state_room-lt2) (book (goal.at.returns-in-Stop c).Else-state_room-lt2) c.wide-used.ensures c.join_known-step.ensures;
+    }

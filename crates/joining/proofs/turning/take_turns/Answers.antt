@@ -1,8 +1,6 @@
 -- `turning::take_turns` meets its contract. The loop's invariant: the states before `turns` are expanded.
-use Prim.Native.Nat.{◌-◌}
 use native.Mathlib.Omega.{arith}
-use Rattle.joined.specs.States.{room_of}
-use Rattle.joining.specs.Laws.Turning.{Turning, turning-start, turning-done, turning-asks, turning-within}
+use Rattle.joining.specs.Laws.Turning.{turning-start, turning-done, turning-asks, turning-within}
 use Rattle.joining.specs.Laws.Turning.{turning-more, turning-stop}
 use Rattle.joining.proofs.turning.take_turns.Goals as goal
 
