@@ -40,7 +40,7 @@ unfolding tests_in book_tests
 returns-then-not-in_fixed_ranges c = test-failed (left1 (goal.at.returns-then-not-in_fixed_ranges c).Else-not-follows) c.in_fixed_ranges.ensures (not_from_false _ c.if-not-in_fixed_ranges.true)
 
 abbrev start2 : goal.Else-not-in_fixed_ranges → goal.Start
-start2 c = c
+start2 c = c.before.before.before.before
 
 left2 : (c : goal.Else-not-in_fixed_ranges) → Left (start2 c) 2
 unfolding tests_in book_tests
