@@ -6,9 +6,9 @@ use Rattle.network.proofs.connecting.connect.Goals as goal
 
 pub connect_with-requires : goal.connect_with-requires
 connect_with-requires c =
-    let test = c in (
-      test.requires,
-      cleared-workspace 8192 12288 4096 (omega (arith, test.if-metastate_room-lt-FEW.true, test.metastate_room.ensures))
+    (
+      c.requires,
+      cleared-workspace 8192 12288 4096 (omega (arith, c.if-metastate_room-lt-FEW.true, c.metastate_room.ensures))
           (omega arith) (omega arith) (omega arith),
     )
 
