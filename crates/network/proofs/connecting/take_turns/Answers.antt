@@ -1,9 +1,9 @@
 -- `connecting::take_turns` meets its contract. The loop's invariant: after `turns` turns, what the words
 -- hold, and what is left of the build.
 use mathlib.Core.Path.{◌∙◌}
-use Prim.Native.Nat.{◌-◌, ◌<◌}
+use Prim.Native.Nat.{◌<◌}
 use native.Mathlib.Omega.{arith}
-use Rattle.network.specs.Laws.Turning.{Turned, turned_none, metastates-word, arcs-word, turn-finished}
+use Rattle.network.specs.Laws.Turning.{turned_none, metastates-word, arcs-word, turn-finished}
 use Rattle.network.specs.Laws.Turning.{turn_stopped, turned_more, turn-refused}
 use borrow.Author.Rules.{rules}
 use Rattle.network.proofs.connecting.take_turns.Goals as goal
