@@ -17,57 +17,33 @@ lent c =
 abbrev space : goal.Start → Space
 space c = lent_space c.args.combinations.now c.args.metastates.now c.args.arcs.now
 
-pub returns-in-Accepted-clause-answer : goal.returns-in-Accepted-clause-answer
-returns-in-Accepted-clause-answer c = (accepted-returns (lent (goal.at.returns-in-Accepted-clause-answer c).Start) (space (goal.at.returns-in-Accepted-clause-answer c).Start) c.args.limit c.args.text.now
+pub returns-in-Accepted : goal.returns-in-Accepted
+returns-in-Accepted c =
+    let start = (goal.at.returns-in-Accepted c).Start in
+    let ends =
+    accepted-returns (lent start) (space start) c.args.limit c.args.text.now
     c.read-reading.ensures.answer c.read-reading.ensures.tables _ c.in-Accepted.is _ _ _
     (search rules) (search rules) (search rules) (search rules)
-    c.build_read.ensures.answer c.build_read.ensures.tables c.build_read.ensures.leaves).0
+    c.build_read.ensures.answer c.build_read.ensures.tables c.build_read.ensures.leaves in
+    record {
+      answer = ends.0;
+      tables = ends.1.0;
+      leaves = ends.1.1.0;
+      demand = ends.1.1.1.0;
+      ending = ends.1.1.1.1;
+    }
 
-pub returns-in-Accepted-clause-tables : goal.returns-in-Accepted-clause-tables
-returns-in-Accepted-clause-tables c = (accepted-returns (lent (goal.at.returns-in-Accepted-clause-tables c).Start) (space (goal.at.returns-in-Accepted-clause-tables c).Start) c.args.limit c.args.text.now
-    c.read-reading.ensures.answer c.read-reading.ensures.tables _ c.in-Accepted.is _ _ _
-    (search rules) (search rules) (search rules) (search rules)
-    c.build_read.ensures.answer c.build_read.ensures.tables c.build_read.ensures.leaves).1
-
-pub returns-in-Accepted-clause-leaves : goal.returns-in-Accepted-clause-leaves
-returns-in-Accepted-clause-leaves c = (accepted-returns (lent (goal.at.returns-in-Accepted-clause-leaves c).Start) (space (goal.at.returns-in-Accepted-clause-leaves c).Start) c.args.limit c.args.text.now
-    c.read-reading.ensures.answer c.read-reading.ensures.tables _ c.in-Accepted.is _ _ _
-    (search rules) (search rules) (search rules) (search rules)
-    c.build_read.ensures.answer c.build_read.ensures.tables c.build_read.ensures.leaves).2
-
-pub returns-in-Accepted-clause-demand : goal.returns-in-Accepted-clause-demand
-returns-in-Accepted-clause-demand c = (accepted-returns (lent (goal.at.returns-in-Accepted-clause-demand c).Start) (space (goal.at.returns-in-Accepted-clause-demand c).Start) c.args.limit c.args.text.now
-    c.read-reading.ensures.answer c.read-reading.ensures.tables _ c.in-Accepted.is _ _ _
-    (search rules) (search rules) (search rules) (search rules)
-    c.build_read.ensures.answer c.build_read.ensures.tables c.build_read.ensures.leaves).3
-
-pub returns-in-Accepted-clause-ending : goal.returns-in-Accepted-clause-ending
-returns-in-Accepted-clause-ending c = (accepted-returns (lent (goal.at.returns-in-Accepted-clause-ending c).Start) (space (goal.at.returns-in-Accepted-clause-ending c).Start) c.args.limit c.args.text.now
-    c.read-reading.ensures.answer c.read-reading.ensures.tables _ c.in-Accepted.is _ _ _
-    (search rules) (search rules) (search rules) (search rules)
-    c.build_read.ensures.answer c.build_read.ensures.tables c.build_read.ensures.leaves).4
-
-pub returns-in-Refused-clause-answer : goal.returns-in-Refused-clause-answer
-returns-in-Refused-clause-answer c = (refused-returns (lent (goal.at.returns-in-Refused-clause-answer c).Start) (space (goal.at.returns-in-Refused-clause-answer c).Start) c.args.limit c.args.text.now
+pub returns-in-Refused : goal.returns-in-Refused
+returns-in-Refused c =
+    let start = (goal.at.returns-in-Refused c).Start in
+    let ends =
+    refused-returns (lent start) (space start) c.args.limit c.args.text.now
     c.read-reading.ensures.answer c.read-reading.ensures.tables _ c.in-Refused.is _ _ _
-    c.clear_wide_words.ensures c.clear_wide_words-in-Refused.ensures c.clear_words.ensures).0
-
-pub returns-in-Refused-clause-tables : goal.returns-in-Refused-clause-tables
-returns-in-Refused-clause-tables c = (refused-returns (lent (goal.at.returns-in-Refused-clause-tables c).Start) (space (goal.at.returns-in-Refused-clause-tables c).Start) c.args.limit c.args.text.now
-    c.read-reading.ensures.answer c.read-reading.ensures.tables _ c.in-Refused.is _ _ _
-    c.clear_wide_words.ensures c.clear_wide_words-in-Refused.ensures c.clear_words.ensures).1
-
-pub returns-in-Refused-clause-leaves : goal.returns-in-Refused-clause-leaves
-returns-in-Refused-clause-leaves c = (refused-returns (lent (goal.at.returns-in-Refused-clause-leaves c).Start) (space (goal.at.returns-in-Refused-clause-leaves c).Start) c.args.limit c.args.text.now
-    c.read-reading.ensures.answer c.read-reading.ensures.tables _ c.in-Refused.is _ _ _
-    c.clear_wide_words.ensures c.clear_wide_words-in-Refused.ensures c.clear_words.ensures).2
-
-pub returns-in-Refused-clause-demand : goal.returns-in-Refused-clause-demand
-returns-in-Refused-clause-demand c = (refused-returns (lent (goal.at.returns-in-Refused-clause-demand c).Start) (space (goal.at.returns-in-Refused-clause-demand c).Start) c.args.limit c.args.text.now
-    c.read-reading.ensures.answer c.read-reading.ensures.tables _ c.in-Refused.is _ _ _
-    c.clear_wide_words.ensures c.clear_wide_words-in-Refused.ensures c.clear_words.ensures).3
-
-pub returns-in-Refused-clause-ending : goal.returns-in-Refused-clause-ending
-returns-in-Refused-clause-ending c = (refused-returns (lent (goal.at.returns-in-Refused-clause-ending c).Start) (space (goal.at.returns-in-Refused-clause-ending c).Start) c.args.limit c.args.text.now
-    c.read-reading.ensures.answer c.read-reading.ensures.tables _ c.in-Refused.is _ _ _
-    c.clear_wide_words.ensures c.clear_wide_words-in-Refused.ensures c.clear_words.ensures).4
+    c.clear_wide_words.ensures c.clear_wide_words-in-Refused.ensures c.clear_words.ensures in
+    record {
+      answer = ends.0;
+      tables = ends.1.0;
+      leaves = ends.1.1.0;
+      demand = ends.1.1.1.0;
+      ending = ends.1.1.1.1;
+    }
