@@ -1,6 +1,6 @@
 -- Document 02, P1 with P2's B lines: a writer of tree books. The lines that state a header with nodes, sets, boundary
 -- phones and roots, and their text. The plain form is written by it; and since what is written so is read again
--- (laws/books/BookTexts.antt), 18 refuses nothing else than what reading never leaves.
+-- (proofs/Laws/Books/BookTexts.antt), 18 refuses nothing else than what reading never leaves.
 use Rattle.std.specs.Prelude.{List, [], ◌∷◌, ◌++◌, map, ℕ, suc, ◌+◌, ◌/◌, ◌%◌, eqb}
 use Prim.Native.Char.{code}
 use Rattle.definitions.specs.declared.Header.{Header}

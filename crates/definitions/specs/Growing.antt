@@ -1,7 +1,7 @@
 -- Document 01, "Connecting", in general: a table that grows at its end while its elements are expanded, oldest
 -- first, and arcs that lead to places of it, each built by turns within limits. Elements and what is entered
 -- are two types: what is entered is judged, gives its arc, and tells the element that is stored. So one
--- construction, and one proof of it (construction/), serves every network that is built this way: document
+-- construction, and one proof of it (proofs/Construction/), serves every network that is built this way: document
 -- 01's in Connecting.antt, and the joined one of document 02 in Joining.antt.
 use Rattle.std.specs.Prelude.{List, [], ◌∷◌, ◌++◌, Bool, true, false, ℕ, zero, suc, ltb, length, get_or}
 use Rattle.std.proofs.Math.Option.{Option, none, some}

@@ -5,9 +5,9 @@
 -- phones in order, and silence."
 --
 -- That holds of every pair of sequences, of any length, for every network of which demand 3 holds and whose FINAL no
--- arc leaves (demand/Demand.antt and demand/Endings.antt prove both of every finished build), and for every table of
--- words and every space with which the join answers. The fourth word of a joined arc is a word instead of a phone; so
--- what a path carries beside models are words.
+-- arc leaves (proofs/Demand/Demand.antt and proofs/Demand/Endings.antt prove both of every finished build), and for
+-- every table of words and every space with which the join answers. The fourth word of a joined arc is a word instead
+-- of a phone; so what a path carries beside models are words.
 --
 -- What a reader must believe to read it, each definition in the documents' words:
 --   join, join_left (Joining.antt)                             the join's answer, and the words that it leaves
@@ -16,7 +16,7 @@
 --   arcs_in (Arcs.antt)                                        the arcs in the words of the arc buffer
 --   Carries (Paths.antt)                                      paths and what they carry
 --   Given (TreesGive.antt)                                    what the trees give, from the book's lines alone
---   Demand3 (demand/Demand.antt), final_last (Paths.antt)      what is asked of the network
+--   Demand3 (Demand.antt), final_last (Paths.antt)             what is asked of the network
 -- The idea of the proof: a joined state is a state of the network and a mark of an automaton that reads phones and says
 -- words. Paths of the product are paths of both (Product.antt), the automaton says W on what is spoken of W and on
 -- nothing else (Speaking.antt, Spelling.antt), and the join lays the arcs of the product between the states that are

@@ -19,7 +19,7 @@ most_columns = 7
 unfoldable pub matrix_words : Matrix → List ℕ
 matrix_words m = padded most_columns m
 
--- how many words it takes in a record of a book with this n. Proofs know of it what laws/matrices/Sizes says.
+-- how many words it takes in a record of a book with this n. Proofs know of it what proofs/Laws/Matrices/Sizes says.
 unfoldable pub matrix_size : (half : ℕ) → ℕ
 matrix_size half = most_columns
 

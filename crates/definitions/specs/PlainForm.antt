@@ -1,6 +1,6 @@
 -- Document 02, P1, "One spelling of a book": "Colleges swap books by mail, and the same trees arrive numbered in many
 -- ways. We want a writer of the plain form." A book is taken apart into its trees, which have no numbers of nodes and
--- classes, and these are numbered anew. What the form promises is stated in spelling/OneSpelling.antt.
+-- classes, and these are numbered anew. What the form promises is stated in proofs/Spelling/OneSpelling.antt.
 use Rattle.std.specs.Prelude.{◌≡◌, List, [], ◌∷◌, ◌++◌, map, ℕ, zero, suc, ◌+◌, ◌-◌, leb, eqb, length}
 use Rattle.std.proofs.Math.Option.{Option, none, some}
 use Rattle.definitions.specs.declared.Header.{Header}

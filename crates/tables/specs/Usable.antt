@@ -2,7 +2,7 @@
 -- ranges, tables that are wide enough, nodes and roots in range, and no node a child twice. The roots are those
 -- in force, one for each phone and state: it is not asked that they were read from R lines, nor how often they
 -- name a node. Known tables with their roots in force are such (`tables-fit`, `forced-book` in
--- laws/KnownTables.antt).
+-- Laws/KnownTables.antt).
 use Rattle.std.specs.Prelude.{List, map, ℕ, ◌-◌, ◌*◌, ◌≤◌, T, ltb, length, take, drop}
 use Rattle.definitions.specs.BookLines.{TreeNode, root_count}
 use Rattle.definitions.specs.Tables.{node_of, tree_node, Book, node_records}

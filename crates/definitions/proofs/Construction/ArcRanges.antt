@@ -1,6 +1,6 @@
 -- The arcs of a build are in range, finished or stopped: their sources and targets are states of the network,
 -- as every metastate that an arc leaves or enters has a place in the table, and their models and phones are
--- those of metastates. Network text asks for these ranges (demand/BuiltKnown.antt).
+-- those of metastates. Network text asks for these ranges (Demand/BuiltKnown.antt).
 use Rattle.std.specs.Prelude.{◌≡◌, refl, T, drop}
 use Rattle.std.proofs.Common.{sym, inl, suc-mul, mul_comm, mul-le-mul, arith, length-drop, lt-ltb}
 use Rattle.std.proofs.Math.Path.{subst}

@@ -1,6 +1,6 @@
 -- A build is told by the list of all its events: the start events, and the turn events of the expanded elements
 -- of the table in order. In a finished build all are expanded. What a network's events enter and which arcs
--- they add is left to construction/Finished.antt.
+-- they add is left to Construction/Finished.antt.
 use Rattle.std.specs.Prelude.{◌≡◌, length, take, get_or}
 use Rattle.std.proofs.Math.Path.{sym, ap, subst}
 use Rattle.std.proofs.Common.{◌∙◌, take_all}

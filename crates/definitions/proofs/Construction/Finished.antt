@@ -1,6 +1,6 @@
 -- What the build of a network leaves: a table without repetition that has the start metastates and the
 -- followers of all that are expanded, and the arcs, told by the places of that table. In a finished build all
--- are expanded. The idea: a build is told by the list of all its events (construction/Expanding.antt); here
+-- are expanded. The idea: a build is told by the list of all its events (Construction/Expanding.antt); here
 -- they are read as what the rules say. Demand 3 is about what a finished build leaves.
 use Rattle.std.specs.Prelude.{◌≡◌, length, take, drop, get_or}
 use Rattle.std.proofs.Math.Path.{refl, ap₂}

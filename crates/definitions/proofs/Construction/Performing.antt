@@ -1,6 +1,6 @@
 -- What performing events leaves: the table grows at its end by what the events enter, without repetition, and
 -- each event adds its arc, told by the places of the table that results. Performing one event after the other
--- composes, so a whole build is told by the list of its events (construction/Expanding.antt).
+-- composes, so a whole build is told by the list of its events (Construction/Expanding.antt).
 use Rattle.std.specs.Prelude.{◌≡◌, ◌⊎◌, ℕ, length}
 use Rattle.std.proofs.Math.Path.{refl, sym, ap, ap₂, subst}
 use Rattle.std.proofs.Common.{◌∙◌, inl, inr}

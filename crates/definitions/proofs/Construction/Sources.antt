@@ -1,6 +1,6 @@
 -- The sources of a build's arcs never descend, finished or stopped: the arcs from INITIAL come first, then
 -- those of the expanded metastates in the order of the table, each from its first state to its last. Network
--- text asks for that order (demand/BuiltKnown.antt).
+-- text asks for that order (Demand/BuiltKnown.antt).
 use Rattle.std.specs.Prelude.{◌≡◌, refl, T, leb, get_or}
 use Rattle.std.proofs.Math.Path.{subst}
 use Rattle.std.proofs.Common.{inl, inr, le→leb, length-drop}

@@ -1,5 +1,5 @@
 -- Searching the table that a build grows: an element of it is found at its place, and no other is. What a build
--- performs is told by these (construction/Performing.antt).
+-- performs is told by these (Construction/Performing.antt).
 use Rattle.std.proofs.Math.Path.{◌≡◌, ap}
 use Rattle.std.specs.Prelude.{refl, Bool, length}
 use Rattle.std.proofs.Common.{inl, inr, arith}

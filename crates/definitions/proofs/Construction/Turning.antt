@@ -1,7 +1,7 @@
 -- A claim that the start events bring about and every turn keeps holds of every build that answers; a finished
 -- one has expanded its whole table. So what holds of the elements that the build starts with, and is passed on
 -- by turns, holds of the whole table. Which events a build has performed is such a claim
--- (construction/Expanding.antt).
+-- (Construction/Expanding.antt).
 use Rattle.std.specs.Prelude.{◌≡◌, true, false, ltb, get_or}
 use Rattle.std.proofs.Math.Path.{refl, ap, subst}
 use Rattle.std.proofs.Common.{⊎_elim, length-append}

@@ -1,6 +1,6 @@
 -- Every network that a build answers with, finished or stopped, is one that network text can hold: the test for
 -- foreign arcs passes on its counts and its arc buffer. The idea: the arcs of a build are told by the places of
--- its table (construction/Finished.antt), so each arc leads between states of the table's metastates, and the
+-- its table (Construction/Finished.antt), so each arc leads between states of the table's metastates, and the
 -- sources rise from one metastate's states to the next one's; models and phones are those of combinations, and
 -- some metastate starts, as silence alone has a way. So the program can write every network that it builds.
 use Rattle.std.specs.Prelude.{◌≡◌, ℕ, ◌+◌, ◌*◌, ◌≤◌, ◌<◌, T, length}

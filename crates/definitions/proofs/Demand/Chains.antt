@@ -1,7 +1,7 @@
 -- The chain theorem, the core of demand 3: what is admitted at the end of a chain of steps. A step to a
 -- combination shifts what is carried and meets it with what the combination carries. By laws 1 to 3 of Carrier
 -- the last carrier admits W exactly when some phones e before W make the first admit e ++ W and each combination
--- admit it from its own place on. Nothing here knows the ends of a sentence: demand/Sentences.antt joins it with
+-- admit it from its own place on. Nothing here knows the ends of a sentence: Demand/Sentences.antt joins it with
 -- them.
 use Rattle.std.specs.Prelude.{◌≡◌, refl, ◌↔◌, T, length, drop}
 use Rattle.std.proofs.Math.Path.{ap}

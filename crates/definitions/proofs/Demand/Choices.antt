@@ -167,16 +167,16 @@ module _ (book : Book) (sound : Sound book) (W : List ℕ)
           let l = of-up_from 1 book.phones p i in
           combinations-none book sound W p (omega (arith, l)) (centre-admits p l.0 ∙ e)
 
-  one_Choice
+  one_choice
       : IsOne centre (leaves_reached book W centre) (select (combination_admits W) (combinations book))
-  one_Choice =
+  one_choice =
       let here = subst T (sym (centre-admits centre centre-range.0)) (eqb_refl centre) in
       let (c, one, p, ls) = combinations-one book sound W centre centre-range.1 here in
       (c, only-centre ∙ one, p, ls)
 
   pub the-choice : TheChoice book W
   the-choice =
-      let (c, one, p, ls) = one_Choice in
+      let (c, one, p, ls) = one_choice in
       let (j, h, e, only) = select-one (combination_admits W) (combinations book) c no_combination one in
       record {
         number = j;

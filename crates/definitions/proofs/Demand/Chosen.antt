@@ -1,6 +1,6 @@
 -- What every combination of a book is: it carries some window, in the book's form, has a leaf of the book for
 -- each state, and its phone stands in the centre of every window that it admits. The idea: choosing one leaf
--- more keeps each of these. The proof that one combination admits a context (demand/Choices.antt) and the proof
+-- more keeps each of these. The proof that one combination admits a context (Demand/Choices.antt) and the proof
 -- about paths use it.
 use Rattle.std.specs.Prelude.{◌≡◌, refl, ℕ, suc, ◌+◌, ◌≤◌, ◌<◌, T}
 use Rattle.std.proofs.Common.{sym, ◌∙◌, inl, inr, ⊎_elim, arith, length-append}

@@ -1,6 +1,6 @@
 -- The three claims about the finished network of a sound book. The network is a proper graph, each element
--- of which is reached and leads on (demand/ProperNetwork.antt): so what holds of such graphs
--- (graph/Theorem.antt) and what the ways of a book mean (demand/Meaning.antt) say them together.
+-- of which is reached and leads on (Demand/ProperNetwork.antt): so what holds of such graphs
+-- (Graph/Theorem.antt) and what the ways of a book mean (Demand/Meaning.antt) say them together.
 use Rattle.std.specs.Prelude.{◌≡◌, ◌↔◌, List, map, ℕ, ◌<◌, T, eqb, length}
 use Rattle.std.proofs.Common.{sym, ap, ◌∙◌, subst, eqb→eq}
 use Rattle.std.proofs.Math.Bool.{not}

@@ -1,6 +1,6 @@
 -- What the ways of a book mean: to each sequence of the book's phones that begins and ends with silence
 -- there is one way, and it carries the models that the contexts of the sequence reach in the trees. Each
--- window of the sequence with silence around it is admitted by one combination (demand/ChoicesAlong.antt).
+-- window of the sequence with silence around it is admitted by one combination (Demand/ChoicesAlong.antt).
 use Rattle.std.specs.Prelude.{◌≡◌, T, length}
 use Rattle.std.proofs.Math.Path.{sym, ap}
 use Rattle.std.proofs.Common.{◌∙◌, arith}

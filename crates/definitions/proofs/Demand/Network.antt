@@ -1,6 +1,6 @@
 -- The network of a book as a graph: its elements are the metastates of a table, with their starts, followers
 -- and ends, their models and phones; and what it is that a build from a sound book finished it.
--- demand/ProperNetwork.antt shows that it is proper then.
+-- Demand/ProperNetwork.antt shows that it is proper then.
 use Rattle.std.specs.Prelude.{◌≡◌, List, ℕ}
 use Rattle.definitions.specs.Faults.{answered}
 use Rattle.definitions.specs.Tables.{Book}

@@ -1,6 +1,6 @@
 -- The finished network of a sound book is a proper graph, and each of its metastates is reached and leads
 -- on. What the start metastates have and followers take over, the whole table has
--- (construction/Finished.antt): so every metastate is one of the construction's, and some way leads to it.
+-- (Construction/Finished.antt): so every metastate is one of the construction's, and some way leads to it.
 use Rattle.std.specs.Prelude.{◌≡◌, not, T, eqb}
 use Rattle.std.proofs.Math.Path.{sym, ap}
 use Rattle.std.proofs.Common.{◌∙◌, arith, eqb→eq}

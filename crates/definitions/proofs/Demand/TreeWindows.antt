@@ -1,5 +1,5 @@
 -- The windows of trees: what the two sides of a question admit, and what a root's matrix admits.
--- One leaf of a tree (demand/Trees.antt) and one combination of a book (demand/Choices.antt) admit a context by
+-- One leaf of a tree (Demand/Trees.antt) and one combination of a book (Demand/Choices.antt) admit a context by
 -- these laws; they and those of Windows are all that look inside a matrix.
 use Rattle.std.specs.Prelude.{◌≡◌, refl, List, [], ◌∷◌, Bool, not, ◌&&◌, ℕ, zero, suc, ◌+◌, ◌≤◌, ◌<◌, T, eqb, length, set}
 use Rattle.std.proofs.Common.{sym, ◌∙◌, arith, eqb→eq}

@@ -1,7 +1,7 @@
 -- Exactly one leaf of a tree admits a context, and it is the leaf that the walk with the context reaches.
 -- The idea: a question's two sides admit what its node admits with the answer yes, and with the answer no;
 -- so the leaves that admit the context are one where the node does, and none where it does not.
--- The combinations of a book (demand/Choices.antt) take one leaf of each tree.
+-- The combinations of a book (Demand/Choices.antt) take one leaf of each tree.
 use Rattle.std.specs.Prelude.{◌≡◌, Bool, not, ◌&&◌, ℕ, zero, suc, ◌+◌, ◌≤◌, ◌<◌, T, length}
 use Rattle.std.proofs.Math.Path.{refl, ap}
 use Rattle.std.proofs.Common.{◌∙◌, arith}

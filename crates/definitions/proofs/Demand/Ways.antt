@@ -1,7 +1,7 @@
 -- The ways through a book's metastates, as lists of combination numbers: numbers make a way exactly when each
 -- combination admits its own window of the sequence of their phones with silence around it, and that sequence
 -- begins and ends with silence. The start's cut (law 5 of Carrier) makes the left end silent, the end test the
--- right end. demand/Meaning.antt finds the one way of each sequence by it.
+-- right end. Demand/Meaning.antt finds the one way of each sequence by it.
 use Rattle.std.specs.Prelude.{◌≡◌, ◌↔◌, T, eqb}
 use Rattle.std.proofs.Math.Path.{refl, sym, ap, ap₂}
 use Rattle.std.proofs.Common.{◌∙◌, subst, take-append-drop}

@@ -1,6 +1,6 @@
 -- Which arcs a graph has: those into the elements where a sentence may start, and each element's block.
 -- States tell elements apart, so an arc that leaves a state of an element is of its block, and nothing leaves
--- FINAL. A path is decoded by these facts (graph/Ways.antt).
+-- FINAL. A path is decoded by these facts (Graph/Ways.antt).
 use Rattle.std.specs.Prelude.{◌≡◌, ◌⊎◌, List, [], ◌∷◌, ◌++◌, map, ℕ, suc, ◌+◌, ◌-◌, ◌*◌, ◌/◌, ◌≤◌, ◌<◌, T, length, drop}
 use Rattle.std.proofs.Common.{sym, ◌∙◌, inl, inr, length-drop}
 use Rattle.std.proofs.Math.Path.{ap, subst}

@@ -1,6 +1,6 @@
 -- What the trail of a way carries: the models of its elements one after the other, and their phones.
 -- Models and phones of elements are never 0 and all else on a trail is, so without the 0s just these stay.
--- graph/Theorem.antt reads paths by it.
+-- Graph/Theorem.antt reads paths by it.
 use Rattle.std.specs.Prelude.{◌≡◌, Bool, not, ℕ, suc, ◌≤◌, T, eqb, length, drop}
 use Rattle.std.proofs.Math.Path.{refl, ap}
 use Rattle.std.proofs.Common.{sym, ◌∙◌, subst, inl, inr, arith}

@@ -1,5 +1,5 @@
 -- A join that is finished has laid the arcs of the moves from its joined states, and no others, between the places of
--- its table: its events are those of the moves from all its states (construction/Expanding.antt).
+-- its table: its events are those of the moves from all its states (Construction/Expanding.antt).
 use Rattle.std.specs.Prelude.{◌≡◌, length, get_or}
 use Rattle.std.proofs.Math.Path.{refl, ap}
 use Rattle.std.proofs.Common.{sym, ◌∙◌, subst, inl, inr}

@@ -165,9 +165,9 @@ module _ (header : Header) (nodes classes roots plains : List ℕ)
   leaves_in number state h k =
       let c = chosen number h in
       let leaves : List ℕ = (numbered found number).leaves in
-      let (listed, is_IsLeaf) =
+      let (listed, is-leaf) =
       c.each_leaf (leaves ! state) (in-at leaves state 0 (omega (arith, c.count))) in
-      (omega (arith, listed, tree-nodes-length header nodes), is_IsLeaf)
+      (omega (arith, listed, tree-nodes-length header nodes), is-leaf)
 
   pub combinations-modelled : Modelled header nodes words
   combinations-modelled =

@@ -1,6 +1,6 @@
 -- Accepted books are sound. What a line that passed its tests says of its node, its root or its class's
 -- member is kept by every further line, so it holds of all nodes, roots and members of the book.
--- What the lines say of nodes and roots (laws/books/ByLines.antt) and the whole of demand 3 stand on it.
+-- What the lines say of nodes and roots (Laws/Books/ByLines.antt) and the whole of demand 3 stand on it.
 use Rattle.std.specs.Prelude.{◌≡◌, List, [], ◌∷◌, ◌++◌, Bool, ◌&&◌, ℕ, zero, suc, ◌+◌, ◌*◌, ◌≤◌, ◌<◌, leb, ltb, T, length, get_or}
 use Rattle.std.proofs.Common.{sym, subst, leb→le, ltb→lt, eqb→eq, inl, inr}
 use native.Mathlib.Omega.{arith}

@@ -1,6 +1,6 @@
 -- What the lines of an accepted book say of a node is what the book's tables hold.
 -- Lines come in the order of their numbers, so the first line with a number is the one at that place.
--- The walk by lines (laws/trees/WalkByLines.antt) reaches its model by these.
+-- The walk by lines (Laws/Trees/WalkByLines.antt) reaches its model by these.
 use Rattle.std.specs.Prelude.{◌≡◌, List, [], ◌∷◌, ◌++◌, Bool, ℕ, zero, suc, ◌+◌, ◌<◌, T, get_or}
 use Rattle.std.proofs.Common.{sym, arith, eqb→eq, eq-eqb, ne_eqb}
 use Rattle.std.proofs.Math.Path.{ap}

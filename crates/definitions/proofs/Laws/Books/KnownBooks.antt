@@ -60,7 +60,7 @@ known-record : (header : Header) (at : ℕ) (node : Node) → T (question_known 
 unfolding tree_node node_words
 known-record header at node h =
     ⊎_elim (λ (is-question, fits). rw is-question (fits, refl))
-    (λ (is_IsLeaf, model, position, yes_node, no_node). rw (is_IsLeaf, position, yes_node, no_node) (model, refl))
+    (λ (is-leaf, model, position, yes_node, no_node). rw (is-leaf, position, yes_node, no_node) (model, refl))
     ((record-exactly header at node).0 h)
 
 -- so all nodes fit

@@ -86,9 +86,9 @@ leaf-exactly node =
             eqb→eq node.yes 0 fifth,
             eqb→eq node.no 0 sixth,
           ),
-      λ (is_IsLeaf, model, position, yes_node, no_node).
+      λ (is-leaf, model, position, yes_node, no_node).
           rw (
-            eq-eqb node.kind 2 is_IsLeaf,
+            eq-eqb node.kind 2 is-leaf,
             le-leb 1 node.value model.low,
             le-leb node.value 65535 model.high,
             eq-eqb node.position 0 position,

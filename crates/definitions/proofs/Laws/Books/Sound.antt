@@ -1,5 +1,5 @@
 -- Sound books, what demand 3 asks of a book: its counts, and trees whose questions and leaves are in range and
--- whose children are greater nodes of the book. Accepted books are sound (laws/books/Accepted.antt).
+-- whose children are greater nodes of the book. Accepted books are sound (Laws/Books/Accepted.antt).
 use Rattle.std.specs.Prelude.{◌≡◌, List, ℕ, ◌+◌, ◌≤◌, ◌<◌, T, length}
 use Rattle.definitions.specs.Lists.{every}
 use Rattle.definitions.specs.BookLines.{is_phone, question, leaf, Asked}

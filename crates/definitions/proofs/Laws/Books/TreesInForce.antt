@@ -1,6 +1,6 @@
 -- The trees in force of an accepted book: each phone's have all their roots, and by lines they are those that the tables
 -- hold. A plain phone is no boundary phone (21), so no R line of it is left out. Soundness of accepted books and the walk
--- by lines, in laws/trees/WalkByLines, rest on it.
+-- by lines, in Laws/Trees/WalkByLines, rest on it.
 use Rattle.std.specs.Prelude.{◌≡◌, ◌≢◌, List, true, false, not, ◌&&◌, leb}
 use Rattle.std.proofs.Math.Path.{refl, sym, ap, subst}
 use Rattle.std.proofs.Common.{◌∙◌, inl, inr, arith, le→leb, ne_eqb}

@@ -1,5 +1,5 @@
 -- Laws about how often a number stands in a list: where each counts at most once, no element stands twice.
--- laws/books/NamedOnce reads "named exactly once" by them.
+-- Laws/Books/NamedOnce reads "named exactly once" by them.
 use Rattle.std.specs.Prelude.{◌≡◌, refl, List, [], ◌∷◌, ◌++◌, Bool, true, false, ℕ, zero, suc, ◌+◌, ◌≤◌, ◌<◌, eqb, length, set, replicate}
 use Rattle.std.proofs.Common.{ap, inl, inr, arith, eqb-true}
 use Rattle.std.proofs.lemmas.Bool.{eqb-false}

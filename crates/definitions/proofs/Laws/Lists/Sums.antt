@@ -1,6 +1,6 @@
 -- Laws about sums over lists. A sum over names that are all below a bound is the sum over all numbers
 -- below it, each counted as often as it is named. So where each is named once, both sums are the same.
--- spelling/TreeSizes counts the nodes of trees by them, without telling which node stands where.
+-- Spelling/TreeSizes counts the nodes of trees by them, without telling which node stands where.
 use Rattle.std.specs.Prelude.{◌≡◌, List, [], ◌∷◌, ◌++◌, map, eqb, length}
 use Rattle.std.proofs.Math.Path.{refl}
 use Rattle.std.proofs.Common.{sym, ap, ap₂, ◌∙◌, inl, inr, mul-suc, arith}

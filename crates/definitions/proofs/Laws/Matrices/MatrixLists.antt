@@ -1,5 +1,5 @@
 -- Laws about lists of matrices: their members, their order, how many they are; lists with the same valid members have
--- one normal form. The laws about what lists admit (demand/) and the crate `lists` use them.
+-- one normal form. The laws about what lists admit (Demand/) and the crate `lists` use them.
 use Rattle.std.specs.Prelude.{◌≡◌, refl, ◌⊎◌, ◌↔◌, List, [], ◌∷◌, ◌++◌, Bool, true, false, suc, ◌≤◌, T, length}
 use Rattle.std.proofs.Common.{sym, ap, ap₂, ◌∙◌, subst, inl, inr, ⊎_elim, arith}
 use Rattle.definitions.specs.Lists.{if◌then◌else◌, same, precedes, IsIn}

@@ -1,6 +1,6 @@
 -- Laws about adding to a table and its arcs within their room: 31 where there is no room for a new element,
 -- whatever room there is for arcs, 32 where there is none for an arc; and what an addition that is answered
--- leaves. construction/Performing and Turns use them.
+-- leaves. Construction/Performing and Turns use them.
 use Rattle.std.specs.Prelude.{◌≡◌, [], ◌∷◌, ◌++◌, ◌≤◌, ◌<◌, ltb, length}
 use Rattle.std.proofs.Common.{sym, ◌∙◌, subst, ltb→lt, le-ltb}
 use Rattle.std.proofs.Math.Path.{ap}

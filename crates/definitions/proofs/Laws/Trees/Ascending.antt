@@ -194,7 +194,7 @@ key-injective book forward once i j h k e = omega (arith, never i j k e, never j
         precedes-irreflexive (key_at book b)
         (subst (λ x. T (precedes x (key_at book b))) q (combinations-ascend book forward once a b less l))
 
--- so it is for every accepted book; the build's tables hold that book (`accepted-book` in laws/books/Books)
+-- so it is for every accepted book; the build's tables hold that book (`accepted-book` in Laws/Books/Books)
 pub accepted-ascend : (lent : Lent) (text : List ℕ) (lines : List BookLine)
     → read_book lent text ≡ answered lines
     → (i j : ℕ) → i < j → j < length (combinations (book_of lines))

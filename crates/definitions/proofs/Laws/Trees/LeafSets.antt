@@ -1,7 +1,7 @@
 -- Demand 2's leaf sets: the matrix of a leaf is the set of the contexts with which the walk reaches the leaf. A
 -- leaf admits a context when each column of its matrix has the phone in its place (`leaf_admits`); the walk is the
 -- one that the code promises (`leaf_reached`, and of known tables `leaf_lookup_in_table`). The idea: of a tree's
--- leaves one admits a context, the one that the walk reaches (demand/Trees.antt), and no node is listed twice.
+-- leaves one admits a context, the one that the walk reaches (Demand/Trees.antt), and no node is listed twice.
 -- The width is a variable throughout.
 use Rattle.std.specs.Prelude.{◌≡◌, ◌↔◌, not, ◌&&◌, T, leb, ltb, length, take, drop}
 use Rattle.std.proofs.Math.Path.{refl, sym, ap}
