@@ -1,7 +1,7 @@
 -- What becomes of one line, and what is judged after the last, by the state of the code.
-use Rattle.std.specs.Prelude.{List, map, Bool, ℕ, ◌+◌, ltb, take}
+use Rattle.std.specs.Prelude.{if◌then◌else◌, List, map, Bool, ℕ, ◌+◌, ltb, take}
 use Rattle.definitions.specs.declared.Fault.TheVariants.{Orphan, Count, Chained}
-use Rattle.definitions.specs.Lists.{if◌then◌else◌, at_least_one}
+use Rattle.definitions.specs.Lists.{at_least_one}
 use Rattle.definitions.specs.Lines.{lines_of}
 use Rattle.definitions.specs.Forms.{book_forms}
 use Rattle.definitions.specs.PhoneSets.{has}

@@ -1,6 +1,6 @@
 -- Lines written one after the other into a text, each where there is room for it, and counted in any case.
-use Rattle.std.specs.Prelude.{◌≡◌, List, [], ◌∷◌, Bool, ◌&&◌, ℕ, suc, ◌+◌, ◌*◌, ◌≤◌, leb, ltb, length}
-use Rattle.definitions.specs.Lists.{if◌then◌else◌, every}
+use Rattle.std.specs.Prelude.{if◌then◌else◌, ◌≡◌, List, [], ◌∷◌, Bool, ◌&&◌, ℕ, suc, ◌+◌, ◌*◌, ◌≤◌, leb, ltb, length}
+use Rattle.definitions.specs.Lists.{every}
 use Rattle.definitions.specs.Lines.{Line, line_text}
 use Rattle.lines.specs.Putting.{put_at}
 

@@ -1,10 +1,10 @@
 -- Document 01, "Tree book", its table, with the B lines of document 02, P2: the lines of a book, and what
 -- they say together.
-use Rattle.std.specs.Prelude.{List, [], ◌∷◌, map, ℕ, suc, ◌+◌, ◌-◌, ◌*◌, ◌/◌, ◌%◌, leb, eqb, Bool, ◌&&◌}
+use Rattle.std.specs.Prelude.{if◌then◌else◌, List, [], ◌∷◌, map, ℕ, suc, ◌+◌, ◌-◌, ◌*◌, ◌/◌, ◌%◌, leb, eqb, Bool, ◌&&◌}
 use Prim.Native.Char.{code}
 use Rattle.std.proofs.Math.Option.{Option, none, some}
 use Rattle.definitions.specs.declared.Header.{Header}
-use Rattle.definitions.specs.Lists.{if◌then◌else◌, ◌!◌, concat_map, at_least_one, first_where, map_option, up_from}
+use Rattle.definitions.specs.Lists.{◌!◌, concat_map, at_least_one, first_where, map_option, up_from}
 use Rattle.definitions.specs.Lines.{Line}
 
 -- the six letters with the fields that the table names; "A `B` line names a boundary phone .. and its plain

@@ -1,7 +1,7 @@
 -- Document 01, "Tree book", with the B lines of document 02, P2: the order and the counts that the lines of a
 -- book must keep, and reading a book.
-use Rattle.std.specs.Prelude.{List, [], ◌∷◌, ◌++◌, Bool, true, not, ◌&&◌, ◌||◌, ℕ, suc, ◌+◌, ◌-◌, ◌*◌, ◌/◌, ◌%◌, leb, ltb, eqb, length}
-use Rattle.definitions.specs.Lists.{Distinct, if◌then◌else◌, at_least_one, select, last_passes, concat_map, up_from}
+use Rattle.std.specs.Prelude.{if◌then◌else◌, List, [], ◌∷◌, ◌++◌, Bool, true, not, ◌&&◌, ◌||◌, ℕ, suc, ◌+◌, ◌-◌, ◌*◌, ◌/◌, ◌%◌, leb, ltb, eqb, length}
+use Rattle.definitions.specs.Lists.{Distinct, at_least_one, select, last_passes, concat_map, up_from}
 use Rattle.definitions.specs.Lists.{occurrences, every}
 use Rattle.definitions.specs.declared.Header.{Header}
 use Rattle.definitions.specs.declared.Fault.TheVariants.{Backward, Orphan, Narrow, Chained}

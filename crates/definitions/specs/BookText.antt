@@ -1,10 +1,10 @@
 -- Document 02, P1 with P2's B lines: a writer of tree books. The lines that state a header with nodes, sets, boundary
 -- phones and roots, and their text. The plain form is written by it; and since what is written so is read again
 -- (proofs/Laws/Books/BookTexts.antt), 18 refuses nothing else than what reading never leaves.
-use Rattle.std.specs.Prelude.{List, [], ◌∷◌, ◌++◌, map, ℕ, suc, ◌+◌, ◌/◌, ◌%◌, eqb}
+use Rattle.std.specs.Prelude.{if◌then◌else◌, List, [], ◌∷◌, ◌++◌, map, ℕ, suc, ◌+◌, ◌/◌, ◌%◌, eqb}
 use Prim.Native.Char.{code}
 use Rattle.definitions.specs.declared.Header.{Header}
-use Rattle.definitions.specs.Lists.{if◌then◌else◌, select, concat_map, up_from}
+use Rattle.definitions.specs.Lists.{select, concat_map, up_from}
 use Rattle.definitions.specs.Lines.{Line, line_text}
 use Rattle.definitions.specs.PhoneSets.{has}
 use Rattle.definitions.specs.BookLines.{BookLine, H, Q, N, L, B, R, Member, TreeNode, question, leaf}

@@ -1,10 +1,10 @@
 -- Document 01, "Matrices and metastates": the leaves of a tree with their matrices, and the valid
 -- combinations of leaves.
-use Rattle.std.specs.Prelude.{List, [], ◌∷◌, ◌++◌, map, Bool, ℕ, zero, suc, ◌+◌, ◌-◌, ◌/◌, min, leb, ltb, length}
+use Rattle.std.specs.Prelude.{if◌then◌else◌, List, [], ◌∷◌, ◌++◌, map, Bool, ℕ, zero, suc, ◌+◌, ◌-◌, ◌/◌, min, leb, ltb, length}
 use Rattle.definitions.specs.declared.Header.{Header}
 use Rattle.definitions.specs.declared.Fault.TheVariants.{Foreign, Choices}
 use Rattle.definitions.specs.Faults.{Outcome, answered, refused, judge, ◌unless◌}
-use Rattle.definitions.specs.Lists.{if◌then◌else◌, ◌!◌, concat_map, up_from, cleared, padded}
+use Rattle.definitions.specs.Lists.{◌!◌, concat_map, up_from, cleared, padded}
 use Rattle.definitions.specs.Matrices.{Matrix, matrix_size, matrix_record, root_matrix, yes_side, no_side}
 use Rattle.definitions.specs.Matrices.{valid, meet}
 use Rattle.definitions.specs.BookLines.{question, leaf, Asked}

@@ -1,10 +1,10 @@
 -- Document 01, "Connecting": the network, built by turns from the combinations of a book. Rules say which
 -- metastates start, follow and end, and what their arcs carry; the network is grown by them (Growing.antt), and
 -- a book with its combinations gives the rules.
-use Rattle.std.specs.Prelude.{List, [], ◌∷◌, ◌++◌, map, Bool, ℕ, suc, drop}
+use Rattle.std.specs.Prelude.{if◌then◌else◌, List, [], ◌∷◌, ◌++◌, map, Bool, ℕ, suc, drop}
 use Rattle.definitions.specs.Growing.{Grown, Event, plain, enter, Machine, Room, Done, grow}
 use Rattle.definitions.specs.Faults.{Outcome, Test}
-use Rattle.definitions.specs.Lists.{if◌then◌else◌, ◌!◌, place_of}
+use Rattle.definitions.specs.Lists.{◌!◌, place_of}
 use Rattle.definitions.specs.Tables.{Book}
 use Rattle.definitions.specs.Combinations.{Combination}
 use Rattle.definitions.specs.Arcs.{Arc, arc, INITIAL, FINAL, first_state, last_state}

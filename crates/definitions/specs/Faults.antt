@@ -1,6 +1,6 @@
 -- Document 01, "Fault numbers", with 21 and 51 of document 02: each fault's number, and how tests in a fixed order
 -- give an answer or a refusal.
-use Rattle.std.specs.Prelude.{List, [], ◌∷◌, Bool, ℕ}
+use Rattle.std.specs.Prelude.{if◌then◌else◌, List, [], ◌∷◌, Bool, ℕ}
 use Rattle.definitions.specs.declared.Fault.{Fault}
 use Rattle.definitions.specs.declared.Fault.TheVariants.{Ragged, Misprint, Range, Order, Backward}
 use Rattle.definitions.specs.declared.Fault.TheVariants.{Orphan, Count}
@@ -8,7 +8,7 @@ use Rattle.definitions.specs.declared.Fault.TheVariants.{Foreign, Narrow, Chaine
 use Rattle.definitions.specs.declared.Fault.TheVariants.{Tangle, Short}
 use Rattle.definitions.specs.declared.Fault.TheVariants.{Utterance, State, Vocabulary}
 use Rattle.definitions.specs.declared.Refusal.{Refusal}
-use Rattle.definitions.specs.Lists.{if◌then◌else◌, cleared, padded}
+use Rattle.definitions.specs.Lists.{cleared, padded}
 
 -- the table of document 01, "Number 21 refuses a plain phone that is itself a boundary phone in the book", and "51,
 -- with line 0, refuses more words than the lent table holds"

@@ -3,11 +3,10 @@
 -- are two types: what is entered is judged, gives its arc, and tells the element that is stored. So one
 -- construction, and one proof of it (proofs/Construction/), serves every network that is built this way: document
 -- 01's in Connecting.antt, and the joined one of document 02 in Joining.antt.
-use Rattle.std.specs.Prelude.{List, [], ◌∷◌, ◌++◌, Bool, true, false, ℕ, zero, suc, ltb, length, get_or}
+use Rattle.std.specs.Prelude.{if◌then◌else◌, List, [], ◌∷◌, ◌++◌, Bool, true, false, ℕ, zero, suc, ltb, length, get_or}
 use Rattle.std.proofs.Math.Option.{Option, none, some}
 use Rattle.definitions.specs.declared.Fault.TheVariants.{Crowd, Tangle}
 use Rattle.definitions.specs.Faults.{Outcome, answered, refuse, Test, judge, and_then}
-use Rattle.definitions.specs.Lists.{if◌then◌else◌}
 use Rattle.definitions.specs.Arcs.{Arc}
 
 -- ---- a table, and what is asked of it

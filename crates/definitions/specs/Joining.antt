@@ -1,10 +1,10 @@
 -- Document 02, P4: a network joined with the words of a word book. "Join it with a finished network into arcs
 -- (from, to, model, word), a word standing on its first phone's arc, else 0."
-use Rattle.std.specs.Prelude.{List, [], ◌∷◌, ◌++◌, map, Bool, ◌&&◌, ◌||◌, not, ℕ, suc, ◌-◌, ◌/◌, min, leb, eqb, length, get_or}
+use Rattle.std.specs.Prelude.{if◌then◌else◌, List, [], ◌∷◌, ◌++◌, map, Bool, ◌&&◌, ◌||◌, not, ℕ, suc, ◌-◌, ◌/◌, min, leb, eqb, length, get_or}
 use Rattle.definitions.specs.declared.Counts.{Counts}
 use Rattle.definitions.specs.declared.Fault.TheVariants.{Foreign, Crowd}
 use Rattle.definitions.specs.Faults.{Outcome, answered, refused, ◌unless◌, judge, and_then}
-use Rattle.definitions.specs.Lists.{if◌then◌else◌, ◌!◌, select, concat_map, up_from, cleared, padded}
+use Rattle.definitions.specs.Lists.{◌!◌, select, concat_map, up_from, cleared, padded}
 use Rattle.definitions.specs.Arcs.{Arc, arc, INITIAL, FINAL, arc_size, arc_words, arcs_in}
 use Rattle.definitions.specs.Growing.{Grown, Machine, enter, Room, grown_in, grow}
 use Rattle.definitions.specs.Building.{most_arcs}

@@ -1,9 +1,9 @@
 -- Document 01, "Tree book", its first paragraph: the line of 32 bytes, read by the table of its letter, and
 -- written.
-use Rattle.std.specs.Prelude.{List, [], ◌∷◌, ◌++◌, map, Bool, true, false, ◌&&◌, ℕ, ◌-◌, ◌*◌, ◌/◌, ◌%◌, leb, ltb, eqb, length, drop, replicate}
+use Rattle.std.specs.Prelude.{if◌then◌else◌, List, [], ◌∷◌, ◌++◌, map, Bool, true, false, ◌&&◌, ℕ, ◌-◌, ◌*◌, ◌/◌, ◌%◌, leb, ltb, eqb, length, drop, replicate}
 use Rattle.std.proofs.Math.Option.{Option, none, some}
 use Prim.Native.Char.{code}
-use Rattle.definitions.specs.Lists.{if◌then◌else◌, ◌!◌, every, concat_map, records}
+use Rattle.definitions.specs.Lists.{◌!◌, every, concat_map, records}
 use Rattle.definitions.specs.Numerals.{is_numeral, value_of, numeral}
 use Rattle.definitions.specs.Forms.{Range, Form}
 

@@ -1,10 +1,10 @@
 -- Document 01, "Tree book", the second entry: the leaf that a context reaches from a root, over node records.
-use Rattle.std.specs.Prelude.{List, [], ◌∷◌, map, Bool, ◌&&◌, ℕ, zero, suc, ◌+◌, ◌-◌, ◌*◌, ltb, eqb, length, get_or}
+use Rattle.std.specs.Prelude.{if◌then◌else◌, List, [], ◌∷◌, map, Bool, ◌&&◌, ℕ, zero, suc, ◌+◌, ◌-◌, ◌*◌, ltb, eqb, length, get_or}
 use Rattle.definitions.specs.declared.Header.{Header}
 use Rattle.definitions.specs.declared.Node.{Node}
 use Rattle.definitions.specs.declared.Fault.TheVariants.{Foreign, Range}
 use Rattle.definitions.specs.Faults.{Outcome, answered, judge, ◌unless◌}
-use Rattle.definitions.specs.Lists.{if◌then◌else◌, ◌!◌, every}
+use Rattle.definitions.specs.Lists.{◌!◌, every}
 use Rattle.definitions.specs.PhoneSets.{has}
 use Rattle.definitions.specs.BookLines.{is_phone, TreeNode, question, leaf, Asked, Reached, at_leaf, past_question}
 use Rattle.definitions.specs.BookReading.{node_size}

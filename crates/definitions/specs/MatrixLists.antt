@@ -1,8 +1,8 @@
 -- Document 02, P6: lists of matrices. "Leaves, combinations and metastates then carry a list of up to eight valid
 -- matrices without repeats, ascending by columns as numbers". Here a list may be of any length; where it is judged,
 -- more than eight are too many.
-use Rattle.std.specs.Prelude.{List, [], ◌∷◌, map, Bool, true, false, ◌&&◌, ℕ, ◌+◌, ◌-◌, ◌*◌, leb, length}
-use Rattle.definitions.specs.Lists.{if◌then◌else◌, ◌!◌, at_least_one, concat_map, same, precedes, padded}
+use Rattle.std.specs.Prelude.{if◌then◌else◌, List, [], ◌∷◌, map, Bool, true, false, ◌&&◌, ℕ, ◌+◌, ◌-◌, ◌*◌, leb, length}
+use Rattle.definitions.specs.Lists.{◌!◌, at_least_one, concat_map, same, precedes, padded}
 use Rattle.definitions.specs.BookLines.{Part}
 use Rattle.definitions.specs.Matrices.{Matrix, matrix_size, matrix_record, root_matrix, yes_side, no_side, valid}
 use Rattle.definitions.specs.Matrices.{meet, shift, start_cut, ends_here}

@@ -1,7 +1,7 @@
 -- Document 02, P3: the meeting of two matrices, which ends where it has become hopeless.
-use Rattle.std.specs.Prelude.{List, [], ◌∷◌, ℕ, suc, eqb}
+use Rattle.std.specs.Prelude.{if◌then◌else◌, List, [], ◌∷◌, ℕ, suc, eqb}
 use Rattle.std.specs.Int.Bits.{bit_and}
-use Rattle.definitions.specs.Lists.{if◌then◌else◌, cleared}
+use Rattle.definitions.specs.Lists.{cleared}
 use Rattle.definitions.specs.Matrices.{Matrix, most_columns, matrix_words, valid, meet}
 
 -- "the meeting of two matrices should go from column 0 up and end at the first empty column. It also gives how

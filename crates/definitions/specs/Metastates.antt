@@ -1,7 +1,7 @@
 -- Document 01, "Matrices and metastates" and "Connecting": metastates, which of them start, follow one
 -- another and end.
-use Rattle.std.specs.Prelude.{List, [], ◌∷◌, map, Bool, ◌&&◌, ℕ, suc, ◌+◌, eqb, get_or}
-use Rattle.definitions.specs.Lists.{if◌then◌else◌, same}
+use Rattle.std.specs.Prelude.{if◌then◌else◌, List, [], ◌∷◌, map, Bool, ◌&&◌, ℕ, suc, ◌+◌, eqb, get_or}
+use Rattle.definitions.specs.Lists.{same}
 use Rattle.definitions.specs.Matrices.{Matrix, matrix_size, matrix_record, valid, meet, shift, start_cut}
 use Rattle.definitions.specs.Matrices.{ends_here}
 use Rattle.definitions.specs.Tables.{Book}

@@ -1,10 +1,10 @@
 -- Document 01, "Connecting": network text out and in, and what each leaves in its buffer.
-use Rattle.std.specs.Prelude.{◌≡◌, List, [], ◌∷◌, ◌++◌, Bool, true, ◌&&◌, ℕ, ◌+◌, ◌*◌, leb, ltb, eqb, length}
+use Rattle.std.specs.Prelude.{if◌then◌else◌, ◌≡◌, List, [], ◌∷◌, ◌++◌, Bool, true, ◌&&◌, ℕ, ◌+◌, ◌*◌, leb, ltb, eqb, length}
 use Prim.Native.Char.{code}
 use Rattle.definitions.specs.declared.Counts.{Counts}
 use Rattle.definitions.specs.declared.Fault.TheVariants.{Foreign, Narrow, Short}
 use Rattle.definitions.specs.Faults.{Outcome, answered, refused, Test, ◌unless◌, judge}
-use Rattle.definitions.specs.Lists.{if◌then◌else◌, ◌!◌, every, last_passes, concat_map, cleared, padded}
+use Rattle.definitions.specs.Lists.{◌!◌, every, last_passes, concat_map, cleared, padded}
 use Rattle.definitions.specs.Lines.{Line, line_text, in_ranges}
 use Rattle.definitions.specs.Forms.{form_w, form_a, network_forms}
 use Rattle.definitions.specs.Reading.{Kind, read_text}

@@ -1,12 +1,12 @@
 -- Document 02, P1, "One spelling of a book": "Colleges swap books by mail, and the same trees arrive numbered in many
 -- ways. We want a writer of the plain form." A book is taken apart into its trees, which have no numbers of nodes and
 -- classes, and these are numbered anew. What the form promises is stated in proofs/Spelling/OneSpelling.antt.
-use Rattle.std.specs.Prelude.{◌≡◌, List, [], ◌∷◌, ◌++◌, map, ℕ, zero, suc, ◌+◌, ◌-◌, leb, eqb, length}
+use Rattle.std.specs.Prelude.{if◌then◌else◌, ◌≡◌, List, [], ◌∷◌, ◌++◌, map, ℕ, zero, suc, ◌+◌, ◌-◌, leb, eqb, length}
 use Rattle.std.proofs.Math.Option.{Option, none, some}
 use Rattle.definitions.specs.declared.Header.{Header}
 use Rattle.definitions.specs.declared.Fault.TheVariants.{Foreign, Short}
 use Rattle.definitions.specs.Faults.{Outcome, answered, ◌unless◌, judge}
-use Rattle.definitions.specs.Lists.{if◌then◌else◌, ◌!◌, at_least_one, concat_map, place_of}
+use Rattle.definitions.specs.Lists.{◌!◌, at_least_one, concat_map, place_of}
 use Rattle.definitions.specs.BookLines.{BookLine, TreeNode, question, leaf, Asked, asks, no_root}
 use Rattle.definitions.specs.Tables.{Contents, Tables, tables_contents}
 use Rattle.definitions.specs.ForeignTables.{tables_known}

@@ -1,8 +1,8 @@
 -- Document 02, P5: how many questions the trees put to a sequence of phones, read from the book's lines alone, as what
 -- they give is read in TreesGive.antt. A question is an N line that a walk meets.
-use Rattle.std.specs.Prelude.{List, map, ℕ}
+use Rattle.std.specs.Prelude.{if◌then◌else◌, List, map, ℕ}
 use Rattle.std.proofs.Math.Option.{Option, none}
-use Rattle.definitions.specs.Lists.{if◌then◌else◌, every, map_option, concat_map, up_from, sum_of}
+use Rattle.definitions.specs.Lists.{every, map_option, concat_map, up_from, sum_of}
 use Rattle.definitions.specs.BookLines.{BookLine, header_of, is_phone}
 use Rattle.definitions.specs.TreesGive.{contexts, reached_by_lines, together}
 

@@ -1,10 +1,10 @@
 -- Document 01, "Tree book", and document 02, P2: the tables that reading leaves, and the book read back out
 -- of them, in which each phone has its trees in force.
-use Rattle.std.specs.Prelude.{List, [], ◌∷◌, map, ℕ, ◌+◌, ◌-◌, ◌*◌, ◌/◌, ◌%◌, eqb, length, take}
+use Rattle.std.specs.Prelude.{if◌then◌else◌, List, [], ◌∷◌, map, ℕ, ◌+◌, ◌-◌, ◌*◌, ◌/◌, ◌%◌, eqb, length, take}
 use Rattle.definitions.specs.declared.Header.{Header}
 use Rattle.definitions.specs.declared.Node.{Node}
 use Rattle.definitions.specs.Faults.{Outcome, answered, refused}
-use Rattle.definitions.specs.Lists.{if◌then◌else◌, ◌!◌, select, concat_map, up_from, records, cleared, padded}
+use Rattle.definitions.specs.Lists.{◌!◌, select, concat_map, up_from, records, cleared, padded}
 use Rattle.definitions.specs.PhoneSets.{set_of}
 use Rattle.definitions.specs.BookLines.{BookLine, header_of, root_count, Member, members_of, TreeNode, question}
 use Rattle.definitions.specs.BookLines.{leaf, nodes_of, roots_of, Asked, asks, root_words, root_place, boundaries_of}

@@ -1,9 +1,9 @@
 -- Document 01, "Transcription", with the trees in force of document 02, P2: what the trees give to a sequence
 -- of phones, read from the book's lines alone. Nothing here knows of tables or matrices: it is the meaning
 -- that demand 3 holds the network to.
-use Rattle.std.specs.Prelude.{◌≡◌, List, [], ◌∷◌, ◌++◌, map, Bool, ◌&&◌, ℕ, zero, suc, ◌+◌, ◌-◌, ◌*◌, T, eqb, length, take, drop, replicate}
+use Rattle.std.specs.Prelude.{if◌then◌else◌, ◌≡◌, List, [], ◌∷◌, ◌++◌, map, Bool, ◌&&◌, ℕ, zero, suc, ◌+◌, ◌-◌, ◌*◌, T, eqb, length, take, drop, replicate}
 use Rattle.std.proofs.Math.Option.{Option, none, some}
-use Rattle.definitions.specs.Lists.{if◌then◌else◌, ◌!◌, every, at_least_one, first_where, map_option, concat_map}
+use Rattle.definitions.specs.Lists.{◌!◌, every, at_least_one, first_where, map_option, concat_map}
 use Rattle.definitions.specs.Lists.{up_from}
 use Rattle.definitions.specs.BookLines.{BookLine, header_of, is_phone, members_of, TreeNode, question, leaf}
 use Rattle.definitions.specs.BookLines.{node_lines_of, Asked, Reached, at_leaf, past_question, roots_of, root_for}

@@ -1,8 +1,7 @@
 -- What a step of growing starts from, leaves and answers, by what the definition performs.
-use Rattle.std.specs.Prelude.{◌≡◌, List, ◌++◌, ℕ, ◌+◌, ◌*◌, ◌/◌, min, ltb, length, take, drop}
+use Rattle.std.specs.Prelude.{if◌then◌else◌, ◌≡◌, List, ◌++◌, ℕ, ◌+◌, ◌*◌, ◌/◌, min, ltb, length, take, drop}
 use Rattle.definitions.specs.declared.Fault.TheVariants.{Tangle}
 use Rattle.definitions.specs.Faults.{Outcome, answered, refused}
-use Rattle.definitions.specs.Lists.{if◌then◌else◌}
 use Rattle.definitions.specs.Arcs.{Arc, arc_size, arc_words}
 use Rattle.definitions.specs.Growing.{Grown, Room}
 use Rattle.definitions.specs.Building.{most_arcs}

@@ -1,6 +1,6 @@
 -- Leaves in lent words: a table with a record for each node, and lists of leaves ascending by node.
-use Rattle.std.specs.Prelude.{◌≡◌, List, [], ◌∷◌, ◌++◌, map, Bool, false, not, ℕ, ◌+◌, ◌*◌, ◌/◌, ◌≤◌, max, T, leb, eqb, length, take, drop}
-use Rattle.definitions.specs.Lists.{if◌then◌else◌, ◌!◌, concat_map, up_from, select, records}
+use Rattle.std.specs.Prelude.{if◌then◌else◌, ◌≡◌, List, [], ◌∷◌, ◌++◌, map, Bool, false, not, ℕ, ◌+◌, ◌*◌, ◌/◌, ◌≤◌, max, T, leb, eqb, length, take, drop}
+use Rattle.definitions.specs.Lists.{◌!◌, concat_map, up_from, select, records}
 use Rattle.definitions.specs.Matrices.{most_columns, matrix_words}
 use Rattle.definitions.specs.Tables.{Book}
 use Rattle.definitions.specs.Combinations.{Leaf, leaves_of}

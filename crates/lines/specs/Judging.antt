@@ -1,11 +1,10 @@
 -- What becomes of a line, in any kind of text: it passes its tests, or the first that fails gives its fault.
-use Rattle.std.specs.Prelude.{List, [], ◌∷◌, map, Bool, ℕ, ◌*◌, take, drop}
+use Rattle.std.specs.Prelude.{if◌then◌else◌, List, [], ◌∷◌, map, Bool, ℕ, ◌*◌, take, drop}
 use Rattle.std.proofs.Math.Option.{none, some}
 use Rattle.definitions.specs.declared.Fault.TheVariants.{Misprint, Count}
 use Rattle.definitions.specs.Faults.{Test}
 use Rattle.definitions.specs.Forms.{Form}
 use Rattle.definitions.specs.Lines.{Line, line_of, lines_of}
-use Rattle.definitions.specs.Lists.{if◌then◌else◌}
 use Rattle.definitions.specs.Reading.{Kind, line_tests}
 use Rattle.lines.specs.Rows.{line_in, parsed_of}
 use Rattle.lines.specs.declared.Verdict.{Verdict}

@@ -1,6 +1,5 @@
 -- The order of two matrices as the code answers it, and where a matrix belongs in a list.
-use Rattle.std.specs.Prelude.{◌≡◌, List, [], ◌∷◌, ◌++◌, ℕ, ◌≤◌, ltb, length, take, drop}
-use Rattle.definitions.specs.Lists.{if◌then◌else◌}
+use Rattle.std.specs.Prelude.{if◌then◌else◌, ◌≡◌, List, [], ◌∷◌, ◌++◌, ℕ, ◌≤◌, ltb, length, take, drop}
 use Rattle.definitions.specs.Matrices.{Matrix}
 use Rattle.definitions.specs.MatrixLists.{insert_matrix}
 use Rattle.lists.specs.declared.Order.{Order}

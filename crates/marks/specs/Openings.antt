@@ -1,6 +1,6 @@
 -- Words by their first phone.
-use Rattle.std.specs.Prelude.{◌≡◌, List, ℕ, zero, suc, ◌+◌, ◌-◌, ◌≤◌, T, eqb, length}
-use Rattle.definitions.specs.Lists.{if◌then◌else◌, ◌!◌}
+use Rattle.std.specs.Prelude.{if◌then◌else◌, ◌≡◌, List, ℕ, zero, suc, ◌+◌, ◌-◌, ◌≤◌, T, eqb, length}
+use Rattle.definitions.specs.Lists.{◌!◌}
 use Rattle.definitions.specs.Joining.{phones_in, is_word}
 
 module _ (words : List (List ℕ)) where

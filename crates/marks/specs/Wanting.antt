@@ -1,6 +1,5 @@
 -- What leads on from a mark.
-use Rattle.std.specs.Prelude.{◌≡◌, List, [], ◌∷◌, true, false, ℕ, ◌/◌, ◌≤◌, eqb, length}
-use Rattle.definitions.specs.Lists.{if◌then◌else◌}
+use Rattle.std.specs.Prelude.{if◌then◌else◌, ◌≡◌, List, [], ◌∷◌, true, false, ℕ, ◌/◌, ◌≤◌, eqb, length}
 use Rattle.definitions.specs.Joining.{Mark, ◌⊚◌, Step, step, steps}
 use Rattle.definitions.specs.WordBooks.{word_size}
 use Rattle.marks.specs.declared.Mark as declared

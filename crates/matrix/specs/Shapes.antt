@@ -1,6 +1,6 @@
 -- How wide a book's matrices are, matrices made anew, and the shift on the seven words of a matrix.
-use Rattle.std.specs.Prelude.{◌≡◌, List, ◌∷◌, ◌++◌, map, ℕ, suc, ◌+◌, ◌*◌, ltb, eqb, take, replicate}
-use Rattle.definitions.specs.Lists.{if◌then◌else◌, ◌!◌, up_from}
+use Rattle.std.specs.Prelude.{if◌then◌else◌, ◌≡◌, List, ◌∷◌, ◌++◌, map, ℕ, suc, ◌+◌, ◌*◌, ltb, eqb, take, replicate}
+use Rattle.definitions.specs.Lists.{◌!◌, up_from}
 use Rattle.definitions.specs.Matrices.{Matrix, most_columns, matrix_words}
 
 -- the columns of a book's matrices

@@ -1,6 +1,5 @@
 // Sets of phones as 64-bit words: phone p is the bit worth 2^(p−1).
-ghost use Rattle.std.specs.Prelude.{◌≡◌, min, leb};
-ghost use Rattle.definitions.specs.Lists.{if◌then◌else◌};
+ghost use Rattle.std.specs.Prelude.{if◌then◌else◌, ◌≡◌, min, leb};
 ghost use Rattle.definitions.specs.PhoneSets.{has, alone, all_phones};
 
 // All phones from 1 to a number, at most 64.

@@ -1,10 +1,10 @@
 -- What becomes of one line and what is judged after the last, by the state of the code; what the steps of
 -- reading can rely on, and what they leave in the lent arcs.
-use Rattle.std.specs.Prelude.{◌≡◌, List, ℕ, ◌+◌, length}
+use Rattle.std.specs.Prelude.{if◌then◌else◌, ◌≡◌, List, ℕ, ◌+◌, length}
 use Rattle.definitions.specs.declared.Fault.TheVariants.{Count}
 use Rattle.definitions.specs.Faults.{answered}
 use Rattle.definitions.specs.Forms.{network_forms}
-use Rattle.definitions.specs.Lists.{if◌then◌else◌, cleared}
+use Rattle.definitions.specs.Lists.{cleared}
 use Rattle.definitions.specs.NetworkText.{NetworkLine, network_line, network_kind, read_network, arcs_left}
 use Rattle.lines.specs.Judging.{verdict_by, line_taken}
 use Rattle.lines.specs.declared.Verdict.{Verdict}

@@ -1,7 +1,7 @@
 -- Trees numbered anew, by their words in a lent table.
-use Rattle.std.specs.Prelude.{◌≡◌, List, ℕ, ◌+◌, ◌*◌, ◌≤◌, eqb, length}
+use Rattle.std.specs.Prelude.{if◌then◌else◌, ◌≡◌, List, ℕ, ◌+◌, ◌*◌, ◌≤◌, eqb, length}
 use Rattle.definitions.specs.Forms.{most_nodes}
-use Rattle.definitions.specs.Lists.{if◌then◌else◌, concat_map}
+use Rattle.definitions.specs.Lists.{concat_map}
 use Rattle.definitions.specs.BookLines.{TreeNode, no_root}
 use Rattle.definitions.specs.BookReading.{node_size}
 use Rattle.definitions.specs.Tables.{node_words}

@@ -1,8 +1,7 @@
 -- Texts that stand one after the other, each below its title, a line that begins with '='.
 -- A text is given from the byte after that '=' on.
-use Rattle.std.specs.Prelude.{List, [], ◌∷◌, ℕ, suc, ◌+◌, eqb, take, drop}
+use Rattle.std.specs.Prelude.{if◌then◌else◌, List, [], ◌∷◌, ℕ, suc, ◌+◌, eqb, take, drop}
 use Rattle.std.proofs.Math.Seq.{slice}
-use Rattle.definitions.specs.Lists.{if◌then◌else◌}
 
 -- how many bytes come before the first that is `byte`, or all
 unfoldable pub place_of : (byte : ℕ) → List ℕ → ℕ

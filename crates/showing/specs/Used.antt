@@ -1,6 +1,5 @@
 -- The used part of a buffer.
-use Rattle.std.specs.Prelude.{List, [], ◌∷◌, ◌&&◌, ℕ, suc, eqb}
-use Rattle.definitions.specs.Lists.{if◌then◌else◌}
+use Rattle.std.specs.Prelude.{if◌then◌else◌, List, [], ◌∷◌, ◌&&◌, ℕ, suc, eqb}
 
 -- how many numbers come before the zeros at the end
 unfoldable pub used_of : List ℕ → ℕ

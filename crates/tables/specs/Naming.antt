@@ -1,6 +1,6 @@
 -- How often nodes are named: the counts that the code keeps, and the names that they count.
-use Rattle.std.specs.Prelude.{List, [], ◌∷◌, ◌++◌, map, ◌&&◌, ℕ, suc, ltb, eqb, length, set}
-use Rattle.definitions.specs.Lists.{if◌then◌else◌, ◌!◌, concat_map, up_from, occurrences}
+use Rattle.std.specs.Prelude.{if◌then◌else◌, List, [], ◌∷◌, ◌++◌, map, ◌&&◌, ℕ, suc, ltb, eqb, length, set}
+use Rattle.definitions.specs.Lists.{◌!◌, concat_map, up_from, occurrences}
 use Rattle.definitions.specs.BookLines.{TreeNode, children_of}
 
 -- the names that stand in nodes, as their children, and in roots

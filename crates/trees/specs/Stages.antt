@@ -1,10 +1,9 @@
 -- The stages of a lookup over node structs: each record is judged, then the walk goes from the root to its leaf.
-use Rattle.std.specs.Prelude.{List, [], Bool, true, false, ◌&&◌, ◌||◌, ℕ, ◌+◌, ltb, eqb, get_or}
+use Rattle.std.specs.Prelude.{if◌then◌else◌, List, [], Bool, true, false, ◌&&◌, ◌||◌, ℕ, ◌+◌, ltb, eqb, get_or}
 use Rattle.definitions.specs.declared.Header.{Header}
 use Rattle.definitions.specs.declared.Node.{Node}
 use Rattle.definitions.specs.declared.Fault.{Fault}
 use Rattle.definitions.specs.declared.Fault.TheVariants.{Foreign, Range}
-use Rattle.definitions.specs.Lists.{if◌then◌else◌}
 use Rattle.definitions.specs.Tables.{node_of, asked_of}
 use Rattle.definitions.specs.ForeignTables.{header_known, question_known, leaf_known, class_table_known}
 use Rattle.definitions.specs.Lookup.{answers, is_context}

@@ -1,8 +1,7 @@
 // The walk from a root to the leaf that a context reaches.
-ghost use Rattle.std.specs.Prelude.{map, ◌≡◌, ◌*◌, ◌<◌, T, drop};
+ghost use Rattle.std.specs.Prelude.{if◌then◌else◌, map, ◌≡◌, ◌*◌, ◌<◌, T, drop};
 ghost use Rattle.definitions.specs.BookReading.{node_size};
 ghost use Rattle.definitions.specs.ForeignTables.{nodes_known};
-ghost use Rattle.definitions.specs.Lists.{if◌then◌else◌};
 ghost use Rattle.definitions.specs.Lookup.{answers, reached};
 ghost use Rattle.definitions.specs.Tables.{node_of, node_records, tree_node, asked_of};
 ghost use Rattle.trees.specs.Answers.{walked_of};

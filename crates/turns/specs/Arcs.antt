@@ -1,8 +1,8 @@
 -- Up to three arcs as words, and the arcs that a turn adds before those to followers.
-use Rattle.std.specs.Prelude.{◌≡◌, List, ◌++◌, Bool, ℕ, ◌<◌, ◌+◌, ◌*◌, length, take, drop}
+use Rattle.std.specs.Prelude.{if◌then◌else◌, ◌≡◌, List, ◌++◌, Bool, ℕ, ◌<◌, ◌+◌, ◌*◌, length, take, drop}
 use Rattle.definitions.specs.declared.Header.{Header}
 use Rattle.definitions.specs.Connecting.{own_arcs, final_arcs}
-use Rattle.definitions.specs.Lists.{if◌then◌else◌, concat_map}
+use Rattle.definitions.specs.Lists.{concat_map}
 use Rattle.definitions.specs.Arcs.{Arc, arc_size, arc_words, first_state}
 use Rattle.definitions.specs.Metastates.{Metastate, models_of}
 use Rattle.index.specs.Combinations.{combinations_in, nodes_book, rules_in}

@@ -1,6 +1,6 @@
 -- What one more line leaves in the lent table, and what all lines so far left there.
-use Rattle.std.specs.Prelude.{List, ℕ, ◌+◌, ◌-◌, ◌*◌, ◌/◌, ltb, length, take, set}
-use Rattle.definitions.specs.Lists.{if◌then◌else◌, concat_map, padded}
+use Rattle.std.specs.Prelude.{if◌then◌else◌, List, ℕ, ◌+◌, ◌-◌, ◌*◌, ◌/◌, ltb, length, take, set}
+use Rattle.definitions.specs.Lists.{concat_map, padded}
 use Rattle.definitions.specs.WordBooks.{WordLine, words_of, word_size, word_words}
 
 -- a word's length and its last phone, put into its record, which so many others stand before

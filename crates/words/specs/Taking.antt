@@ -1,11 +1,11 @@
 -- What becomes of one line and what is judged after the last, by the last line; what the steps of reading leave in the
 -- lent table.
-use Rattle.std.specs.Prelude.{◌≡◌, List, [], ◌∷◌, false, ℕ, ◌/◌, leb, length}
+use Rattle.std.specs.Prelude.{if◌then◌else◌, ◌≡◌, List, [], ◌∷◌, false, ℕ, ◌/◌, leb, length}
 use Rattle.definitions.specs.declared.Fault.TheVariants.{Range, Order, Vocabulary}
 use Rattle.definitions.specs.Faults.{answered, Test, ◌unless◌}
 use Rattle.definitions.specs.Forms.{word_forms}
 use Rattle.definitions.specs.Lines.{Line, in_fixed_ranges}
-use Rattle.definitions.specs.Lists.{if◌then◌else◌, cleared}
+use Rattle.definitions.specs.Lists.{cleared}
 use Rattle.definitions.specs.WordBooks.{WordLine, word_line, comes_next, word_size, read_words, words_left}
 use Rattle.lines.specs.Judging.{verdict_by, taken_by}
 use Rattle.lines.specs.declared.Verdict.{Verdict}

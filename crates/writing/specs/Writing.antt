@@ -1,9 +1,9 @@
 -- What the functions that write a line leave: a row that fits a line, a buffer after it was written, and its parts, a
 -- number's bytes from the right, and five fields.
-use Rattle.std.specs.Prelude.{List, [], ◌∷◌, ◌++◌, Bool, ◌&&◌, ℕ, zero, suc, ◌+◌, ◌-◌, ◌*◌, ◌/◌, ◌%◌, eqb, leb, length, replicate, drop}
+use Rattle.std.specs.Prelude.{if◌then◌else◌, List, [], ◌∷◌, ◌++◌, Bool, ◌&&◌, ℕ, zero, suc, ◌+◌, ◌-◌, ◌*◌, ◌/◌, ◌%◌, eqb, leb, length, replicate, drop}
 use Prim.Native.Char.{code}
 use Rattle.definitions.specs.Forms.{most_number}
-use Rattle.definitions.specs.Lists.{if◌then◌else◌, concat_map, every}
+use Rattle.definitions.specs.Lists.{concat_map, every}
 use Rattle.definitions.specs.Lines.{space, field_text, line_text}
 use Rattle.lines.specs.declared.Row.{Row}
 use Rattle.lines.specs.Rows.{line_in}

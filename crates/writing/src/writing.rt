@@ -1,8 +1,7 @@
 // A line written: its letter, its numbers right-justified, spaces in the other fields, a line feed.
-ghost use Rattle.std.specs.Prelude.{◌≡◌, true, ◌&&◌, ◌*◌, ◌≤◌, ◌<◌, leb, length, take, drop, replicate};
+ghost use Rattle.std.specs.Prelude.{if◌then◌else◌, ◌≡◌, true, ◌&&◌, ◌*◌, ◌≤◌, ◌<◌, leb, length, take, drop, replicate};
 ghost use Rattle.definitions.specs.Forms.{most_number};
 ghost use Rattle.definitions.specs.Lines.{space, field_text};
-ghost use Rattle.definitions.specs.Lists.{if◌then◌else◌};
 ghost use Rattle.lines.specs.Rows.{line_in};
 ghost use Rattle.writing.specs.Writing.{writable, written, digit_byte, last_byte, fields_text};
 

@@ -1,11 +1,11 @@
 -- Laws about what follows the last line: the state and the counts of names give the answer of documents 01 and 02.
 -- The idea: a plain phone that is a boundary phone is one that both sets have; the first count that is not 1 is that
 -- of the first orphan; and the line of either is the first of the text that says so.
-use Rattle.std.specs.Prelude.{◌≡◌, refl, List, [], ◌∷◌, ◌++◌, map, Bool, not, ◌||◌, ℕ, suc, ◌≤◌, ◌<◌, ltb, length, take}
+use Rattle.std.specs.Prelude.{if◌then◌else◌, ◌≡◌, refl, List, [], ◌∷◌, ◌++◌, map, Bool, not, ◌||◌, ℕ, suc, ◌≤◌, ◌<◌, ltb, length, take}
 use Rattle.std.proofs.Common.{sym, ap₂, ◌∙◌, subst, inl, inr, add-one, arith, ltb-true, ltb-false}
 use Rattle.std.proofs.Math.Path.{ap}
 use Rattle.definitions.specs.declared.Fault.TheVariants.{Orphan, Count, Chained}
-use Rattle.definitions.specs.Lists.{if◌then◌else◌, at_least_one, IsIn}
+use Rattle.definitions.specs.Lists.{at_least_one, IsIn}
 use Rattle.definitions.specs.Lines.{lines_of}
 use Rattle.definitions.specs.Faults.{answered, refuse, judge}
 use Rattle.definitions.specs.PhoneSets.{has}

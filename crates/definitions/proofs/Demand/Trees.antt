@@ -2,13 +2,13 @@
 -- The idea: a question's two sides admit what its node admits with the answer yes, and with the answer no;
 -- so the leaves that admit the context are one where the node does, and none where it does not.
 -- The combinations of a book (Demand/Choices.antt) take one leaf of each tree.
-use Rattle.std.specs.Prelude.{◌≡◌, Bool, not, ◌&&◌, ℕ, zero, suc, ◌+◌, ◌≤◌, ◌<◌, T, length}
+use Rattle.std.specs.Prelude.{if◌then◌else◌, ◌≡◌, Bool, not, ◌&&◌, ℕ, zero, suc, ◌+◌, ◌≤◌, ◌<◌, T, length}
 use Rattle.std.proofs.Math.Path.{refl, ap}
 use Rattle.std.proofs.Common.{◌∙◌, arith}
 use mathlib.Core.List.{List, [], ◌∷◌, ◌++◌, map, map-append}
 use Rattle.std.proofs.Math.Bool.{true, false}
 use Rattle.std.proofs.lemmas.List.{length-map}
-use Rattle.definitions.specs.Lists.{if◌then◌else◌, select}
+use Rattle.definitions.specs.Lists.{select}
 use Rattle.definitions.specs.BookLines.{TreeNode, question, Asked}
 use Rattle.definitions.specs.Tables.{Book, root_of}
 use Rattle.definitions.specs.Lookup.{node_at, walk, reached, leaf_reached, answers}

@@ -1,7 +1,7 @@
 -- Document 02, P6, on small lists: what the sides of a question with several parts, the meet and the shift give. A
 -- list is shown as its length and the columns of its matrices, one after the other.
-use Rattle.std.specs.Prelude.{refl, List, [], ◌∷◌, Bool, ℕ, length}
-use Rattle.definitions.specs.Lists.{if◌then◌else◌, concat_map, cleared}
+use Rattle.std.specs.Prelude.{if◌then◌else◌, refl, List, [], ◌∷◌, Bool, ℕ, length}
+use Rattle.definitions.specs.Lists.{concat_map, cleared}
 use Rattle.definitions.specs.BookLines.{Part, asks}
 use Rattle.definitions.specs.Matrices.{Matrix}
 use Rattle.definitions.specs.MatrixLists.{meet_lists, shift_list, root_list, start_list, list_ends, yes_list}

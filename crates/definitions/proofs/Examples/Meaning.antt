@@ -1,9 +1,8 @@
 -- What demand 3 sets side by side, on document 01's example: what the book's lines give to a sequence, and what
 -- a path of its network carries.
-use Rattle.std.specs.Prelude.{refl, List, [], ◌∷◌, ◌++◌, ℕ, ◌*◌}
+use Rattle.std.specs.Prelude.{if◌then◌else◌, refl, List, [], ◌∷◌, ◌++◌, ℕ, ◌*◌}
 use Rattle.std.proofs.Math.Option.{Option, none, some}
 use Rattle.definitions.specs.Faults.{Outcome, answered, refused}
-use Rattle.definitions.specs.Lists.{if◌then◌else◌}
 use Rattle.definitions.specs.BookLines.{BookLine}
 use Rattle.definitions.specs.BookReading.{read_book}
 use Rattle.definitions.specs.TreesGive.{trees_give}

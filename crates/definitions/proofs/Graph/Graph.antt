@@ -1,8 +1,8 @@
 -- A network as a graph of elements that have their own states: which elements may start, follow and end, and
 -- the arcs laid out from a table of them. Nothing here knows of books or matrices; the network of a book is
 -- such a graph, with metastates as its elements.
-use Rattle.std.specs.Prelude.{◌≡◌, List, [], ◌∷◌, ◌++◌, map, Bool, not, ℕ, ◌≤◌, T, eqb, length, drop}
-use Rattle.definitions.specs.Lists.{if◌then◌else◌, ◌!◌, every, concat_map, IsIn, Distinct}
+use Rattle.std.specs.Prelude.{if◌then◌else◌, ◌≡◌, List, [], ◌∷◌, ◌++◌, map, Bool, not, ℕ, ◌≤◌, T, eqb, length, drop}
+use Rattle.definitions.specs.Lists.{◌!◌, every, concat_map, IsIn, Distinct}
 use Rattle.definitions.specs.Arcs.{Arc, arc, INITIAL, FINAL, first_state, last_state}
 use Rattle.definitions.specs.Connecting.{own_arcs}
 

@@ -1,6 +1,6 @@
 -- The word automaton: phones lead from mark to mark, a word standing on its first phone. What the steps from a mark
 -- are, and when words can be spoken. That the automaton spells words is shown in Spelling.antt and Speaking.antt.
-use Rattle.std.specs.Prelude.{◌≡◌, ◌⊎◌, Bool, false, not, T, length}
+use Rattle.std.specs.Prelude.{if◌then◌else◌, ◌≡◌, ◌⊎◌, Bool, false, not, T, length}
 use Rattle.std.proofs.Math.Path.{refl}
 use Rattle.std.proofs.Common.{ap, ◌∙◌, subst, ne_eqb}
 use Rattle.std.proofs.Math.Logic.{inl, inr, ⊎_elim}
@@ -8,7 +8,7 @@ use mathlib.Core.List.{List, [], ◌∷◌, ◌++◌}
 use Prim.Native.Nat.{ℕ, ◌+◌, ◌<◌}
 use native.Mathlib.Omega.{arith}
 use Rattle.std.proofs.Math.Dec.{eqb, eqb→eq, eqb_refl}
-use Rattle.definitions.specs.Lists.{if◌then◌else◌, ◌!◌, every, concat_map, up_from, IsIn}
+use Rattle.definitions.specs.Lists.{◌!◌, every, concat_map, up_from, IsIn}
 use Rattle.definitions.specs.Joining.{Mark, ◌⊚◌, Step, step, phones_in, is_word, spoken_to, opening, between}
 use Rattle.definitions.specs.Joining.{within, outside, steps}
 use Rattle.definitions.proofs.Laws.Lists.Tests.{by-test, between as ranged}

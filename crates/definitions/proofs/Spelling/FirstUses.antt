@@ -1,8 +1,8 @@
 -- Laws about the classes of a plain form: every set that is used has a class, each class another set, and every
 -- set was used. So there are no more classes than a book had. The laws about the plain form use them.
 use Rattle.std.proofs.Common.{sym, subst, inl, inr, ⊎_elim}
-use Rattle.std.specs.Prelude.{◌⊎◌, List, [], ◌∷◌, ◌++◌, ℕ, T, eqb}
-use Rattle.definitions.specs.Lists.{if◌then◌else◌, at_least_one, IsIn, Distinct}
+use Rattle.std.specs.Prelude.{if◌then◌else◌, ◌⊎◌, List, [], ◌∷◌, ◌++◌, ℕ, T, eqb}
+use Rattle.definitions.specs.Lists.{at_least_one, IsIn, Distinct}
 use Rattle.definitions.specs.PlainForm.{first_uses}
 use Rattle.definitions.proofs.Laws.Lists.Tests.{by-test}
 use Rattle.definitions.proofs.Laws.Lists.Members.{in_left, in_right, of-append, of-single, listed}

@@ -1,7 +1,7 @@
 -- The plain form of an accepted book is no longer than the text that the book was read from: it has as many nodes,
 -- and no more Q, B and R lines. For each of its classes has the set of some class of the book, no two have the same;
 -- and a class has no more phones than Q lines. So a buffer as long as that text is never too short.
-use Rattle.std.specs.Prelude.{◌≡◌, refl, List, [], ◌∷◌, map, Bool, T, eqb}
+use Rattle.std.specs.Prelude.{if◌then◌else◌, ◌≡◌, refl, List, [], ◌∷◌, map, Bool, T, eqb}
 use Rattle.std.proofs.Math.Path.{ap}
 use Rattle.std.proofs.Common.{◌∙◌, subst, inl, inr, eqb→eq, length-append}
 use Prim.Native.Nat.{ℕ, zero, suc, ◌+◌, ◌≤◌, ◌<◌}
@@ -9,7 +9,7 @@ use native.Mathlib.Omega.{arith}
 use Rattle.std.proofs.Math.ListN.{length, length-map}
 use Rattle.definitions.specs.declared.Header.{Header}
 use Rattle.definitions.specs.Faults.{answered}
-use Rattle.definitions.specs.Lists.{if◌then◌else◌, select, up_from, sum_of, IsIn, Distinct}
+use Rattle.definitions.specs.Lists.{select, up_from, sum_of, IsIn, Distinct}
 use Rattle.definitions.specs.PhoneSets.{has, set_of}
 use Rattle.definitions.specs.BookLines.{BookLine, Member, header_of, members_of, boundaries_of, roots_of}
 use Rattle.definitions.specs.BookReading.{Lent, read_book}

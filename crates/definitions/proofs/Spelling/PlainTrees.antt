@@ -2,7 +2,7 @@
 -- has the trees that the book has.
 -- The idea: the nodes of a tree stand together from its root's number on, so a tree is found again wherever its
 -- nodes stand between others. Both directions of "the same bytes exactly when" go by it.
-use Rattle.std.specs.Prelude.{◌≡◌}
+use Rattle.std.specs.Prelude.{if◌then◌else◌, ◌≡◌}
 use Rattle.std.proofs.Math.Path.{refl, ap, ap₂}
 use Rattle.std.proofs.Common.{◌∙◌, sym, subst, inl, inr, arith}
 use mathlib.Core.List.{List, [], ◌∷◌, ◌++◌, map, append_assoc}
@@ -13,7 +13,7 @@ use Rattle.std.proofs.Math.Dec.{eqb}
 use Rattle.std.proofs.Math.ListN.{length, length-append}
 use Rattle.std.proofs.lemmas.List.{get_or_at}
 use borrow.Author.Tests.{ne_eqb}
-use Rattle.definitions.specs.Lists.{if◌then◌else◌, ◌!◌, concat_map, sum_of, place_of, IsIn}
+use Rattle.definitions.specs.Lists.{◌!◌, concat_map, sum_of, place_of, IsIn}
 use Rattle.definitions.specs.BookLines.{TreeNode, question, leaf, no_root}
 use Rattle.definitions.specs.Tables.{Contents}
 use Rattle.definitions.specs.PlainForm.{Question, Tree, asking, giving, question_of, tree_below, trees_of}

@@ -1,7 +1,7 @@
 -- What a tree by itself gives to a context is what the walk from its root reaches, but for the leaf's number. So books
 -- with the same trees, plain phones, half-width, states and phones give every phone sequence the same models after as
 -- many questions, however their nodes are numbered.
-use Rattle.std.specs.Prelude.{◌≡◌, Bool, true, T, get_or}
+use Rattle.std.specs.Prelude.{if◌then◌else◌, ◌≡◌, Bool, true, T, get_or}
 use Rattle.std.proofs.Math.Path.{refl, sym, ap, ap₂}
 use Rattle.std.proofs.Common.{◌∙◌, arith}
 use mathlib.Core.List.{List, map}
@@ -12,7 +12,7 @@ use Rattle.std.proofs.Math.Dec.{eqb}
 use Rattle.std.proofs.Math.ListN.{length}
 use borrow.Author.Tests.{ne_eqb}
 use Rattle.definitions.specs.declared.Header.{Header}
-use Rattle.definitions.specs.Lists.{if◌then◌else◌, ◌!◌, every, concat_map, up_from, sum_of, IsIn}
+use Rattle.definitions.specs.Lists.{◌!◌, every, concat_map, up_from, sum_of, IsIn}
 use Rattle.definitions.specs.BookLines.{TreeNode, Reached, at_leaf, past_question, root_count, root_place, no_root}
 use Rattle.definitions.specs.BookLines.{is_phone}
 use Rattle.definitions.specs.Tables.{Contents, tree_phone, roots_in_force, book_in, root_of}

@@ -1,11 +1,10 @@
 -- Laws about the structs made of answers: what holds of the counts of a finished answer holds of the struct's; and what
 -- a join promises of its answer, where there is no fault.
-use Rattle.std.specs.Prelude.{◌≡◌, refl, List, true, ℕ}
+use Rattle.std.specs.Prelude.{if◌then◌else◌, ◌≡◌, refl, List, true, ℕ}
 use Rattle.std.proofs.Common.{sym, ap, ◌∙◌, arith, eq-eqb}
 use Rattle.definitions.specs.declared.Counts.{Counts}
 use Rattle.definitions.specs.declared.Refusal.{Refusal}
 use Rattle.definitions.specs.Faults.{number_of}
-use Rattle.definitions.specs.Lists.{if◌then◌else◌}
 use Rattle.definitions.proofs.Laws.Text.Said.{told, refusal-told}
 use Rattle.network.specs.declared.Build.{Build}
 use Rattle.network.specs.declared.Build.TheVariants as build

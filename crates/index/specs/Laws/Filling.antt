@@ -1,12 +1,12 @@
 -- Laws about filling the index: how bits are set, and what a filled index has. The idea: bits are only ever
 -- set, so what was marked stays marked, whatever rows share a word.
-use Rattle.std.specs.Prelude.{◌≡◌, refl, List, ℕ, zero, suc, ◌+◌, ◌*◌, ◌/◌, ◌%◌, ◌≤◌, ◌<◌, T, leb, ltb, eqb, length, set}
+use Rattle.std.specs.Prelude.{if◌then◌else◌, ◌≡◌, refl, List, ℕ, zero, suc, ◌+◌, ◌*◌, ◌/◌, ◌%◌, ◌≤◌, ◌<◌, T, leb, ltb, eqb, length, set}
 use Rattle.std.proofs.Common.{sym, ◌∙◌, subst, inl, inr, mul-le-mul, arith, length-set, get_or-set_same, get_or-set_other, eqb-true, ltb-true, ltb-false, le-leb}
 use Rattle.std.specs.Int.Bits.{bit_or}
 use Rattle.std.proofs.Math.Dec.{eqb_refl}
 use Rattle.std.proofs.lemmas.Bool.{eqb-false}
 use Rattle.definitions.specs.declared.Header.{Header}
-use Rattle.definitions.specs.Lists.{if◌then◌else◌, ◌!◌}
+use Rattle.definitions.specs.Lists.{◌!◌}
 use Rattle.definitions.specs.PhoneSets.{has, alone}
 use Rattle.definitions.specs.Combinations.{Combination}
 use Rattle.definitions.proofs.Laws.Lists.Tests.{by-test, T-or}

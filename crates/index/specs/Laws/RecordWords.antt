@@ -1,6 +1,6 @@
 -- Laws about the words of combinations: how many records there are, where the phone, the leaves and the
 -- matrix of each stand, and where its models stand in the table of nodes.
-use Rattle.std.specs.Prelude.{◌≡◌, Bool, true, false, eqb}
+use Rattle.std.specs.Prelude.{if◌then◌else◌, ◌≡◌, Bool, true, false, eqb}
 use Rattle.std.proofs.Math.Path.{sym, ap}
 use Rattle.std.proofs.Common.{◌∙◌, arith, drop_at}
 use mathlib.Core.List.{List, []}
@@ -8,7 +8,7 @@ use Prim.Native.Nat.{ℕ, ◌*◌, ◌≤◌, ◌<◌}
 use Rattle.std.proofs.Math.ListN.{length, take, drop, length-append, length-map, length-take, get_or-append}
 use Rattle.definitions.specs.declared.Header.{Header}
 use Rattle.definitions.specs.declared.Node.{Node}
-use Rattle.definitions.specs.Lists.{if◌then◌else◌, ◌!◌, concat_map, records, padded}
+use Rattle.definitions.specs.Lists.{◌!◌, concat_map, records, padded}
 use Rattle.definitions.specs.BookLines.{question, leaf}
 use Rattle.definitions.specs.BookReading.{node_size}
 use Rattle.definitions.specs.Matrices.{matrix_words, matrix_size, matrix_record}

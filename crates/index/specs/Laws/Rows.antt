@@ -1,11 +1,11 @@
 -- Laws about the rows for a matrix: no follower is missing from them, and the search along them passes none.
 -- The idea: where a column of the matrix has one phone alone, a combination that follows has that phone in
 -- that column, so its bit is set.
-use Rattle.std.specs.Prelude.{◌≡◌, refl, List, Bool, true, false, ℕ, ◌+◌, ◌-◌, ◌*◌, ◌/◌, ◌%◌, ◌≤◌, ◌<◌, T, leb, ltb, length, drop}
+use Rattle.std.specs.Prelude.{if◌then◌else◌, ◌≡◌, refl, List, Bool, true, false, ℕ, ◌+◌, ◌-◌, ◌*◌, ◌/◌, ◌%◌, ◌≤◌, ◌<◌, T, leb, ltb, length, drop}
 use Rattle.std.proofs.Common.{sym, ap, ◌∙◌, subst, arith, eqb→eq, get_or-take, ltb-true, ltb-false, leb-true, lt-ltb, le-leb}
 use Rattle.std.specs.Int.Bits.{bit_and}
 use Rattle.definitions.specs.declared.Header.{Header}
-use Rattle.definitions.specs.Lists.{if◌then◌else◌, ◌!◌}
+use Rattle.definitions.specs.Lists.{◌!◌}
 use Rattle.definitions.specs.PhoneSets.{has, alone, all_phones}
 use Rattle.definitions.specs.Matrices.{Matrix, most_columns, matrix_words, meet}
 use Rattle.definitions.specs.Combinations.{Combination, combination_size}

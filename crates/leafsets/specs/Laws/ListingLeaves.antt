@@ -1,13 +1,13 @@
 -- Laws about the list of leaves: where leaves of different nodes were put into a table in which no record was
 -- used, the used records in order are the leaves ascending. The used nodes and the leaves' nodes are the same
 -- numbers, and both rise.
-use Rattle.std.specs.Prelude.{◌≡◌, ◌⊎◌, Bool, true, false, not, ℕ, zero, suc, ◌+◌, ◌*◌, ◌/◌, ◌≤◌, ◌<◌, T, eqb}
+use Rattle.std.specs.Prelude.{if◌then◌else◌, ◌≡◌, ◌⊎◌, Bool, true, false, not, ℕ, zero, suc, ◌+◌, ◌*◌, ◌/◌, ◌≤◌, ◌<◌, T, eqb}
 use Rattle.std.proofs.Math.Path.{refl, ap}
 use Rattle.std.proofs.Common.{sym, ap₂, ◌∙◌, subst, inl, inr, ⊎_elim, add-zero, arith, lit<, get_or-take, get_or-drop, drop-drop}
 use mathlib.Core.List.{List, [], ◌∷◌}
 use Rattle.std.proofs.Math.Decide.{ℕ_discrete}
 use Rattle.std.proofs.Math.ListN.{length, take, drop}
-use Rattle.definitions.specs.Lists.{if◌then◌else◌, ◌!◌, concat_map, up_from, select, cleared, IsIn, Distinct}
+use Rattle.definitions.specs.Lists.{◌!◌, concat_map, up_from, select, cleared, IsIn, Distinct}
 use Rattle.definitions.specs.Matrices.{matrix_words}
 use Rattle.definitions.specs.Combinations.{Leaf, is_before, insert_leaf, ascending}
 use Rattle.definitions.proofs.Laws.Lists.Tests.{by-test}

@@ -1,13 +1,13 @@
 -- Laws about the list of a tree's leaves: they stand in the table, no two at one node, whatever roots the book
 -- has; the matrix that the walk starts from is the root's; and the used records are the leaves ascending.
-use Rattle.std.specs.Prelude.{◌≡◌, List, [], ◌++◌, ℕ, zero, suc, ◌+◌, ◌-◌, ◌*◌, ◌≤◌, ◌<◌, min, leb, take}
+use Rattle.std.specs.Prelude.{if◌then◌else◌, ◌≡◌, List, [], ◌++◌, ℕ, zero, suc, ◌+◌, ◌-◌, ◌*◌, ◌≤◌, ◌<◌, min, leb, take}
 use Rattle.std.proofs.Math.Path.{refl, ap, subst}
 use Rattle.std.proofs.Common.{sym, ap₂, ◌∙◌, ⊎_elim, le-leb}
 use native.Mathlib.Omega.{arith}
 use Rattle.std.proofs.Math.ListN.{length}
 use Rattle.std.proofs.lemmas.Bool.{lt-leb}
 use Rattle.definitions.specs.declared.Header.{Header}
-use Rattle.definitions.specs.Lists.{if◌then◌else◌, ◌!◌, concat_map, IsIn, Distinct}
+use Rattle.definitions.specs.Lists.{◌!◌, concat_map, IsIn, Distinct}
 use Rattle.definitions.specs.BookLines.{root_count}
 use Rattle.definitions.specs.Tables.{Book, root_of}
 use Rattle.definitions.specs.PhoneSets.{alone, all_phones}

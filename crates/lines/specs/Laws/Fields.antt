@@ -1,9 +1,9 @@
 -- Laws about one field read byte by byte: its leading spaces, then its digits, from any place on.
-use Rattle.std.specs.Prelude.{◌≡◌, refl, ◌⊎◌, List, [], ◌∷◌, ℕ, zero, suc, ◌+◌, ◌-◌, ◌*◌, ◌^◌, ◌≤◌, ◌<◌, leb, length, take, drop}
+use Rattle.std.specs.Prelude.{if◌then◌else◌, ◌≡◌, refl, ◌⊎◌, List, [], ◌∷◌, ℕ, zero, suc, ◌+◌, ◌-◌, ◌*◌, ◌^◌, ◌≤◌, ◌<◌, leb, length, take, drop}
 use Rattle.std.proofs.Common.{ap, ◌∙◌, inl, inr, arith, drop_of_length-le, length-drop, drop-cons, take_all}
 use Rattle.std.proofs.Math.Numerals.{add-one}
 use borrow.Author.Tests.{eq-eqb, ne_eqb, le-leb, lt-leb}
-use Rattle.definitions.specs.Lists.{if◌then◌else◌, ◌!◌, every}
+use Rattle.definitions.specs.Lists.{◌!◌, every}
 use Rattle.definitions.specs.Numerals.{is_digit, is_numeral, value_of}
 use Rattle.definitions.specs.Lines.{space, Field, blank, malformed, number, skip_spaces, digits_field, field_of}
 use Rattle.definitions.proofs.Laws.Lists.Tests.{by-test}

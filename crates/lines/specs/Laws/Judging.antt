@@ -1,6 +1,6 @@
 -- Laws about taking the lines of any kind of text: a line that passes its tests is taken and reading goes on
 -- after it, a line with a fault is refused at its number; and so from line to line of a text.
-use Rattle.std.specs.Prelude.{◌≡◌, Bool, true, false, not, ◌&&◌, ℕ, suc, ◌+◌, ◌-◌, ◌*◌, ◌/◌, ◌≤◌, ◌<◌, T, length, take, drop}
+use Rattle.std.specs.Prelude.{if◌then◌else◌, ◌≡◌, Bool, true, false, not, ◌&&◌, ℕ, suc, ◌+◌, ◌-◌, ◌*◌, ◌/◌, ◌≤◌, ◌<◌, T, length, take, drop}
 use Rattle.std.proofs.Math.Path.{refl, sym, ap}
 use Rattle.std.proofs.Common.{◌∙◌, arith}
 use mathlib.Core.List.{List, [], ◌∷◌, ◌++◌, map, map-append}
@@ -8,7 +8,7 @@ use Rattle.std.proofs.Math.Option.{Option, none, some}
 use Rattle.std.proofs.Math.ListN.{length-map, length-take}
 use Rattle.definitions.specs.declared.Fault.{Fault}
 use Rattle.definitions.specs.declared.Fault.TheVariants.{Ragged, Misprint, Count}
-use Rattle.definitions.specs.Lists.{if◌then◌else◌, every}
+use Rattle.definitions.specs.Lists.{every}
 use Rattle.definitions.specs.Faults.{Outcome, refuse, Test, judge, and_then}
 use Rattle.definitions.specs.Forms.{Form}
 use Rattle.definitions.specs.Lines.{Line, line_of, lines_of, whole_lines}

@@ -1,13 +1,13 @@
 -- Laws about a line read field by field. The idea: each field gives an entry of the row, a number or 0, and
 -- the entries are the line's numbers, padded; the loop has those before a field and asks for the others.
-use Rattle.std.specs.Prelude.{◌≡◌, List, [], ◌∷◌, ◌++◌, true, false, ℕ, zero, suc, ◌+◌, ◌-◌, ◌*◌, ◌≤◌, ◌<◌, ltb, get_or, set, take, drop}
+use Rattle.std.specs.Prelude.{if◌then◌else◌, ◌≡◌, List, [], ◌∷◌, ◌++◌, true, false, ℕ, zero, suc, ◌+◌, ◌-◌, ◌*◌, ◌≤◌, ◌<◌, ltb, get_or, set, take, drop}
 use Rattle.std.proofs.Math.Path.{refl, sym}
 use Rattle.std.proofs.Common.{ap, ◌∙◌, append_assoc, append-nil, add-one, length-set, drop-cons, drop-drop, take-suc-set, ltb-true, ltb-false}
 use Rattle.std.proofs.Math.Option.{Option, none, some, none-ne-some}
 use native.Mathlib.Omega.{arith}
 use Rattle.std.proofs.Math.ListN.{length, length-drop, drop_of_length-le}
 use Rattle.std.proofs.Math.Seq.{take_all}
-use Rattle.definitions.specs.Lists.{if◌then◌else◌, ◌!◌, every, cleared, padded}
+use Rattle.definitions.specs.Lists.{◌!◌, every, cleared, padded}
 use Rattle.definitions.specs.Forms.{Range, Form}
 use Rattle.definitions.specs.Lines.{Field, blank, malformed, number, is_blank, field_of, skip_spaces, digits_field}
 use Rattle.definitions.specs.Lines.{fields_of, numbers_of, form_of, with_letter, line_of}

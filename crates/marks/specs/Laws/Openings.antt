@@ -1,13 +1,13 @@
 -- Laws about the index of words by their first phone, filled from the last word down: what it has where the words after
 -- one are in it, and one word more.
-use Rattle.std.specs.Prelude.{◌≡◌, refl, List, eqb, length, set}
+use Rattle.std.specs.Prelude.{if◌then◌else◌, ◌≡◌, refl, List, eqb, length, set}
 use Rattle.std.proofs.Common.{sym, ◌∙◌, subst, length-set, get_or-set_same, get_or-set_other, eqb-true, eq-eqb, ne_eqb}
 use Rattle.std.proofs.Math.Path.{ap}
 use Prim.Native.Nat.{ℕ, suc, ◌+◌, ◌-◌, ◌≤◌, ◌<◌}
 use native.Mathlib.Omega.{arith}
 use Rattle.std.proofs.lemmas.List.{get_or-replicate}
 use Rattle.std.proofs.lemmas.Bool.{eqb-false}
-use Rattle.definitions.specs.Lists.{if◌then◌else◌, ◌!◌, cleared}
+use Rattle.definitions.specs.Lists.{◌!◌, cleared}
 use Rattle.definitions.specs.Joining.{phones_in, is_word}
 use Rattle.definitions.proofs.Laws.Lists.Tests.{by-test, between}
 use Rattle.marks.specs.Openings.{opening_among, opening_from, Opened}

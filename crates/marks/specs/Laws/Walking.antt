@@ -1,5 +1,5 @@
 -- Laws about words that begin with a phone, walked in order: from one on there is none, or a first and those after it.
-use Rattle.std.specs.Prelude.{◌≡◌, Bool, length}
+use Rattle.std.specs.Prelude.{if◌then◌else◌, ◌≡◌, Bool, length}
 use Rattle.std.proofs.Math.Path.{refl, ap, subst}
 use Rattle.std.proofs.Common.{sym, ◌∙◌}
 use mathlib.Core.List.{List, [], ◌∷◌, ◌++◌}
@@ -8,7 +8,7 @@ use Prim.Native.Nat.{ℕ, zero, suc, ◌+◌, ◌-◌, ◌≤◌, ◌<◌}
 use native.Mathlib.Omega.{arith}
 use Rattle.std.proofs.Math.Dec.{eqb}
 use borrow.Author.Tests.{eqb-true}
-use Rattle.definitions.specs.Lists.{if◌then◌else◌, ◌!◌, concat_map, up_from}
+use Rattle.definitions.specs.Lists.{◌!◌, concat_map, up_from}
 use Rattle.definitions.specs.Joining.{Step, step, phones_in, spoken_to, opening}
 use Rattle.marks.specs.Openings.{opening_among, opening_from}
 

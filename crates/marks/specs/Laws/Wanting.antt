@@ -1,12 +1,12 @@
 -- Laws about what leads on from a mark: in a word, past its end, before the first silence, between words, and after the
 -- closing silence.
-use Rattle.std.specs.Prelude.{◌≡◌, refl, Bool, true, false, ℕ, suc, ◌≤◌, eqb, length}
+use Rattle.std.specs.Prelude.{if◌then◌else◌, ◌≡◌, refl, Bool, true, false, ℕ, suc, ◌≤◌, eqb, length}
 use Rattle.std.proofs.Common.{sym, ap₂, ◌∙◌, subst, true≢false, arith, eqb→eq}
 use Rattle.std.proofs.Math.Path.{ap}
 use mathlib.Core.List.{List, [], ◌∷◌}
 use Rattle.std.proofs.lemmas.Bool.{false≢true}
 use borrow.Author.Tests.{eq-eqb, ne_eqb}
-use Rattle.definitions.specs.Lists.{if◌then◌else◌, ◌!◌}
+use Rattle.definitions.specs.Lists.{◌!◌}
 use Rattle.definitions.specs.Joining.{Mark, ◌⊚◌, Step, step, phones_in, spoken_to, within, outside, steps}
 use Rattle.definitions.proofs.Laws.Lists.Tests.{same_tests, eq→eqb}
 use Rattle.marks.specs.declared.Mark as declared

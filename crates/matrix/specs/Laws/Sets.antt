@@ -1,6 +1,6 @@
 -- Laws about sets of phones as 64-bit words, one for each answer of the code: all phones, one phone, and
 -- whether a phone is in a set.
-use Rattle.std.specs.Prelude.{◌≡◌, refl, false, leb, eqb}
+use Rattle.std.specs.Prelude.{if◌then◌else◌, ◌≡◌, refl, false, leb, eqb}
 use Rattle.std.proofs.Common.{sym, ap, pow_pos, le-leb}
 use Prim.Native.Nat.{ℕ, zero, suc, ◌-◌, ◌*◌, ◌/◌, ◌%◌, ◌^◌, ◌≤◌, ◌<◌, min}
 use Rattle.std.proofs.Math.Numerals.{unary_clauses}
@@ -8,7 +8,6 @@ use native.Mathlib.Omega.{arith}
 use Rattle.std.specs.Int.Bits.{bit_and}
 use Rattle.std.proofs.lemmas.Nat.{and_mask}
 use Rattle.std.proofs.lemmas.Bool.{lt-leb}
-use Rattle.definitions.specs.Lists.{if◌then◌else◌}
 use Rattle.definitions.specs.PhoneSets.{has, alone, all_phones}
 use Rattle.definitions.proofs.Laws.Matrices.PhoneSets.{has-below, one_shifted, alone-shifted}
 use Rattle.definitions.proofs.Laws.Lists.Tests.{by-test}

@@ -1,6 +1,6 @@
 -- Laws about shapes: a root's matrix is columns around its phone, and the shift of a matrix's seven words is
 -- the seven words of the shifted matrix.
-use Rattle.std.specs.Prelude.{◌≡◌, refl, List, ◌∷◌, ◌++◌, leb, ltb, eqb, length, take, drop, replicate}
+use Rattle.std.specs.Prelude.{if◌then◌else◌, ◌≡◌, refl, List, ◌∷◌, ◌++◌, leb, ltb, eqb, length, take, drop, replicate}
 use Rattle.std.proofs.Math.Path.{sym, ap}
 use Rattle.std.proofs.Common.{◌∙◌, length-append, length-drop, length-take-le, take_all, get_or-append-add}
 use Prim.Native.Nat.{ℕ, suc, ◌+◌, ◌-◌, ◌*◌, ◌≤◌, ◌<◌, min}
@@ -9,7 +9,7 @@ use Rattle.std.proofs.lemmas.List.{length-replicate, get_or-replicate, get_or_at
 use Rattle.std.proofs.Math.ListN.{get_or-append, get_or-eq_default}
 use Rattle.std.proofs.Math.Seq.{get_or-take, get_or-drop, ext_get_or}
 use borrow.Author.Tests.{eqb-true, eqb-false, ltb-true, ltb-false, le-leb, lt-ltb, le-ltb, eq-eqb, ne_eqb}
-use Rattle.definitions.specs.Lists.{if◌then◌else◌, ◌!◌}
+use Rattle.definitions.specs.Lists.{◌!◌}
 use Rattle.definitions.specs.PhoneSets.{alone, all_phones}
 use Rattle.definitions.specs.Matrices.{Matrix, most_columns, matrix_words, root_matrix, shift}
 use Rattle.definitions.proofs.Laws.Lists.Tests.{by-test}

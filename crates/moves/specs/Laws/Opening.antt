@@ -1,5 +1,5 @@
 -- Laws about the words that begin on an arc, taken one by one along their index.
-use Rattle.std.specs.Prelude.{◌≡◌, refl, List, [], ◌∷◌, ◌++◌, map, ℕ, suc, ◌+◌, ◌-◌, ◌/◌, ◌≤◌, ◌<◌, eqb, leb, length}
+use Rattle.std.specs.Prelude.{if◌then◌else◌, ◌≡◌, refl, List, [], ◌∷◌, ◌++◌, map, ℕ, suc, ◌+◌, ◌-◌, ◌/◌, ◌≤◌, ◌<◌, eqb, leb, length}
 use Rattle.std.proofs.Math.Path.{sym, ap}
 use Rattle.std.proofs.Common.{◌∙◌, subst, arith, ne_eqb}
 use Rattle.std.proofs.lemmas.List.{map-append}
@@ -7,7 +7,7 @@ use Rattle.std.proofs.Math.Dec.{T, le→leb}
 use Rattle.std.proofs.lemmas.Bool.{eqb-false}
 use Rattle.definitions.specs.declared.Fault.{Fault}
 use Rattle.definitions.specs.Faults.{Outcome, and_then}
-use Rattle.definitions.specs.Lists.{if◌then◌else◌, ◌!◌, select}
+use Rattle.definitions.specs.Lists.{◌!◌, select}
 use Rattle.definitions.specs.Growing.{Grown, Room, enter, perform_all}
 use Rattle.definitions.specs.Joining.{Mark, step, is_word, spoken_to, Joined, Move, move_by, may_enter}
 use Rattle.definitions.proofs.Laws.Lists.Tests.{T_and, by-test}

@@ -1,7 +1,7 @@
 -- The start metastates are the followers of one matrix: silence alone in its left columns and its centre, all
 -- phones in its right columns. A combination of silence meets it in its own matrix with the start's cut; any
 -- other combination meets it in an empty centre. So the search for followers finds the starts too.
-use Rattle.std.specs.Prelude.{◌≡◌, List, [], ◌∷◌, Bool, true, false, ◌&&◌, ℕ, suc, ◌*◌, ◌≤◌, ◌<◌, ltb, eqb, length}
+use Rattle.std.specs.Prelude.{if◌then◌else◌, ◌≡◌, List, [], ◌∷◌, Bool, true, false, ◌&&◌, ℕ, suc, ◌*◌, ◌≤◌, ◌<◌, ltb, eqb, length}
 use Rattle.std.proofs.Math.Path.{refl}
 use Rattle.std.proofs.Common.{sym, ap, ◌∙◌, subst, arith, ext_get_or, ltb-true, ltb-false, eqb-true}
 use Rattle.std.proofs.Math.Bool.{and-false}
@@ -10,7 +10,7 @@ use Rattle.std.proofs.lemmas.Nat.{and_comm}
 use Rattle.std.proofs.Math.Dec.{T, eqb→eq}
 use Rattle.std.proofs.lemmas.Bool.{eqb-false}
 use Rattle.definitions.specs.declared.Header.{Header}
-use Rattle.definitions.specs.Lists.{if◌then◌else◌, ◌!◌}
+use Rattle.definitions.specs.Lists.{◌!◌}
 use Rattle.definitions.specs.PhoneSets.{has, alone, all_phones}
 use Rattle.definitions.specs.Matrices.{Matrix, valid, meet, start_cut}
 use Rattle.definitions.specs.Combinations.{Combination}

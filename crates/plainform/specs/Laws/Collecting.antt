@@ -1,10 +1,10 @@
 -- Laws about sets noted in lent words: one more set, the sets of a tree, and those of all trees.
-use Rattle.std.specs.Prelude.{◌≡◌, refl, ◌≢◌, List, [], ◌∷◌, ◌++◌, map, ℕ, ◌+◌, ◌-◌, ◌*◌, ◌≤◌, ◌<◌, length, take, drop, set, eqb}
+use Rattle.std.specs.Prelude.{if◌then◌else◌, ◌≡◌, refl, ◌≢◌, List, [], ◌∷◌, ◌++◌, map, ℕ, ◌+◌, ◌-◌, ◌*◌, ◌≤◌, ◌<◌, length, take, drop, set, eqb}
 use Rattle.std.proofs.Common.{sym, ap, ◌∙◌, append-nil, add-one, arith, length-append, take-suc-set, length-take-le}
 use Rattle.std.proofs.Math.ListN.{length-set}
 use Rattle.definitions.specs.declared.Header.{Header}
 use Rattle.definitions.specs.declared.Node.{Node}
-use Rattle.definitions.specs.Lists.{if◌then◌else◌, ◌!◌, at_least_one, concat_map, place_of}
+use Rattle.definitions.specs.Lists.{◌!◌, at_least_one, concat_map, place_of}
 use Rattle.definitions.specs.BookReading.{node_size}
 use Rattle.definitions.specs.Tables.{node_of}
 use Rattle.definitions.specs.BookLines.{no_root}

@@ -2,11 +2,10 @@
 -- same bytes exactly when they have the same half-width, states, phones and, tree by tree, the same shape, positions,
 -- member sets and models"; the form "keeps and compares the B lines". And what was written is read with these trees and
 -- plain phones. The premises are what the contracts of `read` and `write` ensure of their answers and buffers.
-use Rattle.std.specs.Prelude.{◌≡◌, refl, ◌↔◌, List, Bool, true, false, ℕ, ◌≤◌, T, leb, length, take}
+use Rattle.std.specs.Prelude.{if◌then◌else◌, ◌≡◌, refl, ◌↔◌, List, Bool, true, false, ℕ, ◌≤◌, T, leb, length, take}
 use Rattle.std.proofs.Common.{sym, ap, ◌∙◌, subst, arith, le→leb}
 use Rattle.definitions.specs.declared.Header.{Header}
 use Rattle.definitions.specs.declared.Fault.TheVariants.{Foreign, Short}
-use Rattle.definitions.specs.Lists.{if◌then◌else◌}
 use Rattle.definitions.specs.Faults.{Outcome, answered, refused, refuse, judge}
 use Rattle.definitions.specs.BookLines.{BookLine, header_of, no_header}
 use Rattle.definitions.specs.BookReading.{Lent, read_book}

@@ -3,14 +3,14 @@
 use Rattle.std.proofs.Math.Path.{◌≡◌}
 use Rattle.std.proofs.Common.{sym, ap, ◌∙◌, length-append, le-leb}
 use mathlib.Core.List.{List, [], ◌∷◌, ◌++◌}
-use Rattle.std.specs.Prelude.{Bool, true, ◌&&◌, ℕ, ◌+◌, ◌-◌, ◌*◌, ◌≤◌, T, leb, drop}
+use Rattle.std.specs.Prelude.{if◌then◌else◌, Bool, true, ◌&&◌, ℕ, ◌+◌, ◌-◌, ◌*◌, ◌≤◌, T, leb, drop}
 use Prim.Native.Char.{code}
 use native.Mathlib.Omega.{arith}
 use Rattle.std.proofs.Math.ListN.{length}
 use Rattle.std.proofs.lemmas.List.{length-replicate}
 use Rattle.definitions.specs.declared.Counts.{Counts}
 use Rattle.definitions.specs.declared.Refusal.{Refusal}
-use Rattle.definitions.specs.Lists.{if◌then◌else◌, every, cleared, padded}
+use Rattle.definitions.specs.Lists.{every, cleared, padded}
 use Rattle.definitions.specs.Faults.{answered, number_of, answer_left}
 use Rattle.definitions.specs.Arcs.{arc_size}
 use Rattle.definitions.specs.NetworkText.{network_known, write_network}

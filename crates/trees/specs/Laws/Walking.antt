@@ -1,6 +1,6 @@
 -- Laws about a walk's turn, over records that N and L lines leave: the child that a question goes to is a
 -- greater node, and from there the walk goes on with one step less and one question more.
-use Rattle.std.specs.Prelude.{◌≡◌, List, map, T, length, drop}
+use Rattle.std.specs.Prelude.{if◌then◌else◌, ◌≡◌, List, map, T, length, drop}
 use Rattle.std.proofs.Math.Path.{refl, ap}
 use Rattle.std.proofs.Common.{sym, ap₂, ◌∙◌, eq-eqb, ne_eqb}
 use Prim.Native.Nat.{ℕ, zero, suc, ◌+◌, ◌-◌, ◌*◌, ◌≤◌, ◌<◌}
@@ -9,7 +9,6 @@ use native.Mathlib.Omega.{arith}
 use Rattle.std.proofs.lemmas.List.{length-map}
 use Rattle.definitions.specs.declared.Header.{Header}
 use Rattle.definitions.specs.declared.Node.{Node}
-use Rattle.definitions.specs.Lists.{if◌then◌else◌}
 use Rattle.definitions.specs.BookLines.{Reached, past_question}
 use Rattle.definitions.specs.BookReading.{node_size}
 use Rattle.definitions.specs.Tables.{node_of, tree_node, asked_of}

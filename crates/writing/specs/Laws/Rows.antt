@@ -1,8 +1,8 @@
 -- Laws about rows that fit a line, and what writing a row leaves.
-use Rattle.std.specs.Prelude.{◌≡◌, refl, List, [], ◌∷◌, Bool, true, false, ◌&&◌, ℕ, ◌≤◌, ◌<◌, T, leb, ltb, length, take}
+use Rattle.std.specs.Prelude.{if◌then◌else◌, ◌≡◌, refl, List, [], ◌∷◌, Bool, true, false, ◌&&◌, ℕ, ◌≤◌, ◌<◌, T, leb, ltb, length, take}
 use Rattle.std.proofs.Common.{sym, subst, ◌∙◌, arith, leb→le, le→leb, ltb→lt, lt→ltb, le-leb}
 use Rattle.std.proofs.lemmas.Bool.{lt-leb}
-use Rattle.definitions.specs.Lists.{if◌then◌else◌, every}
+use Rattle.definitions.specs.Lists.{every}
 use Rattle.definitions.proofs.Laws.Lists.Tests.{T_and, same_tests}
 use Rattle.definitions.proofs.Laws.Text.LineFields.{all_fit}
 use Rattle.lines.specs.Rows.{line_in}

@@ -1,10 +1,10 @@
 -- Laws about the roots that words list, place by place: each word that is a root is listed with the phone and state
 -- of its place, so the words are found again, and a node is named as often. The laws about written books use them.
-use Rattle.std.specs.Prelude.{◌≡◌, refl, ◌≢◌, List, [], ◌∷◌, ◌++◌, Bool, true, false, ◌&&◌, ℕ, zero, suc, ◌+◌, ◌*◌, ◌/◌, ◌%◌, ◌<◌, T, eqb, length}
+use Rattle.std.specs.Prelude.{if◌then◌else◌, ◌≡◌, refl, ◌≢◌, List, [], ◌∷◌, ◌++◌, Bool, true, false, ◌&&◌, ℕ, zero, suc, ◌+◌, ◌*◌, ◌/◌, ◌%◌, ◌<◌, T, eqb, length}
 use Rattle.std.proofs.Common.{sym, ap, ap₂, ◌∙◌, subst, inl, inr, div-add-mod', arith, eqb→eq, ne_eqb, eqb-true, ext_get_or}
 use Rattle.std.proofs.Math.Dec.{eqb_refl}
 use Rattle.std.proofs.lemmas.Bool.{eqb-false}
-use Rattle.definitions.specs.Lists.{if◌then◌else◌, ◌!◌, at_least_one, IsIn, map_option, occurrences}
+use Rattle.definitions.specs.Lists.{◌!◌, at_least_one, IsIn, map_option, occurrences}
 use Rattle.definitions.specs.BookLines.{Root, no_root, root_for, root_given, root_words, root_names, root_count}
 use Rattle.definitions.specs.BookText.{roots_listed}
 use Rattle.definitions.specs.declared.Header.{Header}

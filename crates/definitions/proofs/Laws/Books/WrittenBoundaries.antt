@@ -1,13 +1,13 @@
 -- Laws about the B lines of a written book: a phone has one exactly where its word is not 0, with that plain phone, and
 -- they ascend. The laws about the texts of books use them.
-use Rattle.std.specs.Prelude.{◌≡◌, refl, ◌≢◌, List, [], ◌∷◌, ◌++◌, Bool, true, false, T, leb, ltb, eqb, length}
+use Rattle.std.specs.Prelude.{if◌then◌else◌, ◌≡◌, refl, ◌≢◌, List, [], ◌∷◌, ◌++◌, Bool, true, false, T, leb, ltb, eqb, length}
 use Rattle.std.proofs.Common.{sym, ap, ◌∙◌, subst, inl, inr, arith, leb→le, lt→ltb, ext_get_or}
 use Rattle.std.proofs.Math.Bool.{not}
 use Prim.Native.Nat.{ℕ, zero, suc, ◌+◌, ◌-◌, ◌≤◌, ◌<◌}
 use Rattle.std.proofs.Math.Dec.{eqb→eq}
 use borrow.Author.Tests.{eqb-true, eqb-false, eq-eqb, ne_eqb}
 use Rattle.definitions.specs.declared.Header.{Header}
-use Rattle.definitions.specs.Lists.{if◌then◌else◌, ◌!◌, every, map_option, last_passes, IsIn}
+use Rattle.definitions.specs.Lists.{◌!◌, every, map_option, last_passes, IsIn}
 use Rattle.definitions.specs.BookLines.{Boundary, is_boundary, plain_for, plain_given, plain_words}
 use Rattle.definitions.specs.BookReading.{plains_plain}
 use Rattle.definitions.specs.ForeignTables.{plain_known, plains_known}

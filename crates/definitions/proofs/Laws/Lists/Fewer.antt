@@ -1,8 +1,8 @@
 -- A list in which no element stands twice has at most as many as any list that has them all; and a sum over it is at
 -- most the sum over that list.
-use Rattle.std.specs.Prelude.{◌≡◌, refl, List, [], ◌∷◌, ℕ, ◌+◌, ◌≤◌, eqb, length}
+use Rattle.std.specs.Prelude.{if◌then◌else◌, ◌≡◌, refl, List, [], ◌∷◌, ℕ, ◌+◌, ◌≤◌, eqb, length}
 use Rattle.std.proofs.Common.{sym, ap, ◌∙◌, subst, inl, inr, arith, eqb→eq, eq-eqb}
-use Rattle.definitions.specs.Lists.{if◌then◌else◌, sum_of, IsIn, Distinct}
+use Rattle.definitions.specs.Lists.{sum_of, IsIn, Distinct}
 use Rattle.definitions.proofs.Laws.Lists.Tests.{by-test}
 use Rattle.definitions.proofs.Laws.Lists.Sums.{sum_ones}
 

@@ -1,9 +1,9 @@
 -- Laws about the first element of a list that passes a test: there is one where any passes, and one more element at
 -- the end is the first only where none passed before. What B and R lines give is found so.
-use Rattle.std.specs.Prelude.{◌≡◌, refl, List, [], ◌∷◌, ◌++◌, Bool, true, false, not, ◌||◌, T}
+use Rattle.std.specs.Prelude.{if◌then◌else◌, ◌≡◌, refl, List, [], ◌∷◌, ◌++◌, Bool, true, false, not, ◌||◌, T}
 use Rattle.std.proofs.Common.{subst, inl, inr}
 use Rattle.std.proofs.Math.Option.{Option, none, some}
-use Rattle.definitions.specs.Lists.{if◌then◌else◌, at_least_one, first_where, IsIn}
+use Rattle.definitions.specs.Lists.{at_least_one, first_where, IsIn}
 use Rattle.definitions.proofs.Laws.Lists.Tests.{T-or, by-test, if-true}
 
 pub first_some : {A : Type 0} (test : A → Bool) (l : List A) → T (at_least_one test l)

@@ -1,11 +1,11 @@
 -- Laws about the elements of a list: which are in a list built from others, at which place, and no element
 -- twice. The proofs about tables, arcs, leaves and combinations use them. The library's own membership is an
 -- indexed type; this one computes on the list, so a proof of it is taken apart by `inl` and `inr`.
-use Rattle.std.specs.Prelude.{◌≡◌, refl, ◌⊎◌, ◌↔◌, List, [], ◌∷◌, ◌++◌, map, Bool, true, false, ℕ, zero, suc, ◌+◌, ◌≤◌, ◌<◌, T, eqb, length, get_or}
+use Rattle.std.specs.Prelude.{if◌then◌else◌, ◌≡◌, refl, ◌⊎◌, ◌↔◌, List, [], ◌∷◌, ◌++◌, map, Bool, true, false, ℕ, zero, suc, ◌+◌, ◌≤◌, ◌<◌, T, eqb, length, get_or}
 use Rattle.std.proofs.Common.{sym, ap, ap₂, subst, inl, inr, ⊎_elim, arith, eqb→eq}
 use Rattle.std.proofs.Math.Decide.{ℕ_discrete}
 use Rattle.std.proofs.Math.Dec.{eqb_refl}
-use Rattle.definitions.specs.Lists.{IsIn, Distinct, if◌then◌else◌, every, at_least_one, concat_map, up_from}
+use Rattle.definitions.specs.Lists.{IsIn, Distinct, every, at_least_one, concat_map, up_from}
 use Rattle.definitions.proofs.Laws.Lists.Tests.{T-or}
 use Rattle.definitions.proofs.Laws.Lists.Lists.{every-cons}
 

@@ -1,9 +1,9 @@
 -- Laws about how often a number stands in a list: where each counts at most once, no element stands twice.
 -- Laws/Books/NamedOnce reads "named exactly once" by them.
-use Rattle.std.specs.Prelude.{◌≡◌, refl, List, [], ◌∷◌, ◌++◌, Bool, true, false, ℕ, zero, suc, ◌+◌, ◌≤◌, ◌<◌, eqb, length, set, replicate}
+use Rattle.std.specs.Prelude.{if◌then◌else◌, ◌≡◌, refl, List, [], ◌∷◌, ◌++◌, Bool, true, false, ℕ, zero, suc, ◌+◌, ◌≤◌, ◌<◌, eqb, length, set, replicate}
 use Rattle.std.proofs.Common.{ap, inl, inr, arith, eqb-true}
 use Rattle.std.proofs.lemmas.Bool.{eqb-false}
-use Rattle.definitions.specs.Lists.{if◌then◌else◌, ◌!◌, occurrences, up_from, IsIn, Distinct}
+use Rattle.definitions.specs.Lists.{◌!◌, occurrences, up_from, IsIn, Distinct}
 use Rattle.definitions.proofs.Laws.Lists.Tests.{by-test, if-true, eq→eqb}
 
 -- the first element counts one more than in the rest

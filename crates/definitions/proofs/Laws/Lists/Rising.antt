@@ -1,9 +1,9 @@
 -- Laws about order: of lists of numbers, by the first that differs; and lists whose elements stand before
 -- all later ones in some order. The leaves of a tree, the combinations of a book and the members of its classes
 -- are such lists.
-use Rattle.std.specs.Prelude.{refl, ◌⊎◌, List, [], ◌∷◌, ◌++◌, map, Bool, true, false, ◌&&◌, ℕ, zero, suc, ◌<◌, T, ltb, eqb, length, get_or}
+use Rattle.std.specs.Prelude.{if◌then◌else◌, refl, ◌⊎◌, List, [], ◌∷◌, ◌++◌, map, Bool, true, false, ◌&&◌, ℕ, zero, suc, ◌<◌, T, ltb, eqb, length, get_or}
 use Rattle.std.proofs.Common.{inl, inr, arith, lt→ltb, ltb→lt}
-use Rattle.definitions.specs.Lists.{if◌then◌else◌, select, last_passes, concat_map, up_from}
+use Rattle.definitions.specs.Lists.{select, last_passes, concat_map, up_from}
 use Rattle.definitions.specs.Lists.{IsIn, Distinct}
 use Rattle.definitions.proofs.Laws.Lists.Tests.{T_and, T-or}
 use Rattle.definitions.proofs.Laws.Lists.Members.{of-append, of_map, of-concat_map, of-up_from, in-at}

@@ -1,14 +1,14 @@
 -- Laws about the elements of a list that pass a test: of lists joined, of none, of exactly one.
 -- The idea: "exactly one passes" is the equation `select test l ≡ x ∷ []`, which goes through `++` and
 -- `concat_map`. The proof that a context has one leaf in a tree and one combination in a book uses them.
-use Rattle.std.specs.Prelude.{◌≡◌, ◌⊎◌, Bool, ℕ, zero, suc, ◌+◌, ◌≤◌, ◌<◌, eqb, length, get_or}
+use Rattle.std.specs.Prelude.{if◌then◌else◌, ◌≡◌, ◌⊎◌, Bool, ℕ, zero, suc, ◌+◌, ◌≤◌, ◌<◌, eqb, length, get_or}
 use Rattle.std.proofs.Math.Path.{refl, subst}
 use Rattle.std.proofs.Common.{sym, ap, ap₂, ◌∙◌, inl, inr, arith, eqb-true, ne_eqb}
 use mathlib.Core.List.{List, [], ◌∷◌, ◌++◌, map, append-nil, nil≢cons, head-eq_of_cons-eq, tail-eq_of_cons-eq}
 use Rattle.std.proofs.Math.Bool.{true, false}
 use Rattle.std.proofs.Math.Dec.{T}
 use Rattle.std.proofs.lemmas.Bool.{eqb-false}
-use Rattle.definitions.specs.Lists.{if◌then◌else◌, select, concat_map, up_from, IsIn}
+use Rattle.definitions.specs.Lists.{select, concat_map, up_from, IsIn}
 use Rattle.definitions.proofs.Laws.Lists.Members.{of-up_from, of-kept, in_kept, in_after, in-at}
 
 module _ {A : Type 0} (test : A → Bool) where

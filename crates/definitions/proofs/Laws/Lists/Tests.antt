@@ -1,10 +1,10 @@
 -- Laws about tests: of two or three parts, of one of two, of a choice, and of every element of a list.
 -- They turn the Bool tests of the definitions into facts and back; the other laws use them.
-use Rattle.std.specs.Prelude.{◌≡◌, refl, ◌⊎◌, ◌↔◌, List, [], ◌∷◌, Bool, true, false, not, ◌&&◌, ◌||◌, ℕ, zero, suc, ◌≤◌, ◌<◌, T, leb, eqb, length, get_or}
+use Rattle.std.specs.Prelude.{if◌then◌else◌, ◌≡◌, refl, ◌⊎◌, ◌↔◌, List, [], ◌∷◌, Bool, true, false, not, ◌&&◌, ◌||◌, ℕ, zero, suc, ◌≤◌, ◌<◌, T, leb, eqb, length, get_or}
 use Rattle.std.proofs.Common.{sym, ◌∙◌, subst, inl, inr, ⊎_elim, arith, leb→le, le→leb, eqb→eq}
 use Rattle.std.proofs.Math.Dec.{eqb_refl}
 use Rattle.std.proofs.lemmas.Bool.{not-true, not-false}
-use Rattle.definitions.specs.Lists.{if◌then◌else◌, ◌!◌, every}
+use Rattle.definitions.specs.Lists.{◌!◌, every}
 
 -- a test of two parts holds when both hold
 pub T_and : (a b : Bool) → T (a && b) ↔ (T a × T b)

@@ -1,8 +1,8 @@
 -- Laws about lists of matrices: their members, their order, how many they are; lists with the same valid members have
 -- one normal form. The laws about what lists admit (Demand/) and the crate `lists` use them.
-use Rattle.std.specs.Prelude.{◌≡◌, refl, ◌⊎◌, ◌↔◌, List, [], ◌∷◌, ◌++◌, Bool, true, false, suc, ◌≤◌, T, length}
+use Rattle.std.specs.Prelude.{if◌then◌else◌, ◌≡◌, refl, ◌⊎◌, ◌↔◌, List, [], ◌∷◌, ◌++◌, Bool, true, false, suc, ◌≤◌, T, length}
 use Rattle.std.proofs.Common.{sym, ap, ap₂, ◌∙◌, subst, inl, inr, ⊎_elim, arith}
-use Rattle.definitions.specs.Lists.{if◌then◌else◌, same, precedes, IsIn}
+use Rattle.definitions.specs.Lists.{same, precedes, IsIn}
 use Rattle.definitions.specs.Matrices.{Matrix, valid}
 use Rattle.definitions.specs.MatrixLists.{insert_matrix, added, gather, normal, same_list}
 use Rattle.definitions.proofs.Laws.Lists.Tests.{T_and}

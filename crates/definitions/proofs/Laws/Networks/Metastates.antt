@@ -1,7 +1,7 @@
 -- Laws about metastates: sameness is equality; which of them start and which follow, by number, none twice.
 -- Starts and followers are built alike, from the combinations that pass a test, each with its number: so their
 -- laws are shown once. Demand 3 uses them.
-use Rattle.std.specs.Prelude.{◌≡◌, ◌⊎◌, ◌↔◌, Bool, ◌&&◌, T, eqb, length}
+use Rattle.std.specs.Prelude.{if◌then◌else◌, ◌≡◌, ◌⊎◌, ◌↔◌, Bool, ◌&&◌, T, eqb, length}
 use Rattle.std.proofs.Math.Path.{refl, ap}
 use Rattle.std.proofs.Common.{sym, ◌∙◌, subst, inl, inr, arith, eqb→eq}
 use mathlib.Core.Logic.Iff
@@ -10,7 +10,7 @@ use Prim.Native.Nat.{ℕ, zero, suc, ◌+◌, ◌<◌}
 use Rattle.std.proofs.Math.Dec.{eqb_refl}
 use Rattle.definitions.specs.Metastates.{numbered, Metastate, same_metastate, starts_from, followers_from}
 use Rattle.definitions.specs.Metastates.{phone_of, starts, followers, may_end}
-use Rattle.definitions.specs.Lists.{if◌then◌else◌, IsIn, Distinct}
+use Rattle.definitions.specs.Lists.{IsIn, Distinct}
 use Rattle.definitions.specs.Tables.{Book}
 use Rattle.definitions.specs.Combinations.{Combination}
 use Rattle.definitions.proofs.Laws.Lists.Tests.{T_and, T-eqb, Tells}

@@ -1,7 +1,7 @@
 -- Laws about the lines of network text: the lines that pass their tests are those of known counts and arcs.
 -- The idea: a line that was read is its counts or its arc written, and its tests ask of them what the test for
 -- foreign arcs asks. The laws about network texts use them.
-use Rattle.std.specs.Prelude.{◌≡◌, refl, true, false, ◌&&◌, ℕ, ◌*◌, ◌≤◌, ◌<◌, T, eqb, length}
+use Rattle.std.specs.Prelude.{if◌then◌else◌, ◌≡◌, refl, true, false, ◌&&◌, ℕ, ◌*◌, ◌≤◌, ◌<◌, T, eqb, length}
 use Rattle.std.proofs.Common.{sym, ap, ap₂, ◌∙◌, subst, arith, leb→le}
 use mathlib.Core.List.{List, [], ◌∷◌, ◌++◌, map}
 use Rattle.std.proofs.Math.Bool.{Bool, and-true, and_assoc}
@@ -10,7 +10,7 @@ use Prim.Native.Char.{code}
 use Rattle.std.proofs.Math.Dec.{leb, le→leb}
 use borrow.Author.Tests.{lt-ltb, le-leb, ne_eqb, eqb-true}
 use Rattle.definitions.specs.declared.Counts.{Counts}
-use Rattle.definitions.specs.Lists.{if◌then◌else◌, ◌!◌, every, last_passes, concat_map}
+use Rattle.definitions.specs.Lists.{◌!◌, every, last_passes, concat_map}
 use Rattle.definitions.specs.Forms.{Form, form_w, form_a, network_forms}
 use Rattle.definitions.specs.Lines.{line_feed, Line, form_of, line_of, in_ranges, in_fixed_ranges, line_text}
 use Rattle.definitions.specs.Reading.{line_tests}

@@ -1,12 +1,12 @@
 -- Laws about fields: what is written in a field is read, and what is read is what was written.
 -- The idea: a field is spaces and then nothing or a numeral, so the laws about numerals carry over; and what
 -- holds of one field holds of fields one after the other. The laws about lines use them.
-use Rattle.std.specs.Prelude.{◌≡◌, refl, List, [], ◌∷◌, ◌++◌, map, Bool, true, false, ℕ, zero, suc, ◌+◌, ◌-◌, ◌*◌, ◌^◌, ◌≤◌, ◌<◌, T, ltb, eqb, length, replicate}
+use Rattle.std.specs.Prelude.{if◌then◌else◌, ◌≡◌, refl, List, [], ◌∷◌, ◌++◌, map, Bool, true, false, ℕ, zero, suc, ◌+◌, ◌-◌, ◌*◌, ◌^◌, ◌≤◌, ◌<◌, T, ltb, eqb, length, replicate}
 use Rattle.std.proofs.Common.{sym, ap, ap₂, ◌∙◌, append-nil, arith, eqb→eq, ltb→lt, lt→ltb, length-append, eqb-true}
 use Rattle.std.proofs.Math.Nat.{pow-le-pow_right, sub-zero}
 use Rattle.std.proofs.Math.Dec.{not_T}
 use Rattle.std.proofs.lemmas.List.{length-replicate}
-use Rattle.definitions.specs.Lists.{if◌then◌else◌, every, concat_map, records, IsIn}
+use Rattle.definitions.specs.Lists.{every, concat_map, records, IsIn}
 use Rattle.definitions.specs.Numerals.{is_digit, is_numeral, value_of, numeral}
 use Rattle.definitions.specs.Lines.{space, Field, blank, malformed, number, skip_spaces, digits_field}
 use Rattle.definitions.specs.Lines.{field_of, field_text}

@@ -1,6 +1,6 @@
 -- Laws about judging: the first test that fails answers, and an answer says that every test passed.
 -- What reading or an entry answered is taken apart by these.
-use Rattle.std.specs.Prelude.{◌≡◌, Bool, not, ◌&&◌, ℕ, ◌<◌, length, get_or}
+use Rattle.std.specs.Prelude.{if◌then◌else◌, ◌≡◌, Bool, not, ◌&&◌, ℕ, ◌<◌, length, get_or}
 use Rattle.std.proofs.Math.Path.{refl}
 use Rattle.std.proofs.Common.{◌∙◌, arith}
 use mathlib.Core.List.{List, [], ◌∷◌, ◌++◌}
@@ -8,7 +8,7 @@ use Rattle.std.proofs.Math.Bool.{true, false}
 use Rattle.std.proofs.Math.Dec.{T}
 use Rattle.definitions.specs.declared.Fault.{Fault}
 use Rattle.definitions.specs.declared.Fault.TheVariants.{Count}
-use Rattle.definitions.specs.Lists.{if◌then◌else◌, every}
+use Rattle.definitions.specs.Lists.{every}
 use Rattle.definitions.specs.Faults.{Outcome, answered, refused, refuse, Test, ◌unless◌, judge, and_then}
 use Rattle.definitions.proofs.Laws.Lists.Tests.{T_and, every-at, if-true, if-false}
 

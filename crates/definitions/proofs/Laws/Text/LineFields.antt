@@ -1,11 +1,11 @@
 -- Laws about the fields of a line: they are its numbers and then blanks, and its numbers are read from them.
 -- The idea: numbers and a count of blanks say what the fields are, so each law goes through the numbers and
 -- then the blanks. The laws about lines use them.
-use Rattle.std.specs.Prelude.{◌≡◌, refl, List, [], ◌∷◌, ◌++◌, map, Bool, true, false, ◌&&◌, ℕ, zero, suc, ◌+◌, ◌-◌, ◌*◌, ◌≤◌, T, ltb, length, replicate}
+use Rattle.std.specs.Prelude.{if◌then◌else◌, ◌≡◌, refl, List, [], ◌∷◌, ◌++◌, map, Bool, true, false, ◌&&◌, ℕ, zero, suc, ◌+◌, ◌-◌, ◌*◌, ◌≤◌, T, ltb, length, replicate}
 use Rattle.std.proofs.Common.{sym, ap, ◌∙◌, append_assoc, arith, length-append}
 use Rattle.std.proofs.Math.Option.{Option, none, some, none-ne-some}
 use Rattle.std.proofs.lemmas.List.{length-map, length-replicate, replicate-append-replicate}
-use Rattle.definitions.specs.Lists.{if◌then◌else◌, every, concat_map}
+use Rattle.definitions.specs.Lists.{every, concat_map}
 use Rattle.definitions.specs.Forms.{Range}
 use Rattle.definitions.specs.Lines.{space, Field, blank, malformed, number, field_text, is_blank, numbers_of}
 use Rattle.definitions.proofs.Laws.Lists.Tests.{if-true}

@@ -1,14 +1,14 @@
 -- Laws about lines and texts: what is written is read, and what is read is what was written.
 -- The idea: a line is its letter, its five fields and a line feed, and a text is its lines joined, so the
 -- laws about fields and about records carry over. The proofs of what reads and writes text use them.
-use Rattle.std.specs.Prelude.{◌≡◌, refl, Bool, true, false, T, eqb, take}
+use Rattle.std.specs.Prelude.{if◌then◌else◌, ◌≡◌, refl, Bool, true, false, T, eqb, take}
 use Rattle.std.proofs.Common.{sym, ap, ◌∙◌, arith, length-append, take-append-drop, drop_of_length-le, take_all, drop-cons, drop-drop, eqb-true}
 use mathlib.Core.List.{List, [], ◌∷◌, ◌++◌, append-nil}
 use Rattle.std.proofs.Math.Option.{Option, none, some, none-ne-some}
 use Prim.Native.Nat.{ℕ, ◌*◌, ◌/◌, ◌%◌, ◌≤◌}
 use Rattle.std.proofs.Math.ListN.{length, drop, length-drop}
 use Rattle.std.proofs.lemmas.List.{get_or_at}
-use Rattle.definitions.specs.Lists.{if◌then◌else◌, ◌!◌, every, concat_map, records}
+use Rattle.definitions.specs.Lists.{◌!◌, every, concat_map, records}
 use Rattle.definitions.specs.Forms.{Range, Form}
 use Rattle.definitions.specs.Lines.{line_feed, field_of, Line, form_of, numbers_of, fields_of, with_letter}
 use Rattle.definitions.specs.Lines.{line_of, line_text, lines_of}

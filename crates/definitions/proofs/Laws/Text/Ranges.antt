@@ -1,11 +1,11 @@
 -- Laws about ranges: the numbers of a line that lies in the fixed ranges of its letter, as facts.
 -- Header ranges and the numbers of an accepted book come from here.
-use Rattle.std.specs.Prelude.{◌↔◌, List, [], ◌∷◌, Bool, true, false, ◌&&◌, ℕ, zero, suc, ◌≤◌, ◌<◌, T, leb, eqb, length, get_or}
+use Rattle.std.specs.Prelude.{if◌then◌else◌, ◌↔◌, List, [], ◌∷◌, Bool, true, false, ◌&&◌, ℕ, zero, suc, ◌≤◌, ◌<◌, T, leb, eqb, length, get_or}
 use Rattle.std.proofs.Math.Option.{Option, none, some}
 use Prim.Native.Char.{Char, code}
 use Rattle.std.proofs.Common.{arith, lit<}
 use Rattle.definitions.specs.Ranges.{Within, HeaderRanges}
-use Rattle.definitions.specs.Lists.{if◌then◌else◌, ◌!◌}
+use Rattle.definitions.specs.Lists.{◌!◌}
 use Rattle.definitions.specs.Forms.{Range, Form, ◌‥◌, form_h, form_q, form_n, form_l, form_r, book_forms}
 use Rattle.definitions.specs.Lines.{Line, form_of, in_ranges, in_fixed_ranges}
 use Rattle.definitions.specs.BookLines.{BookLine, H, Q, N, L, R, book_line, is_phone}

@@ -2,7 +2,7 @@
 -- building refuses with line 0. So the line of a refusal has room in a field, which the program that prints it
 -- needs.
 -- The idea: whatever judges at a line up to `most` refuses up to there, and steps one after the other do too.
-use Rattle.std.specs.Prelude.{◌≡◌, Bool, ltb}
+use Rattle.std.specs.Prelude.{if◌then◌else◌, ◌≡◌, Bool, ltb}
 use Rattle.std.proofs.Math.Path.{refl}
 use mathlib.Core.List.{List, [], ◌∷◌}
 use Rattle.std.proofs.Math.Bool.{true, false, not}
@@ -14,7 +14,6 @@ use Rattle.definitions.specs.declared.Header.{Header}
 use Rattle.definitions.specs.declared.Fault.{Fault}
 use Rattle.definitions.specs.declared.Fault.TheVariants.{Ragged, Misprint, Orphan, Count, Crowd, Tangle}
 use Rattle.definitions.specs.declared.Refusal.{Refusal}
-use Rattle.definitions.specs.Lists.{if◌then◌else◌}
 use Rattle.definitions.specs.Faults.{Outcome, answered, refused, refuse, Test, ◌unless◌, judge, and_then}
 use Rattle.definitions.specs.Forms.{Form}
 use Rattle.definitions.specs.Lines.{Line, line_of, lines_of, whole_lines}

@@ -1,6 +1,6 @@
 -- What an answer says determines it: no fault has the number 0, and no two have the same. So a contract that says
 -- what an enum says leaves it no choice, and whoever calls the function has the enum back.
-use Rattle.std.specs.Prelude.{◌≡◌, refl, List, [], ◌∷◌, ℕ, eqb}
+use Rattle.std.specs.Prelude.{if◌then◌else◌, ◌≡◌, refl, List, [], ◌∷◌, ℕ, eqb}
 use Rattle.std.proofs.Common.{sym, ap, ◌∙◌}
 use Rattle.definitions.specs.declared.Fault.{Fault}
 use Rattle.definitions.specs.declared.Fault.TheVariants.{Ragged, Misprint, Range, Order, Backward}
@@ -9,7 +9,6 @@ use Rattle.definitions.specs.declared.Fault.TheVariants.{Foreign, Narrow, Chaine
 use Rattle.definitions.specs.declared.Fault.TheVariants.{Tangle, Short}
 use Rattle.definitions.specs.declared.Fault.TheVariants.{Utterance, State, Vocabulary}
 use Rattle.definitions.specs.declared.Refusal.{Refusal}
-use Rattle.definitions.specs.Lists.{if◌then◌else◌}
 use Rattle.definitions.specs.Faults.{number_of}
 use Rattle.definitions.specs.Said.{Said, refusal_said}
 

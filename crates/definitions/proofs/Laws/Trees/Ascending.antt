@@ -1,10 +1,10 @@
 -- The combinations of an accepted book ascend strictly by (phone, first leaf, second, third), by their node
 -- numbers. The leaves of a tree differ, so sorted they ascend strictly; combinations that take them in order
 -- differ first where the earlier takes the lesser leaf. So no two have the same phone and leaves.
-use Rattle.std.specs.Prelude.{◌≡◌, refl, ◌≢◌, List, [], ◌∷◌, ◌++◌, map, Bool, true, false, not, ℕ, zero, suc, ◌≤◌, ◌<◌, T, length, get_or}
+use Rattle.std.specs.Prelude.{if◌then◌else◌, ◌≡◌, refl, ◌≢◌, List, [], ◌∷◌, ◌++◌, map, Bool, true, false, not, ℕ, zero, suc, ◌≤◌, ◌<◌, T, length, get_or}
 use Rattle.std.proofs.Common.{sym, ap, ap₂, ◌∙◌, subst, inl, inr, append_assoc, append-nil, arith, ltb→lt, nltb→le}
 use Rattle.std.proofs.lemmas.List.{map-append}
-use Rattle.definitions.specs.Lists.{if◌then◌else◌, concat_map, up_from, IsIn, Distinct}
+use Rattle.definitions.specs.Lists.{concat_map, up_from, IsIn, Distinct}
 use Rattle.definitions.specs.Faults.{answered}
 use Rattle.definitions.specs.BookLines.{BookLine, nodes_of, root_names, roots_of}
 use Rattle.definitions.specs.BookReading.{Lent, read_book, ChildOnce}

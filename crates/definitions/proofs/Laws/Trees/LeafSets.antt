@@ -3,7 +3,7 @@
 -- one that the code promises (`leaf_reached`, and of known tables `leaf_lookup_in_table`). The idea: of a tree's
 -- leaves one admits a context, the one that the walk reaches (Demand/Trees.antt), and no node is listed twice.
 -- The width is a variable throughout.
-use Rattle.std.specs.Prelude.{◌≡◌, ◌↔◌, not, ◌&&◌, T, leb, ltb, length, take, drop}
+use Rattle.std.specs.Prelude.{if◌then◌else◌, ◌≡◌, ◌↔◌, not, ◌&&◌, T, leb, ltb, length, take, drop}
 use Rattle.std.proofs.Math.Path.{refl, sym, ap}
 use Rattle.std.proofs.Common.{◌∙◌, subst, inl, inr, arith, eqb→eq}
 use mathlib.Core.List.{List, [], ◌∷◌}
@@ -13,7 +13,7 @@ use Rattle.std.proofs.Math.Dec.{eqb, lt→ltb}
 use Rattle.definitions.specs.declared.Header.{Header}
 use Rattle.definitions.specs.declared.Node.{Node}
 use Rattle.definitions.specs.Faults.{Outcome, answered, and_then}
-use Rattle.definitions.specs.Lists.{if◌then◌else◌, ◌!◌, every, select, IsIn}
+use Rattle.definitions.specs.Lists.{◌!◌, every, select, IsIn}
 use Rattle.definitions.specs.PhoneSets.{has}
 use Rattle.definitions.specs.BookLines.{is_phone, TreeNode, Asked, Reached, past_question}
 use Rattle.definitions.specs.Tables.{Book, root_of, book_in, Tables, node_records, tables_contents}

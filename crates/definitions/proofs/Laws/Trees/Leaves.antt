@@ -1,14 +1,14 @@
 -- Laws about the leaves of a tree: what both sides of each question keep holds of every leaf, and in ascending
 -- order they are the same leaves. The choice of a combination for a window and the order of combinations use
 -- them.
-use Rattle.std.specs.Prelude.{◌≡◌, Bool, true, false}
+use Rattle.std.specs.Prelude.{if◌then◌else◌, ◌≡◌, Bool, true, false}
 use Rattle.std.proofs.Math.Path.{refl, subst}
 use Rattle.std.proofs.Common.{sym, ap, ◌∙◌, inl, inr, arith}
 use Rattle.std.proofs.Math.Logic.{⊎_elim}
 use mathlib.Core.List.{List, [], ◌∷◌, ◌++◌}
 use Prim.Native.Nat.{ℕ, zero, suc, ◌≤◌}
 use Rattle.std.proofs.Math.ListN.{length}
-use Rattle.definitions.specs.Lists.{if◌then◌else◌, select, IsIn}
+use Rattle.definitions.specs.Lists.{select, IsIn}
 use Rattle.definitions.specs.BookLines.{question, leaf, Asked}
 use Rattle.definitions.specs.Tables.{Book}
 use Rattle.definitions.specs.Lookup.{node_at}

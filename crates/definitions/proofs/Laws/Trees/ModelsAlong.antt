@@ -1,13 +1,13 @@
 -- The models that the trees give to a sequence are those that its contexts reach in the tables, and so is the number of
 -- questions that they put. Every context of a sequence of phones has 2n+1 phones, as silence is a phone, so each
 -- answer is there. Demand 3 starts from these models.
-use Rattle.std.specs.Prelude.{◌≡◌, refl, ◌↔◌, Bool, true, false, T, length}
+use Rattle.std.specs.Prelude.{if◌then◌else◌, ◌≡◌, refl, ◌↔◌, Bool, true, false, T, length}
 use Rattle.std.proofs.Common.{sym, ap₂, ◌∙◌, subst, inl, inr, arith}
 use Rattle.std.proofs.Math.Path.{ap}
 use mathlib.Core.List.{List, [], ◌∷◌, map}
 use Rattle.std.proofs.Math.Option.{Option, none, some, none-ne-some}
 use Prim.Native.Nat.{ℕ, ◌+◌, ◌<◌}
-use Rattle.definitions.specs.Lists.{if◌then◌else◌, every, map_option, concat_map, up_from, sum_of, IsIn}
+use Rattle.definitions.specs.Lists.{every, map_option, concat_map, up_from, sum_of, IsIn}
 use Rattle.definitions.specs.Faults.{answered}
 use Rattle.definitions.specs.BookLines.{BookLine, header_of, is_phone, Reached}
 use Rattle.definitions.specs.BookReading.{Lent, read_book}

@@ -1,11 +1,11 @@
 -- What the lines give to a context and a state, a leaf, its model and the questions met, is what the walk in the tables
 -- reaches. Both walks meet the same nodes: a question's class holds the context's phone when a Q line puts it there.
 -- Demand 3 replaces the lines by the tables with it.
-use Rattle.std.specs.Prelude.{◌≡◌, refl, List, [], ◌∷◌, map, Bool, true, false, ◌&&◌, ◌||◌, T, eqb, length}
+use Rattle.std.specs.Prelude.{if◌then◌else◌, ◌≡◌, refl, List, [], ◌∷◌, map, Bool, true, false, ◌&&◌, ◌||◌, T, eqb, length}
 use Rattle.std.proofs.Common.{sym, ap, ap₂, ◌∙◌, arith, eqb→eq}
 use Rattle.std.proofs.Math.Option.{Option, some}
 use Prim.Native.Nat.{ℕ, zero, suc, ◌+◌, ◌-◌, ◌≤◌, ◌<◌}
-use Rattle.definitions.specs.Lists.{if◌then◌else◌, ◌!◌, every, at_least_one, select, map_option}
+use Rattle.definitions.specs.Lists.{◌!◌, every, at_least_one, select, map_option}
 use Rattle.definitions.specs.Faults.{answered}
 use Rattle.definitions.specs.BookLines.{BookLine, header_of, is_phone, Member, members_of, TreeNode}
 use Rattle.definitions.specs.BookLines.{question, leaf, nodes_of, Asked, at_leaf, past_question}

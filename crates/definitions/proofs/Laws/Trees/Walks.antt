@@ -1,12 +1,11 @@
 -- Laws about walks: the model that is reached is the one at the leaf; no more questions are met than there are
 -- nodes; and where each child is a greater node of the list, as many steps as there are nodes are enough. So the
 -- number of steps that a walk is given is no rule of its own.
-use Rattle.std.specs.Prelude.{◌≡◌, List, Bool, true, false, length}
+use Rattle.std.specs.Prelude.{if◌then◌else◌, ◌≡◌, List, Bool, true, false, length}
 use Rattle.std.proofs.Math.Path.{refl}
 use Rattle.std.proofs.Common.{sym, subst}
 use Prim.Native.Nat.{ℕ, zero, suc, ◌+◌, ◌≤◌, ◌<◌}
 use native.Mathlib.Omega.{arith}
-use Rattle.definitions.specs.Lists.{if◌then◌else◌}
 use Rattle.definitions.specs.BookLines.{TreeNode, question, leaf, Asked, Reached, at_leaf, past_question}
 use Rattle.definitions.specs.Lookup.{node_at, model_at, answers, walk, reached, leaf_reached}
 

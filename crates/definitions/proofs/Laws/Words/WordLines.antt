@@ -1,11 +1,11 @@
 -- Laws about the lines of a word book: which lines pass their tests after those before them, and how a line is written.
 -- What accepted word books say and that known words are read again stand on them.
-use Rattle.std.specs.Prelude.{◌≡◌, refl, ◌⊎◌, ◌↔◌, List, [], ◌∷◌, Bool, true, false, ◌&&◌, ℕ, suc, ◌<◌, T, eqb}
+use Rattle.std.specs.Prelude.{if◌then◌else◌, ◌≡◌, refl, ◌⊎◌, ◌↔◌, List, [], ◌∷◌, Bool, true, false, ◌&&◌, ℕ, suc, ◌<◌, T, eqb}
 use Rattle.std.proofs.Math.Logic.{⊎_map}
 use Rattle.std.proofs.Math.Option.{none, some}
 use Prim.Native.Char.{code}
 use Rattle.std.proofs.Common.{eqb→eq, lit<}
-use Rattle.definitions.specs.Lists.{if◌then◌else◌, every}
+use Rattle.definitions.specs.Lists.{every}
 use Rattle.definitions.specs.Forms.{◌‥◌, form_v, word_forms, most_words, most_places, most_phone}
 use Rattle.definitions.specs.Lines.{Line, form_of, in_ranges, in_fixed_ranges}
 use Rattle.definitions.specs.Ranges.{Within}

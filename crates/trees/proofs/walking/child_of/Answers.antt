@@ -1,8 +1,9 @@
 -- `walking::child_of` meets its contract: the side of the answer.
+use Rattle.std.specs.Prelude.{if◌then◌else◌}
 use mathlib.Core.Path.{◌≡◌, ap, ap₂, sym, ◌∙◌}
 use mathlib.Core.Bool.{Bool, true, false}
 use Prim.Native.Nat.{ℕ}
-use Rattle.definitions.specs.Lists.{if◌then◌else◌, ◌!◌}
+use Rattle.definitions.specs.Lists.{◌!◌}
 use Rattle.definitions.specs.PhoneSets.{has}
 use Rattle.definitions.specs.Lookup.{answers}
 use Rattle.definitions.specs.Tables.{asked_of}
