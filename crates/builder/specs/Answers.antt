@@ -7,7 +7,7 @@ use Rattle.definitions.specs.BookReading.{Lent, read_book}
 use Rattle.definitions.specs.BookBuilding.{BookBuilt}
 use Rattle.definitions.specs.Arcs.{arcs_in}
 use Rattle.definitions.specs.Paths.{final_last}
-use Rattle.definitions.specs.Demand.Demand.{Demand3}
+use Rattle.definitions.specs.Demand.{Demand3}
 use Rattle.network.specs.declared.Totals.{Totals}
 use Rattle.network.specs.declared.Build.{Build}
 use Rattle.network.specs.declared.Build.TheVariants as build

@@ -1,4 +1,4 @@
--- The definitions of documents 01 and 02, the laws about them, and the theorems.
+-- The definitions of documents 01 and 02, and what the main theorems say.
 pub mod Lists
 pub mod Searching
 pub mod Faults
@@ -35,10 +35,5 @@ pub mod Meeting
 pub mod WordBooks
 pub mod Joining
 pub mod QuestionsPut
-pub mod Laws
-pub mod Examples
-pub mod Construction
-pub mod Graph
 pub mod Demand
-pub mod Spelling
-pub mod Joined
+pub mod JoinedPaths

@@ -10,8 +10,8 @@ use Rattle.definitions.specs.Arcs.{arcs_in}
 use Rattle.definitions.specs.Paths.{final_last}
 use Rattle.definitions.specs.Said.{Said, Progress, Span}
 use Rattle.definitions.specs.WordBooks.{words_in}
-use Rattle.definitions.specs.Demand.Demand.{Demand3}
-use Rattle.definitions.specs.Joined.JoinedPaths.{JoinedPaths}
+use Rattle.definitions.specs.Demand.{Demand3}
+use Rattle.definitions.specs.JoinedPaths.{JoinedPaths}
 use Rattle.trees.specs.declared.Walked.{Walked}
 use Rattle.transcripts.specs.declared.Tally.{Tally}
 use Rattle.joining.specs.declared.JoinedCounts.{JoinedCounts}

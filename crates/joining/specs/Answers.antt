@@ -9,8 +9,8 @@ use Rattle.definitions.specs.Paths.{final_last}
 use Rattle.definitions.specs.WordBooks.{words_in}
 use Rattle.definitions.specs.Growing.{Grown}
 use Rattle.definitions.specs.Joining.{Joined, JoinSpace, join, join_left}
-use Rattle.definitions.specs.Demand.Demand.{Demand3}
-use Rattle.definitions.specs.Joined.JoinedPaths.{JoinedPaths}
+use Rattle.definitions.specs.Demand.{Demand3}
+use Rattle.definitions.specs.JoinedPaths.{JoinedPaths}
 use Rattle.joining.specs.declared.Answer.{Answer}
 use Rattle.joining.specs.declared.Answer.TheVariants as joining
 use Rattle.joining.specs.declared.JoinedCounts.{JoinedCounts}

@@ -7,7 +7,7 @@ use Rattle.definitions.specs.Faults.{answered}
 use Rattle.definitions.specs.BookLines.{BookLine}
 use Rattle.definitions.specs.BookReading.{read_book}
 use Rattle.definitions.specs.Program.{program_lent}
-use Rattle.definitions.specs.Demand.Demand.{Demand3}
+use Rattle.definitions.specs.Demand.{Demand3}
 use Rattle.definitions.specs.NetworkText.{Leaves}
 
 -- Where what is printed begins with a W, the input is an accepted book, and what is printed is network text:

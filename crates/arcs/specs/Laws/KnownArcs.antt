@@ -13,11 +13,11 @@ use Rattle.definitions.specs.Lists.{◌!◌, every, records}
 use Rattle.definitions.specs.ForeignTables.{holds_only}
 use Rattle.definitions.specs.Arcs.{Arc, arc, arc_size, arc_of, arcs_in}
 use Rattle.definitions.specs.NetworkText.{is_state, arc_known, never_descending, network_known}
-use Rattle.definitions.specs.Laws.Lists.Tests.{by-test}
-use Rattle.definitions.specs.Laws.Lists.Records.{record-at, records-taken}
-use Rattle.definitions.specs.Laws.Books.AcceptedKnown.{holds-padded}
-use Rattle.definitions.specs.Laws.Networks.NetworkLines.{counts_ranged, arc_ranged}
-use Rattle.definitions.specs.Laws.Networks.KnownNetworks.{arcs-length, known-parts, known-holds}
+use Rattle.definitions.proofs.Laws.Lists.Tests.{by-test}
+use Rattle.definitions.proofs.Laws.Lists.Records.{record-at, records-taken}
+use Rattle.definitions.proofs.Laws.Books.AcceptedKnown.{holds-padded}
+use Rattle.definitions.proofs.Laws.Networks.NetworkLines.{counts_ranged, arc_ranged}
+use Rattle.definitions.proofs.Laws.Networks.KnownNetworks.{arcs-length, known-parts, known-holds}
 use Rattle.arcs.specs.Whole.{all_arcs, arc_at}
 
 -- ---- states

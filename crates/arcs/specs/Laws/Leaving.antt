@@ -15,9 +15,9 @@ use Rattle.definitions.specs.Lists.{◌!◌, select}
 use Rattle.definitions.specs.Arcs.{Arc, arc_size, arc_of, arcs_in}
 use Rattle.definitions.specs.NetworkText.{is_state, never_descending, network_known}
 use Rattle.definitions.specs.Leaving.{Part, part_of, leaving, part_handed, part_words}
-use Rattle.definitions.specs.Laws.Lists.Tests.{T_and, by-test}
-use Rattle.definitions.specs.Laws.Lists.Selected.{select-here, select-past}
-use Rattle.definitions.specs.Laws.Networks.KnownNetworks.{arcs-length}
+use Rattle.definitions.proofs.Laws.Lists.Tests.{T_and, by-test}
+use Rattle.definitions.proofs.Laws.Lists.Selected.{select-here, select-past}
+use Rattle.definitions.proofs.Laws.Networks.KnownNetworks.{arcs-length}
 use Rattle.arcs.specs.declared.Standing.TheVariants as standing
 use Rattle.arcs.specs.Standing.{standing_of}
 use Rattle.arcs.specs.Laws.KnownArcs.{arc-at, source-at, known-length, known-arcs}

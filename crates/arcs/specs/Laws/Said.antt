@@ -4,7 +4,7 @@ use Rattle.std.proofs.Common.{sym, ap, ◌∙◌}
 use Rattle.definitions.specs.Faults.{Outcome, answered, refused}
 use Rattle.definitions.specs.Leaving.{Part}
 use Rattle.definitions.specs.Said.{said_of, Span, span_of, no_span}
-use Rattle.definitions.specs.Laws.Text.Said.{told, refusal-told, said_same}
+use Rattle.definitions.proofs.Laws.Text.Said.{told, refusal-told, said_same}
 use Rattle.arcs.specs.declared.Standing.{Standing}
 use Rattle.arcs.specs.declared.Standing.TheVariants as standing
 use Rattle.arcs.specs.Standing.{standing_of, standing_said}

@@ -13,7 +13,7 @@ use Rattle.book.specs.declared.Reading.{Reading}
 use Rattle.book.specs.declared.Reading.TheVariants.{Accepted, Refused}
 use Rattle.book.specs.Answers.{reading_of, reading_said}
 use Rattle.book.specs.Taking.{Cleared, ClearedFrom, Read}
-use Rattle.definitions.specs.Laws.Lists.Lists.{clear-length, clear-itself}
+use Rattle.definitions.proofs.Laws.Lists.Lists.{clear-length, clear-itself}
 use Rattle.book.specs.Laws.Said.{reading-said}
 
 module _ {nodes classes roots plains nodes' classes' roots' plains' : List ℕ}

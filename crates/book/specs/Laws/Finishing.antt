@@ -22,11 +22,11 @@ use Rattle.book.specs.declared.Sought.TheVariants.{Node, PlainIn}
 use Rattle.book.specs.Answers.{reading_of}
 use Rattle.book.specs.Steps.{names_plain_in, sought_in, finish_of, book_taken, line_number_of}
 use Rattle.book.specs.Storing.{names_of, counts_stored}
-use Rattle.definitions.specs.Laws.Lists.Tests.{by-test}
-use Rattle.definitions.specs.Laws.Lists.Members.{in_left, in_right}
-use Rattle.definitions.specs.Laws.Text.Judging.{refused-not-answered}
-use Rattle.definitions.specs.Laws.Books.SaidLines.{line-says, boundaries-parts}
-use Rattle.definitions.specs.Laws.Books.Books.{names-judged}
+use Rattle.definitions.proofs.Laws.Lists.Tests.{by-test}
+use Rattle.definitions.proofs.Laws.Lists.Members.{in_left, in_right}
+use Rattle.definitions.proofs.Laws.Text.Judging.{refused-not-answered}
+use Rattle.definitions.proofs.Laws.Books.SaidLines.{line-says, boundaries-parts}
+use Rattle.definitions.proofs.Laws.Books.Books.{names-judged}
 use Rattle.tables.specs.Laws.Naming.{orphan-least, orphans-none, orphans-some}
 use Rattle.booklines.specs.Laws.Boundaries.{has-boundary, PlainsLow}
 use Rattle.booklines.specs.Laws.States.{enough-state, chained-state}

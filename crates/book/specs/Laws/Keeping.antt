@@ -12,14 +12,14 @@ use Rattle.definitions.specs.BookReading.{Lent, node_size, wide_enough, book_fol
 use Rattle.definitions.specs.BookReading.{within_header}
 use Rattle.booklines.specs.States.{state_of, HasStates, PhonesFit}
 use Rattle.book.specs.Storing.{HasRoom}
-use Rattle.definitions.specs.Laws.Lists.Tests.{T_and}
-use Rattle.definitions.specs.Laws.Lists.Members.{of-append, of-single}
-use Rattle.definitions.specs.Laws.Books.SaidLines.{none-says, line-says, nodes-count, header-parts, boundaries-more}
-use Rattle.definitions.specs.Laws.Books.SaidLines.{roots-more}
-use Rattle.definitions.specs.Laws.Books.LeftOut.{left-reaches, next_more, spot-below}
-use Rattle.definitions.specs.Laws.Books.Books.{Fits, node-started, test-started, roots_few, roomy}
-use Rattle.definitions.specs.Laws.Books.Accepted.{roots-fit}
-use Rattle.definitions.specs.Laws.Books.Ordered.{Ordered, ordered-none, ordered-first, ordered-more}
+use Rattle.definitions.proofs.Laws.Lists.Tests.{T_and}
+use Rattle.definitions.proofs.Laws.Lists.Members.{of-append, of-single}
+use Rattle.definitions.proofs.Laws.Books.SaidLines.{none-says, line-says, nodes-count, header-parts, boundaries-more}
+use Rattle.definitions.proofs.Laws.Books.SaidLines.{roots-more}
+use Rattle.definitions.proofs.Laws.Books.LeftOut.{left-reaches, next_more, spot-below}
+use Rattle.definitions.proofs.Laws.Books.Books.{Fits, node-started, test-started, roots_few, roomy}
+use Rattle.definitions.proofs.Laws.Books.Accepted.{roots-fit}
+use Rattle.definitions.proofs.Laws.Books.Ordered.{Ordered, ordered-none, ordered-first, ordered-more}
 use Rattle.booklines.specs.Laws.Judged.{no-header-fits}
 use Rattle.booklines.specs.Laws.Boundaries.{PlainsLow}
 use Rattle.booklines.specs.Laws.States.{boundary-started}

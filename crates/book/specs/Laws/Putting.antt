@@ -8,7 +8,7 @@ use borrow.Rule.Slice.PartMut.{put_mid}
 use Rattle.definitions.specs.Lists.{◌!◌}
 use Rattle.definitions.specs.PhoneSets.{alone}
 use Rattle.lines.specs.Putting.{put_at}
-use Rattle.definitions.specs.Laws.Matrices.PhoneSets.{alone-shifted}
+use Rattle.definitions.proofs.Laws.Matrices.PhoneSets.{alone-shifted}
 use Rattle.lines.specs.Laws.Putting.{part_length, part-put}
 
 -- a phone put into a set of the table

@@ -26,7 +26,7 @@ use Rattle.book.specs.Answers.{reading_of}
 use Rattle.book.specs.Steps.{book_taken, step_of, where_taken, finish_of}
 use Rattle.book.specs.Taking.{Ready, Endable, Cleared, Read, nodes_taken, classes_taken, roots_taken, plains_taken}
 use Rattle.book.specs.Taking.{counts_taken}
-use Rattle.definitions.specs.Laws.Text.Judging.{refused-not-answered}
+use Rattle.definitions.proofs.Laws.Text.Judging.{refused-not-answered}
 use Rattle.lines.specs.Laws.Judging.{lines_none, lines_more, lines-counted, GoesOn, goes-on-first, text-torn}
 use Rattle.lines.specs.Laws.Judging.{goes-on-more, goes-on-refused, goes-on-end}
 use Rattle.lines.specs.Laws.Texts.{lines-count}

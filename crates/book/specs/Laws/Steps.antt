@@ -13,7 +13,7 @@ use Rattle.booklines.specs.declared.State.{State}
 use Rattle.booklines.specs.States.{state_of, next_state}
 use Rattle.book.specs.declared.Step.TheVariants.{Next, Stop}
 use Rattle.book.specs.Steps.{book_taken, verdict_in, step_after, step_of}
-use Rattle.definitions.specs.Laws.Books.Books.{Fits, line-fits}
+use Rattle.definitions.proofs.Laws.Books.Books.{Fits, line-fits}
 use Rattle.lines.specs.Laws.Judging.{verdict-taken}
 use Rattle.booklines.specs.Laws.States.{tests-state, full-state, next-state}
 use Rattle.lines.specs.Laws.Judging as judging

@@ -21,20 +21,20 @@ use Rattle.lines.specs.Putting.{put_at}
 use Rattle.tables.specs.Naming.{counts_of}
 use Rattle.book.specs.Storing.{nodes_after, classes_after, roots_after, plains_after, names_in, counts_after}
 use Rattle.book.specs.Storing.{nodes_stored, classes_stored, roots_stored, plains_stored, names_of, counts_stored}
-use Rattle.definitions.specs.Laws.Lists.Tests.{T_and}
-use Rattle.definitions.specs.Laws.Lists.Lists.{concat_map-snoc, map-up_from-length, map-up_from-at, padded-length}
-use Rattle.definitions.specs.Laws.Lists.Counting.{up_from-set, up_from-same}
-use Rattle.definitions.specs.Laws.Lists.Selected.{select-here, select-past, select-append}
-use Rattle.definitions.specs.Laws.Lists.Records.{flat-length}
-use Rattle.definitions.specs.Laws.Matrices.SevenWords.{padded-column}
-use Rattle.definitions.specs.Laws.Books.Tables.{node-sized}
-use Rattle.definitions.specs.Laws.Books.SaidLines.{none-says, line-says, members-more, nodes-more, header-parts}
-use Rattle.definitions.specs.Laws.Books.SaidLines.{boundaries-more, roots-more, root-names-more, root-names-count}
-use Rattle.definitions.specs.Laws.Books.Books.{Fits, node-started, test-started, roomy}
-use Rattle.definitions.specs.Laws.Books.Accepted.{roots-fit}
-use Rattle.definitions.specs.Laws.Books.GivenWords.{plain-words-more, root-words-none, root-words-length}
-use Rattle.definitions.specs.Laws.Books.GivenWords.{root-words-more}
-use Rattle.definitions.specs.Laws.Books.Ordered.{next-unnamed}
+use Rattle.definitions.proofs.Laws.Lists.Tests.{T_and}
+use Rattle.definitions.proofs.Laws.Lists.Lists.{concat_map-snoc, map-up_from-length, map-up_from-at, padded-length}
+use Rattle.definitions.proofs.Laws.Lists.Counting.{up_from-set, up_from-same}
+use Rattle.definitions.proofs.Laws.Lists.Selected.{select-here, select-past, select-append}
+use Rattle.definitions.proofs.Laws.Lists.Records.{flat-length}
+use Rattle.definitions.proofs.Laws.Matrices.SevenWords.{padded-column}
+use Rattle.definitions.proofs.Laws.Books.Tables.{node-sized}
+use Rattle.definitions.proofs.Laws.Books.SaidLines.{none-says, line-says, members-more, nodes-more, header-parts}
+use Rattle.definitions.proofs.Laws.Books.SaidLines.{boundaries-more, roots-more, root-names-more, root-names-count}
+use Rattle.definitions.proofs.Laws.Books.Books.{Fits, node-started, test-started, roomy}
+use Rattle.definitions.proofs.Laws.Books.Accepted.{roots-fit}
+use Rattle.definitions.proofs.Laws.Books.GivenWords.{plain-words-more, root-words-none, root-words-length}
+use Rattle.definitions.proofs.Laws.Books.GivenWords.{root-words-more}
+use Rattle.definitions.proofs.Laws.Books.Ordered.{next-unnamed}
 use Rattle.lines.specs.Laws.Putting.{put-after, padded-set, padded-zeros}
 use Rattle.tables.specs.Laws.Naming.{counts-none, counts-length, counts-named, children-length}
 use Rattle.booklines.specs.Laws.Boundaries.{set_of-snoc}

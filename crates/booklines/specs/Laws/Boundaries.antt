@@ -13,11 +13,11 @@ use Rattle.definitions.specs.PhoneSets.{has, alone, set_of}
 use Rattle.definitions.specs.BookLines.{Boundary, is_boundary}
 use Rattle.definitions.specs.BookReading.{left_out, plains_plain}
 use Rattle.booklines.specs.States.{boundary_set, plain_set}
-use Rattle.definitions.specs.Laws.Lists.Tests.{T_and, same_tests, eq→eqb, by-test}
-use Rattle.definitions.specs.Laws.Lists.Members.{in_map, of_map, every_in, in-every, listed}
-use Rattle.definitions.specs.Laws.Lists.FirstWhere.{not-both}
-use Rattle.definitions.specs.Laws.Matrices.PhoneSets.{has-or, has-and, has_listed, same-members, some-member}
-use Rattle.definitions.specs.Laws.Matrices.PhoneSets.{member-nonzero}
+use Rattle.definitions.proofs.Laws.Lists.Tests.{T_and, same_tests, eq→eqb, by-test}
+use Rattle.definitions.proofs.Laws.Lists.Members.{in_map, of_map, every_in, in-every, listed}
+use Rattle.definitions.proofs.Laws.Lists.FirstWhere.{not-both}
+use Rattle.definitions.proofs.Laws.Matrices.PhoneSets.{has-or, has-and, has_listed, same-members, some-member}
+use Rattle.definitions.proofs.Laws.Matrices.PhoneSets.{member-nonzero}
 
 -- ---- one phone more
 

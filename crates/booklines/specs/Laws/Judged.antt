@@ -6,7 +6,7 @@ use Rattle.definitions.specs.BookLines.{R, no_header, root_count}
 use Rattle.definitions.specs.BookReading.{Lent, wide_enough}
 use Rattle.booklines.specs.declared.State.{State}
 use Rattle.booklines.specs.States.{follows_in}
-use Rattle.definitions.specs.Laws.Lists.Tests.{T_and}
+use Rattle.definitions.proofs.Laws.Lists.Tests.{T_and}
 
 pub no-header-fits : (lent : Lent) → wide_enough lent no_header ≡ true
 unfolding wide_enough root_count

@@ -20,11 +20,11 @@ use Rattle.booklines.specs.declared.State.{State}
 use Rattle.booklines.specs.States.{last_of, after_of, boundary_set, plain_set, state_of, follows_in, after_last_member}
 use Rattle.booklines.specs.States.{left_out_in, in_order_in, tests_in, full_in, enough_in, chained_in, with_node}
 use Rattle.booklines.specs.States.{with_boundary, with_root, next_state}
-use Rattle.definitions.specs.Laws.Lists.Tests.{T-three}
-use Rattle.definitions.specs.Laws.Books.SaidLines.{members-more, nodes-count, boundaries-more, roots-more}
-use Rattle.definitions.specs.Laws.Books.SaidLines.{header-parts, none-says, line-says}
-use Rattle.definitions.specs.Laws.Books.LeftOut.{next_more}
-use Rattle.definitions.specs.Laws.Books.Books.{node-started, test-started}
+use Rattle.definitions.proofs.Laws.Lists.Tests.{T-three}
+use Rattle.definitions.proofs.Laws.Books.SaidLines.{members-more, nodes-count, boundaries-more, roots-more}
+use Rattle.definitions.proofs.Laws.Books.SaidLines.{header-parts, none-says, line-says}
+use Rattle.definitions.proofs.Laws.Books.LeftOut.{next_more}
+use Rattle.definitions.proofs.Laws.Books.Books.{node-started, test-started}
 use Rattle.booklines.specs.Laws.Boundaries.{set_of-snoc, has-boundary, left-out-agrees, PlainsLow, sets-chained}
 use Rattle.booklines.specs.declared.Last.TheVariants as last
 

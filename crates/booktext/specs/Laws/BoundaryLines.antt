@@ -4,7 +4,7 @@ use Rattle.std.proofs.Common.{ap, ◌∙◌, add-one, arith, drop_of_length-le, 
 use Rattle.definitions.specs.Lists.{◌!◌}
 use Rattle.definitions.specs.BookLines.{B}
 use Rattle.definitions.specs.BookText.{book_line_for, boundaries_from}
-use Rattle.definitions.specs.Laws.Lists.Tests.{by-test}
+use Rattle.definitions.proofs.Laws.Lists.Tests.{by-test}
 use Rattle.booktext.specs.Parts.{boundary_lines}
 use Rattle.booktext.specs.Laws.Putting.{Next}
 

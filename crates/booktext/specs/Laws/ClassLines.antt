@@ -8,9 +8,9 @@ use Rattle.definitions.specs.Lines.{Line}
 use Rattle.definitions.specs.PhoneSets.{has}
 use Rattle.definitions.specs.BookLines.{Q}
 use Rattle.definitions.specs.BookText.{book_line_for, member_of, line_of_member, members_from, phones_in}
-use Rattle.definitions.specs.Laws.Lists.Tests.{by-test}
-use Rattle.definitions.specs.Laws.Lists.Lists.{up_from-length}
-use Rattle.definitions.specs.Laws.Lists.Selected.{select-append}
+use Rattle.definitions.proofs.Laws.Lists.Tests.{by-test}
+use Rattle.definitions.proofs.Laws.Lists.Lists.{up_from-length}
+use Rattle.definitions.proofs.Laws.Lists.Selected.{select-append}
 use Rattle.booktext.specs.Parts.{member_lines, class_lines}
 use Rattle.booktext.specs.Laws.Putting.{Next}
 

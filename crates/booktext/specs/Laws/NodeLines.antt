@@ -6,7 +6,7 @@ use Rattle.definitions.specs.BookLines.{TreeNode}
 use Rattle.definitions.specs.BookReading.{node_size}
 use Rattle.definitions.specs.Tables.{node_of, tree_node}
 use Rattle.definitions.specs.BookText.{book_line_for, lines_of_nodes}
-use Rattle.definitions.specs.Laws.Lists.Records.{read_length}
+use Rattle.definitions.proofs.Laws.Lists.Records.{read_length}
 use Rattle.tables.specs.Usable.{records_from}
 use Rattle.tables.specs.Laws.Records.{records-next, records-end}
 use Rattle.booktext.specs.Parts.{lines_at, node_lines}

@@ -8,8 +8,8 @@ use Rattle.std.proofs.Math.ListN.{drop, length-take, drop_of_length-le}
 use borrow.Author.Tests.{le-leb, lt-leb}
 use borrow.Rule.Slice.PartMut.{put_mid}
 use Rattle.definitions.specs.Lines.{Line, line_text}
-use Rattle.definitions.specs.Laws.Lists.Tests.{by-test}
-use Rattle.definitions.specs.Laws.Text.Lines.{line-length}
+use Rattle.definitions.proofs.Laws.Lists.Tests.{by-test}
+use Rattle.definitions.proofs.Laws.Text.Lines.{line-length}
 use Rattle.lines.specs.Putting.{put_at}
 use Rattle.lines.specs.Rows.{line_in}
 use Rattle.lines.specs.declared.Row.{Row}

@@ -4,7 +4,7 @@ use Rattle.std.proofs.Common.{ap, ◌∙◌, add-one, arith, drop_of_length-le, 
 use Rattle.definitions.specs.Lists.{◌!◌}
 use Rattle.definitions.specs.BookLines.{R, no_root}
 use Rattle.definitions.specs.BookText.{book_line_for, roots_listed}
-use Rattle.definitions.specs.Laws.Lists.Tests.{by-test}
+use Rattle.definitions.proofs.Laws.Lists.Tests.{by-test}
 use Rattle.booktext.specs.Parts.{root_lines}
 use Rattle.booktext.specs.Laws.Putting.{Next}
 

@@ -12,14 +12,14 @@ use Rattle.definitions.specs.BookLines.{BookLine}
 use Rattle.definitions.specs.BookReading.{Lent, wide_enough}
 use Rattle.definitions.specs.Tables.{Contents}
 use Rattle.definitions.specs.BookText.{book_line_for, lines_of_book, text_of_book}
-use Rattle.definitions.specs.Laws.Lists.Tests.{if-true}
-use Rattle.definitions.specs.Laws.Lists.Lists.{concat_map-map, padded-none, padded-length}
-use Rattle.definitions.specs.Laws.Lists.Members.{of_map, in-every}
-use Rattle.definitions.specs.Laws.Text.Lines.{line-length}
-use Rattle.definitions.specs.Laws.Text.WrittenTexts.{ranged, few, fit, text-length}
-use Rattle.definitions.specs.Laws.Books.KnownBooks.{Stated}
-use Rattle.definitions.specs.Laws.Books.WrittenBooks.{book_writer}
-use Rattle.definitions.specs.Laws.Books.BookTexts.{book-ranged}
+use Rattle.definitions.proofs.Laws.Lists.Tests.{if-true}
+use Rattle.definitions.proofs.Laws.Lists.Lists.{concat_map-map, padded-none, padded-length}
+use Rattle.definitions.proofs.Laws.Lists.Members.{of_map, in-every}
+use Rattle.definitions.proofs.Laws.Text.Lines.{line-length}
+use Rattle.definitions.proofs.Laws.Text.WrittenTexts.{ranged, few, fit, text-length}
+use Rattle.definitions.proofs.Laws.Books.KnownBooks.{Stated}
+use Rattle.definitions.proofs.Laws.Books.WrittenBooks.{book_writer}
+use Rattle.definitions.proofs.Laws.Books.BookTexts.{book-ranged}
 use Rattle.lines.specs.Putting.{put_at}
 use Rattle.lines.specs.Laws.Putting.{put-after}
 use Rattle.booktext.specs.Putting.{line_fits, put_line, put_lines, Put}

@@ -16,8 +16,8 @@ use Rattle.definitions.specs.BookBuilding.{BookBuilt, build_read, build_book, ta
 use Rattle.definitions.specs.Said.{said_of, no_progress, book_progress}
 use Rattle.definitions.specs.Growing.{finished}
 use Rattle.definitions.specs.Connecting.{Network, Built}
-use Rattle.definitions.specs.Demand.Demand.{demand3}
-use Rattle.definitions.specs.Demand.Endings.{finished-final}
+use Rattle.definitions.proofs.Demand.Demand.{demand3}
+use Rattle.definitions.proofs.Demand.Endings.{finished-final}
 use Rattle.book.specs.declared.Reading.{Reading}
 use Rattle.book.specs.declared.Reading.TheVariants as reading
 use Rattle.book.specs.Answers.{reading_of, reading_said}

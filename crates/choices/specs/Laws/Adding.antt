@@ -12,9 +12,9 @@ use Rattle.definitions.specs.Lists.{◌!◌, concat_map, cleared, padded}
 use Rattle.definitions.specs.Matrices.{most_columns, matrix_size}
 use Rattle.definitions.specs.declared.Fault.TheVariants.{Choices}
 use Rattle.definitions.specs.Combinations.{Combination, combination_size, combination_words, combination_room}
-use Rattle.definitions.specs.Laws.Lists.Lists.{drop-cleared, padded-length}
-use Rattle.definitions.specs.Laws.Lists.Records.{record-within}
-use Rattle.definitions.specs.Laws.Matrices.Sizes.{words-few, value-record}
+use Rattle.definitions.proofs.Laws.Lists.Lists.{drop-cleared, padded-length}
+use Rattle.definitions.proofs.Laws.Lists.Records.{record-within}
+use Rattle.definitions.proofs.Laws.Matrices.Sizes.{words-few, value-record}
 use Rattle.matrix.specs.Shapes.{width_of}
 use Rattle.matrix.specs.Laws.Widths.{width-taken}
 use Rattle.matrix.specs.Laws.Words.{after-number}

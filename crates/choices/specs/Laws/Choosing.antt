@@ -16,10 +16,10 @@ use Rattle.definitions.specs.Lists.{every, concat_map, cleared, padded}
 use Rattle.definitions.specs.Matrices.{Matrix, matrix_size, valid, meet}
 use Rattle.definitions.specs.declared.Fault.{Fault}
 use Rattle.definitions.specs.Combinations.{Leaf, Combination, choose}
-use Rattle.definitions.specs.Laws.Lists.Tests.{by-test, if-true}
-use Rattle.definitions.specs.Laws.Lists.Lists.{concat_map-append, concat_map-snoc, drop-cleared}
-use Rattle.definitions.specs.Laws.Lists.Members.{in-at}
-use Rattle.definitions.specs.Laws.Matrices.Matrices.{meet-length}
+use Rattle.definitions.proofs.Laws.Lists.Tests.{by-test, if-true}
+use Rattle.definitions.proofs.Laws.Lists.Lists.{concat_map-append, concat_map-snoc, drop-cleared}
+use Rattle.definitions.proofs.Laws.Lists.Members.{in-at}
+use Rattle.definitions.proofs.Laws.Matrices.Matrices.{meet-length}
 use Rattle.matrix.specs.Laws.Widths.{width-taken, met-matrix, met-width}
 use Rattle.leafsets.specs.Leaves.{leaves_in, leaf_size}
 use Rattle.choices.specs.declared.Choice.{Choice}

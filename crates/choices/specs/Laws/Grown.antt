@@ -15,10 +15,10 @@ use Rattle.definitions.specs.Lists.{concat_map, cleared, padded}
 use Rattle.definitions.specs.Matrices.{Matrix, matrix_size, matrix_record, valid, meet}
 use Rattle.definitions.specs.Combinations.{Leaf, Combination, choose, combination_size, combination_words}
 use Rattle.definitions.specs.Combinations.{combination_room}
-use Rattle.definitions.specs.Laws.Text.Judging.{refused-not-answered}
-use Rattle.definitions.specs.Laws.Lists.Tests.{by-test}
-use Rattle.definitions.specs.Laws.Lists.Lists.{concat_map-append, padded-length, padded-take}
-use Rattle.definitions.specs.Laws.Lists.Records.{records-within}
+use Rattle.definitions.proofs.Laws.Text.Judging.{refused-not-answered}
+use Rattle.definitions.proofs.Laws.Lists.Tests.{by-test}
+use Rattle.definitions.proofs.Laws.Lists.Lists.{concat_map-append, padded-length, padded-take}
+use Rattle.definitions.proofs.Laws.Lists.Records.{records-within}
 use Rattle.choices.specs.declared.Adding.{Adding}
 use Rattle.choices.specs.declared.Adding.TheVariants as adding
 use Rattle.choices.specs.Space.{Holding, added_in, adding_of, Added}

@@ -11,10 +11,10 @@ use Rattle.std.proofs.Math.Seq.{get_or-drop, get_or-take}
 use Rattle.definitions.specs.Lists.{◌!◌, concat_map, records, IsIn}
 use Rattle.definitions.specs.Matrices.{Matrix, most_columns, matrix_words}
 use Rattle.definitions.specs.Combinations.{Leaf}
-use Rattle.definitions.specs.Laws.Lists.Lists.{concat_map-map, map_at, drop-take}
-use Rattle.definitions.specs.Laws.Lists.Records.{records-length, record-at, record-again}
-use Rattle.definitions.specs.Laws.Lists.Members.{place_of}
-use Rattle.definitions.specs.Laws.Matrices.SevenWords.{words-length}
+use Rattle.definitions.proofs.Laws.Lists.Lists.{concat_map-map, map_at, drop-take}
+use Rattle.definitions.proofs.Laws.Lists.Records.{records-length, record-at, record-again}
+use Rattle.definitions.proofs.Laws.Lists.Members.{place_of}
+use Rattle.definitions.proofs.Laws.Matrices.SevenWords.{words-length}
 use Rattle.leafsets.specs.Leaves.{leaf_size, leaf_words, leaf_in, leaves_in, IsList}
 use Rattle.choices.specs.Choices.{no_leaf}
 

@@ -9,12 +9,12 @@ use Rattle.std.proofs.Math.ListN.{take}
 use Rattle.definitions.specs.Lists.{concat_map, up_from}
 use Rattle.definitions.specs.Tables.{Book}
 use Rattle.definitions.specs.Combinations.{Leaf, leaves_of}
-use Rattle.definitions.specs.Laws.Lists.Tests.{by-test}
-use Rattle.definitions.specs.Laws.Lists.Members.{map_back}
-use Rattle.definitions.specs.Laws.Matrices.Matrices.{root-length}
-use Rattle.definitions.specs.Laws.Matrices.SevenWords.{words-length, words_take}
-use Rattle.definitions.specs.Laws.Lists.Records.{written_all}
-use Rattle.definitions.specs.Laws.Trees.LeafMatrices.{leaf-inside}
+use Rattle.definitions.proofs.Laws.Lists.Tests.{by-test}
+use Rattle.definitions.proofs.Laws.Lists.Members.{map_back}
+use Rattle.definitions.proofs.Laws.Matrices.Matrices.{root-length}
+use Rattle.definitions.proofs.Laws.Matrices.SevenWords.{words-length, words_take}
+use Rattle.definitions.proofs.Laws.Lists.Records.{written_all}
+use Rattle.definitions.proofs.Laws.Trees.LeafMatrices.{leaf-inside}
 use Rattle.matrix.specs.Shapes.{width_of}
 use Rattle.leafsets.specs.Leaves.{leaf_size, leaf_words, leaves_for, leaf_in, leaves_in, IsList}
 use Rattle.choices.specs.Laws.LeafLists.{Wide}

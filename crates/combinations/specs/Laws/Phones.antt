@@ -12,11 +12,11 @@ use Rattle.definitions.specs.Lists.{concat_map, up_from, cleared, padded}
 use Rattle.definitions.specs.Matrices.{root_matrix}
 use Rattle.definitions.specs.Tables.{Book}
 use Rattle.definitions.specs.Combinations.{Combination, combinations_of, combinations, combination_room, leaves_of}
-use Rattle.definitions.specs.Laws.Text.Judging.{refused-not-answered}
-use Rattle.definitions.specs.Laws.Lists.Lists.{concat_map-append, concat_map-snoc, up_from-parts, up_from-snoc}
-use Rattle.definitions.specs.Laws.Lists.Lists.{map-up_from-length, padded-length}
-use Rattle.definitions.specs.Laws.Matrices.Sizes.{columns-held}
-use Rattle.definitions.specs.Laws.Matrices.Matrices.{root-length}
+use Rattle.definitions.proofs.Laws.Text.Judging.{refused-not-answered}
+use Rattle.definitions.proofs.Laws.Lists.Lists.{concat_map-append, concat_map-snoc, up_from-parts, up_from-snoc}
+use Rattle.definitions.proofs.Laws.Lists.Lists.{map-up_from-length, padded-length}
+use Rattle.definitions.proofs.Laws.Matrices.Sizes.{columns-held}
+use Rattle.definitions.proofs.Laws.Matrices.Matrices.{root-length}
 use Rattle.choices.specs.declared.Adding.{Adding}
 use Rattle.choices.specs.declared.Adding.TheVariants as adding
 use Rattle.choices.specs.Space.{Holding, Added}

@@ -8,9 +8,9 @@ use Rattle.definitions.specs.PhoneSets.{has}
 use Rattle.definitions.specs.Matrices.{Matrix, matrix_words, root_matrix, valid}
 use Rattle.definitions.specs.Tables.{Book}
 use Rattle.definitions.specs.Combinations.{Leaf, combinations_of}
-use Rattle.definitions.specs.Laws.Lists.Tests.{by-test}
-use Rattle.definitions.specs.Laws.Matrices.PhoneSets.{has-alone, has_all}
-use Rattle.definitions.specs.Laws.Matrices.Matrices.{root-column, root-other, root-length, valid-columns}
+use Rattle.definitions.proofs.Laws.Lists.Tests.{by-test}
+use Rattle.definitions.proofs.Laws.Matrices.PhoneSets.{has-alone, has_all}
+use Rattle.definitions.proofs.Laws.Matrices.Matrices.{root-column, root-other, root-length, valid-columns}
 use Rattle.matrix.specs.Laws.Widths.{matrix-back, has_width}
 use Rattle.matrix.specs.declared.Matrix as shaped
 use Rattle.matrix.specs.Shapes.{width_of}

@@ -5,9 +5,9 @@ use Rattle.std.proofs.lemmas.List.{length-map}
 use Rattle.std.proofs.Math.ListN.{get_or-append, get_or-map}
 use Rattle.definitions.specs.Lists.{◌!◌, concat_map, padded}
 use Rattle.definitions.specs.Arcs.{Arc, arc_size, arc_of, arc_words, arcs_in}
-use Rattle.definitions.specs.Laws.Lists.Lists.{concat_map-snoc, padded-length, part_at}
-use Rattle.definitions.specs.Laws.Networks.KnownNetworks.{arcs-length}
-use Rattle.definitions.specs.Laws.Lists.Records.{flat-length, arc-sized, arcs-read}
+use Rattle.definitions.proofs.Laws.Lists.Lists.{concat_map-snoc, padded-length, part_at}
+use Rattle.definitions.proofs.Laws.Networks.KnownNetworks.{arcs-length}
+use Rattle.definitions.proofs.Laws.Lists.Records.{flat-length, arc-sized, arcs-read}
 use Rattle.lines.specs.Putting.{put_at}
 use Rattle.lines.specs.Laws.Putting.{put-after}
 use Rattle.arcs.specs.Laws.KnownArcs.{arc-at}

@@ -13,8 +13,8 @@ use Rattle.definitions.specs.Combinations.{Combination}
 use Rattle.definitions.specs.Metastates.{Metastate}
 use Rattle.definitions.specs.Growing.{Event, plain, Room, add_arc, perform, perform_all}
 use Rattle.definitions.specs.Connecting.{Network, machine_of}
-use Rattle.definitions.specs.Laws.Lists.Tests.{by-test}
-use Rattle.definitions.specs.Laws.Networks.Limits.{with_arc, no-room-arc}
+use Rattle.definitions.proofs.Laws.Lists.Tests.{by-test}
+use Rattle.definitions.proofs.Laws.Networks.Limits.{with_arc, no-room-arc}
 use Rattle.growing.specs.Laws.KeptMore.{with_arcs}
 
 module _ (book : Book) (combinations : List Combination) (room : Room) where

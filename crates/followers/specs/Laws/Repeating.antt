@@ -23,11 +23,11 @@ use Rattle.definitions.specs.Metastates.{Metastate, metastate_size, followers_fr
 use Rattle.definitions.specs.Building.{room_in}
 use Rattle.definitions.specs.Growing.{plain, enter, Room, perform_all}
 use Rattle.definitions.specs.Connecting.{Network, no_metastate, machine_of}
-use Rattle.definitions.specs.Construction.Performing.{Performed, all-performed, event_arc}
-use Rattle.definitions.specs.Laws.Lists.Tests.{by-test}
-use Rattle.definitions.specs.Laws.Text.Judging.{refused-not-answered}
-use Rattle.definitions.specs.Laws.Lists.Lists.{same_lists}
-use Rattle.definitions.specs.Laws.Networks.Metastates.{metastates-told}
+use Rattle.definitions.proofs.Construction.Performing.{Performed, all-performed, event_arc}
+use Rattle.definitions.proofs.Laws.Lists.Tests.{by-test}
+use Rattle.definitions.proofs.Laws.Text.Judging.{refused-not-answered}
+use Rattle.definitions.proofs.Laws.Lists.Lists.{same_lists}
+use Rattle.definitions.proofs.Laws.Networks.Metastates.{metastates-told}
 use Rattle.tables.specs.Usable.{book_with}
 use Rattle.matrix.specs.Shapes.{matrix_in, shifted_words}
 use Rattle.matrix.specs.Words.{first_seven}

@@ -17,15 +17,15 @@ use Rattle.definitions.specs.Arcs.{Arc, last_state}
 use Rattle.definitions.specs.Metastates.{Metastate, followers, same_metastate}
 use Rattle.definitions.specs.Growing.{plain, enter, Room, add_arc, add_both, perform, perform_all}
 use Rattle.definitions.specs.Connecting.{rules_of, arc_into, Network, no_metastate, machine_of}
-use Rattle.definitions.specs.Laws.Lists.Tests.{by-test}
-use Rattle.definitions.specs.Laws.Networks.Limits.{with_arc}
-use Rattle.definitions.specs.Laws.Lists.Members.{in_left}
-use Rattle.definitions.specs.Laws.Lists.Places.{place-stays}
-use Rattle.definitions.specs.Construction.Table.{place_known}
-use Rattle.definitions.specs.Construction.Performing.{Performed, all-performed}
-use Rattle.definitions.specs.Construction.Turning.{entered-enter}
-use Rattle.definitions.specs.Construction.Finished.{enter-arcs}
-use Rattle.definitions.specs.Laws.Networks.Metastates.{metastates-told}
+use Rattle.definitions.proofs.Laws.Lists.Tests.{by-test}
+use Rattle.definitions.proofs.Laws.Networks.Limits.{with_arc}
+use Rattle.definitions.proofs.Laws.Lists.Members.{in_left}
+use Rattle.definitions.proofs.Laws.Lists.Places.{place-stays}
+use Rattle.definitions.proofs.Construction.Table.{place_known}
+use Rattle.definitions.proofs.Construction.Performing.{Performed, all-performed}
+use Rattle.definitions.proofs.Construction.Turning.{entered-enter}
+use Rattle.definitions.proofs.Construction.Finished.{enter-arcs}
+use Rattle.definitions.proofs.Laws.Networks.Metastates.{metastates-told}
 use Rattle.followers.specs.Spans.{leaving_from, span_size, SlotWithin, place_in, first_in, end_in, noted_in}
 use Rattle.followers.specs.Spans.{followers_at, arcs_to, IsSpan, Spanned}
 

@@ -9,8 +9,8 @@ use Rattle.definitions.specs.Combinations.{Combination}
 use Rattle.definitions.specs.Metastates.{Metastate, metastate_size}
 use Rattle.definitions.specs.Connecting.{Network, no_metastate}
 use Rattle.definitions.specs.Ranges.{InRange}
-use Rattle.definitions.specs.Laws.Matrices.Matrices.{shift-length}
-use Rattle.definitions.specs.Laws.Books.AcceptedKnown.{header-ranges}
+use Rattle.definitions.proofs.Laws.Matrices.Matrices.{shift-length}
+use Rattle.definitions.proofs.Laws.Books.AcceptedKnown.{header-ranges}
 use Rattle.matrix.specs.Shapes.{width_of, matrix_in, HasWidth, shifted_words}
 use Rattle.matrix.specs.Laws.Shapes.{shift-words}
 use Rattle.matrix.specs.Laws.Widths.{matrix-back, has_width}

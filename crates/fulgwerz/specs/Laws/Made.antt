@@ -6,7 +6,7 @@ use Rattle.definitions.specs.declared.Counts.{Counts}
 use Rattle.definitions.specs.declared.Refusal.{Refusal}
 use Rattle.definitions.specs.Faults.{number_of}
 use Rattle.definitions.specs.Lists.{if◌then◌else◌}
-use Rattle.definitions.specs.Laws.Text.Said.{told, refusal-told}
+use Rattle.definitions.proofs.Laws.Text.Said.{told, refusal-told}
 use Rattle.network.specs.declared.Build.{Build}
 use Rattle.network.specs.declared.Build.TheVariants as build
 use Rattle.network.specs.Answers.{build_said}

@@ -6,13 +6,13 @@ use Rattle.std.proofs.Math.Option.{none, some}
 use Rattle.definitions.specs.declared.Fault.TheVariants.{Crowd}
 use Rattle.definitions.specs.Faults.{refuse, and_then}
 use Rattle.definitions.specs.Growing.{Grown, Machine, enter, place_from, Room, add_arc, add_element, add_both, perform}
-use Rattle.definitions.specs.Laws.Lists.Places.{place_at}
-use Rattle.definitions.specs.Construction.Table.{place_known, place_none}
-use Rattle.definitions.specs.Laws.Lists.Tests.{Tells}
-use Rattle.definitions.specs.Laws.Text.Judging.{AllPass, judge-passing}
+use Rattle.definitions.proofs.Laws.Lists.Places.{place_at}
+use Rattle.definitions.proofs.Construction.Table.{place_known, place_none}
+use Rattle.definitions.proofs.Laws.Lists.Tests.{Tells}
+use Rattle.definitions.proofs.Laws.Text.Judging.{AllPass, judge-passing}
 use Rattle.definitions.specs.Lists.{IsIn, Distinct, place_of}
-use Rattle.definitions.specs.Laws.Lists.Members.{in-at}
-use Rattle.definitions.specs.Laws.Networks.Limits.{with_element, element-first}
+use Rattle.definitions.proofs.Laws.Lists.Members.{in-at}
+use Rattle.definitions.proofs.Laws.Networks.Limits.{with_element, element-first}
 use Rattle.growing.specs.Chains.{Code, Found}
 
 module _ {X E : Type 0} (code : Code X) (m : Machine X E) (tells : Tells m.same) (room : Room) (net : Grown X)

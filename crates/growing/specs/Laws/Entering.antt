@@ -4,9 +4,9 @@ use Rattle.std.specs.Prelude.{◌≡◌, refl, List, [], ◌∷◌, ◌++◌, �
 use Rattle.std.proofs.Common.{sym, ap, ◌∙◌, subst, arith, length-append}
 use Rattle.definitions.specs.declared.Fault.TheVariants.{Crowd}
 use Rattle.definitions.specs.Growing.{Grown, Machine, enter, Room, add_arc, perform}
-use Rattle.definitions.specs.Laws.Lists.Tests.{Tells}
-use Rattle.definitions.specs.Laws.Text.Judging.{AllPass}
-use Rattle.definitions.specs.Laws.Networks.Limits.{with_element}
+use Rattle.definitions.proofs.Laws.Lists.Tests.{Tells}
+use Rattle.definitions.proofs.Laws.Text.Judging.{AllPass}
+use Rattle.definitions.proofs.Laws.Networks.Limits.{with_element}
 use Rattle.growing.specs.declared.Sizes.{Sizes}
 use Rattle.growing.specs.declared.Step.{Step}
 use Rattle.growing.specs.declared.Step.TheVariants as step

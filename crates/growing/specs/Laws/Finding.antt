@@ -3,10 +3,10 @@
 use Rattle.std.specs.Prelude.{◌≡◌, List, [], map, Bool, true, false, ℕ, suc, ◌+◌, ◌-◌, ◌*◌, ◌≤◌, ◌<◌, T, ltb, length, take, drop, get_or}
 use Rattle.std.proofs.Common.{sym, ap, ◌∙◌, subst, append-nil, mul-suc, mul-le-mul_left, arith, ltb-true, ltb-false}
 use Rattle.definitions.specs.Lists.{◌!◌, records, same}
-use Rattle.definitions.specs.Laws.Lists.Tests.{by-test}
-use Rattle.definitions.specs.Laws.Lists.Lists.{same_lists, same_self, map_at}
-use Rattle.definitions.specs.Laws.Lists.Members.{in-at, place_of}
-use Rattle.definitions.specs.Laws.Lists.Records.{record-at, written-length, written-records}
+use Rattle.definitions.proofs.Laws.Lists.Tests.{by-test}
+use Rattle.definitions.proofs.Laws.Lists.Lists.{same_lists, same_self, map_at}
+use Rattle.definitions.proofs.Laws.Lists.Members.{in-at, place_of}
+use Rattle.definitions.proofs.Laws.Lists.Records.{record-at, written-length, written-records}
 use Rattle.growing.specs.Chains.{Code, Coded, Flat, head_of, head_at, Latest, Linked, Found}
 use Rattle.growing.specs.Laws.Heads.{head-below}
 

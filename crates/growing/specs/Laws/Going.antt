@@ -9,7 +9,7 @@ use Rattle.definitions.specs.Faults.{Outcome, answered, refused, and_then}
 use Rattle.definitions.specs.Arcs.{arc_size}
 use Rattle.definitions.specs.Growing.{Grown, Room}
 use Rattle.definitions.specs.Building.{most_arcs}
-use Rattle.definitions.specs.Laws.Text.Judging.{refused-not-answered}
+use Rattle.definitions.proofs.Laws.Text.Judging.{refused-not-answered}
 use Rattle.growing.specs.declared.Sizes.{Sizes}
 use Rattle.growing.specs.declared.Step.{Step}
 use Rattle.growing.specs.declared.Step.TheVariants as step

@@ -10,10 +10,10 @@ use Rattle.std.proofs.lemmas.List.{length-replicate}
 use Rattle.definitions.specs.Lists.{concat_map, records, cleared, padded, IsIn}
 use Rattle.definitions.specs.Arcs.{arc_size, arcs_in}
 use Rattle.definitions.specs.Growing.{Grown, Room}
-use Rattle.definitions.specs.Laws.Lists.Lists.{padded-none, padded-take, map_at}
-use Rattle.definitions.specs.Laws.Lists.Members.{map_back}
-use Rattle.definitions.specs.Laws.Lists.Records.{record-at, written-length, written-records, written_all}
-use Rattle.definitions.specs.Laws.Lists.Records.{arcs-read}
+use Rattle.definitions.proofs.Laws.Lists.Lists.{padded-none, padded-take, map_at}
+use Rattle.definitions.proofs.Laws.Lists.Members.{map_back}
+use Rattle.definitions.proofs.Laws.Lists.Records.{record-at, written-length, written-records, written_all}
+use Rattle.definitions.proofs.Laws.Lists.Records.{arcs-read}
 use Rattle.growing.specs.Chains.{Code, Coded, elements_of, elements_in, Flat, heads_in, Linked}
 use Rattle.growing.specs.Kept.{grown_held, Kept}
 use Rattle.growing.specs.Laws.Linking.{no-chains}

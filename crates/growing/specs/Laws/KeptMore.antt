@@ -9,11 +9,11 @@ use Rattle.std.proofs.Math.Seq.{drop-append-add}
 use Rattle.definitions.specs.Lists.{concat_map, cleared, padded, IsIn}
 use Rattle.definitions.specs.Arcs.{Arc, arc_size, arc_words}
 use Rattle.definitions.specs.Growing.{Grown, Room}
-use Rattle.definitions.specs.Laws.Lists.Lists.{concat_map-append, concat_map-snoc, drop-cleared, padded-take}
-use Rattle.definitions.specs.Laws.Lists.Lists.{padded-length}
-use Rattle.definitions.specs.Laws.Lists.Members.{of-append, of-single, distinct_more}
-use Rattle.definitions.specs.Laws.Networks.Limits.{with_element}
-use Rattle.definitions.specs.Laws.Lists.Records.{flat-length, written-length, arc-sized}
+use Rattle.definitions.proofs.Laws.Lists.Lists.{concat_map-append, concat_map-snoc, drop-cleared, padded-take}
+use Rattle.definitions.proofs.Laws.Lists.Lists.{padded-length}
+use Rattle.definitions.proofs.Laws.Lists.Members.{of-append, of-single, distinct_more}
+use Rattle.definitions.proofs.Laws.Networks.Limits.{with_element}
+use Rattle.definitions.proofs.Laws.Lists.Records.{flat-length, written-length, arc-sized}
 use Rattle.growing.specs.Chains.{Code, Coded, heads_in, Linked, linked_to}
 use Rattle.growing.specs.Kept.{Kept}
 use Rattle.growing.specs.Laws.Linking.{chained-length, linked-more}

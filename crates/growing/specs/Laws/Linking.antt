@@ -6,7 +6,7 @@ use Rattle.std.proofs.lemmas.List.{length-replicate, get_or-replicate, get_or_at
 use Rattle.std.proofs.Math.ListN.{get_or-append}
 use Rattle.std.proofs.lemmas.Bool.{eqb-false}
 use Rattle.definitions.specs.Lists.{◌!◌, cleared}
-use Rattle.definitions.specs.Laws.Lists.Tests.{by-test}
+use Rattle.definitions.proofs.Laws.Lists.Tests.{by-test}
 use Rattle.growing.specs.Chains.{Code, head_of, head_at, Latest, Linked, linked_to}
 use Rattle.growing.specs.Laws.Heads.{head-below}
 

@@ -14,11 +14,11 @@ use Rattle.definitions.specs.Faults.{Outcome, answered, refused, refuse}
 use Rattle.definitions.specs.Lists.{concat_map}
 use Rattle.definitions.specs.Arcs.{Arc, arc_size, arc_words}
 use Rattle.definitions.specs.Growing.{Grown, Room, add_arc}
-use Rattle.definitions.specs.Laws.Lists.Tests.{by-test}
-use Rattle.definitions.specs.Laws.Lists.Records.{read_length}
-use Rattle.definitions.specs.Laws.Text.Judging.{refused-not-answered}
-use Rattle.definitions.specs.Laws.Networks.KnownNetworks.{arcs-length}
-use Rattle.definitions.specs.Laws.Networks.Limits.{with_arc}
+use Rattle.definitions.proofs.Laws.Lists.Tests.{by-test}
+use Rattle.definitions.proofs.Laws.Lists.Records.{read_length}
+use Rattle.definitions.proofs.Laws.Text.Judging.{refused-not-answered}
+use Rattle.definitions.proofs.Laws.Networks.KnownNetworks.{arcs-length}
+use Rattle.definitions.proofs.Laws.Networks.Limits.{with_arc}
 use Rattle.growing.specs.declared.Sizes.{Sizes}
 use Rattle.growing.specs.declared.Step.{Step}
 use Rattle.growing.specs.declared.Step.TheVariants as step

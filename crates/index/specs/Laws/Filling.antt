@@ -9,9 +9,9 @@ use Rattle.definitions.specs.declared.Header.{Header}
 use Rattle.definitions.specs.Lists.{if◌then◌else◌, ◌!◌}
 use Rattle.definitions.specs.PhoneSets.{has, alone}
 use Rattle.definitions.specs.Combinations.{Combination}
-use Rattle.definitions.specs.Laws.Lists.Tests.{by-test, T-or}
-use Rattle.definitions.specs.Laws.Matrices.PhoneSets.{has-or, has-alone}
-use Rattle.definitions.specs.Laws.Books.AcceptedKnown.{header-ranges}
+use Rattle.definitions.proofs.Laws.Lists.Tests.{by-test, T-or}
+use Rattle.definitions.proofs.Laws.Matrices.PhoneSets.{has-or, has-alone}
+use Rattle.definitions.proofs.Laws.Books.AcceptedKnown.{header-ranges}
 use Rattle.index.specs.Combinations.{combinations_in, Usable, EndsAt, Ending}
 use Rattle.index.specs.RecordWords.{count_in, column_word}
 use Rattle.index.specs.Indexing.{ends_size, block_size, blocks_in, row_at, farthest, NearRow, IsSet, IsMarked}

@@ -11,11 +11,11 @@ use Rattle.definitions.specs.Matrices.{Matrix, most_columns, matrix_words, valid
 use Rattle.definitions.specs.Meeting.{met_words}
 use Rattle.definitions.specs.Combinations.{Combination}
 use Rattle.definitions.specs.Metastates.{Metastate, no_combination, followers_from, numbered}
-use Rattle.definitions.specs.Laws.Lists.Tests.{T_and, by-test}
-use Rattle.definitions.specs.Laws.Matrices.Matrices.{meet-has, meet-length, valid-columns}
+use Rattle.definitions.proofs.Laws.Lists.Tests.{T_and, by-test}
+use Rattle.definitions.proofs.Laws.Matrices.Matrices.{meet-has, meet-length, valid-columns}
 use Rattle.definitions.specs.Searching.{NoneFrom}
-use Rattle.definitions.specs.Laws.Lists.Searching.{none-one}
-use Rattle.definitions.specs.Laws.Books.AcceptedKnown.{header-ranges}
+use Rattle.definitions.proofs.Laws.Lists.Searching.{none-one}
+use Rattle.definitions.proofs.Laws.Books.AcceptedKnown.{header-ranges}
 use Rattle.matrix.specs.Shapes.{width_of, matrix_in, HasWidth}
 use Rattle.matrix.specs.Laws.Meeting.{met-test, met-whole}
 use Rattle.matrix.specs.Laws.Widths.{width-taken, met-matrix, met-width}

@@ -17,12 +17,12 @@ use Rattle.definitions.specs.Lookup.{model_at}
 use Rattle.definitions.specs.Combinations.{Combination, combination_size, combination_words}
 use Rattle.definitions.specs.Metastates.{Metastate, no_combination, combination_of, models_of, numbered}
 use Rattle.definitions.specs.Ranges.{InRange}
-use Rattle.definitions.specs.Laws.Lists.Lists.{concat_map-map, padded-length, map_at}
-use Rattle.definitions.specs.Laws.Lists.Records.{record-within, records-length, record-at, record-again}
-use Rattle.definitions.specs.Laws.Matrices.SevenWords.{padded-column}
-use Rattle.definitions.specs.Laws.Matrices.Sizes.{columns-held}
-use Rattle.definitions.specs.Laws.Trees.Walks.{model-at}
-use Rattle.definitions.specs.Laws.Books.AcceptedKnown.{header-ranges}
+use Rattle.definitions.proofs.Laws.Lists.Lists.{concat_map-map, padded-length, map_at}
+use Rattle.definitions.proofs.Laws.Lists.Records.{record-within, records-length, record-at, record-again}
+use Rattle.definitions.proofs.Laws.Matrices.SevenWords.{padded-column}
+use Rattle.definitions.proofs.Laws.Matrices.Sizes.{columns-held}
+use Rattle.definitions.proofs.Laws.Trees.Walks.{model-at}
+use Rattle.definitions.proofs.Laws.Books.AcceptedKnown.{header-ranges}
 use Rattle.tables.specs.Usable.{book_with}
 use Rattle.tables.specs.Laws.KnownTables.{node-is}
 use Rattle.matrix.specs.Shapes.{matrix_in}

@@ -9,12 +9,12 @@ use Rattle.definitions.specs.Lists.{if◌then◌else◌, ◌!◌}
 use Rattle.definitions.specs.PhoneSets.{has, alone, all_phones}
 use Rattle.definitions.specs.Matrices.{Matrix, most_columns, matrix_words, meet}
 use Rattle.definitions.specs.Combinations.{Combination, combination_size}
-use Rattle.definitions.specs.Laws.Lists.Tests.{by-test, T_and}
-use Rattle.definitions.specs.Laws.Matrices.PhoneSets.{has-and, has-alone, has_all, member-nonzero}
-use Rattle.definitions.specs.Laws.Matrices.Matrices.{valid-columns, meet-has, meet-length}
+use Rattle.definitions.proofs.Laws.Lists.Tests.{by-test, T_and}
+use Rattle.definitions.proofs.Laws.Matrices.PhoneSets.{has-and, has-alone, has_all, member-nonzero}
+use Rattle.definitions.proofs.Laws.Matrices.Matrices.{valid-columns, meet-has, meet-length}
 use Rattle.definitions.specs.Metastates.{numbered}
 use Rattle.definitions.specs.Searching.{NoneFrom}
-use Rattle.definitions.specs.Laws.Matrices.SevenWords.{words_take}
+use Rattle.definitions.proofs.Laws.Matrices.SevenWords.{words_take}
 use Rattle.matrix.specs.Shapes.{width_of, matrix_in}
 use Rattle.matrix.specs.Laws.Widths.{width-taken}
 use Rattle.matrix.specs.Laws.Words.{seven_at}

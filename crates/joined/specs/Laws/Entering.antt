@@ -4,7 +4,7 @@ use Rattle.std.proofs.Common.{arith}
 use Rattle.definitions.specs.declared.Fault.TheVariants.{Crowd}
 use Rattle.definitions.specs.Arcs.{arc}
 use Rattle.definitions.specs.Joining.{Joined, joined_size, joined_words, joining, most_joined, join_room}
-use Rattle.definitions.specs.Laws.Text.Judging.{AllPass, pass-none}
+use Rattle.definitions.proofs.Laws.Text.Judging.{AllPass, pass-none}
 use Rattle.lines.specs.Putting.{put_at}
 use Rattle.growing.specs.declared.Sizes.{Sizes}
 use Rattle.growing.specs.declared.Step.{Step}

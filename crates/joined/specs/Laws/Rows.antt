@@ -6,8 +6,8 @@ use Rattle.std.proofs.Common.{ap, ◌∙◌, add-one, arith, drop-cons}
 use borrow.Author.Tests.{ne_eqb, eq-eqb}
 use Rattle.definitions.specs.Lists.{◌!◌, same}
 use Rattle.definitions.specs.Joining.{Joined, joined_size, joined_words, joining}
-use Rattle.definitions.specs.Joined.States.{joined-told}
-use Rattle.definitions.specs.Laws.Lists.Tests.{Tells, by-test}
+use Rattle.definitions.proofs.Joined.States.{joined-told}
+use Rattle.definitions.proofs.Laws.Lists.Tests.{Tells, by-test}
 use Rattle.growing.specs.Chains.{Coded}
 use Rattle.joined.specs.States.{joined_in, row_at, joined_code, entering}
 

@@ -9,9 +9,10 @@ use Rattle.definitions.specs.Lists.{cleared}
 use Rattle.definitions.specs.Said.{said_of}
 use Rattle.definitions.specs.Growing.{Grown}
 use Rattle.definitions.specs.Joining.{Joined, JoinSpace, join, join_left}
-use Rattle.definitions.specs.Joined.JoinedPaths.{JoinedPaths, joined-paths}
+use Rattle.definitions.specs.JoinedPaths.{JoinedPaths}
+use Rattle.definitions.proofs.Joined.JoinedPaths.{joined-paths}
 use Rattle.definitions.specs.WordBooks.{words_in}
-use Rattle.definitions.specs.Laws.Lists.Lists.{clear-length}
+use Rattle.definitions.proofs.Laws.Lists.Lists.{clear-length}
 use Rattle.joining.specs.declared.Answer.{Answer}
 use Rattle.joining.specs.declared.Answer.TheVariants as joining
 use Rattle.joining.specs.declared.JoinedCounts.{JoinedCounts}

@@ -7,8 +7,8 @@ use Rattle.std.proofs.Math.ListN.{length, length-set}
 use Rattle.definitions.specs.Lists.{cleared}
 use Rattle.definitions.specs.Growing.{Grown, Room}
 use Rattle.definitions.specs.Joining.{Joined, joined, joined_words, joining, join_room}
-use Rattle.definitions.specs.Laws.Networks.Limits.{with_element}
-use Rattle.definitions.specs.Joined.States.{first-Distinct}
+use Rattle.definitions.proofs.Laws.Networks.Limits.{with_element}
+use Rattle.definitions.proofs.Joined.States.{first-Distinct}
 use Rattle.lines.specs.Putting.{put_at}
 use Rattle.growing.specs.declared.Sizes.{Sizes}
 use Rattle.growing.specs.Kept.{Kept}

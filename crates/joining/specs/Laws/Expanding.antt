@@ -10,9 +10,9 @@ use Rattle.definitions.specs.Lists.{◌!◌, concat_map}
 use Rattle.definitions.specs.Arcs.{Arc, arc, arc_size, arc_of}
 use Rattle.definitions.specs.Growing.{Grown, enter, Room, perform, perform_all, expand}
 use Rattle.definitions.specs.Joining.{◌⊚◌, Joined, joined, joined_size, Move, moves_along, moves, joining}
-use Rattle.definitions.specs.Laws.Lists.Members.{in-at, in-every}
-use Rattle.definitions.specs.Laws.Lists.Records.{read_at}
-use Rattle.definitions.specs.Laws.Networks.KnownNetworks.{arcs-length}
+use Rattle.definitions.proofs.Laws.Lists.Members.{in-at, in-every}
+use Rattle.definitions.proofs.Laws.Lists.Records.{read_at}
+use Rattle.definitions.proofs.Laws.Networks.KnownNetworks.{arcs-length}
 use Rattle.arcs.specs.Whole.{all_arcs, arc_at}
 use Rattle.arcs.specs.Laws.KnownArcs.{arc-at, arc-words-at}
 use Rattle.arcs.specs.Below.{below}

@@ -16,14 +16,14 @@ use Rattle.definitions.specs.NetworkText.{arc_known, never_descending, network_k
 use Rattle.definitions.specs.WordBooks.{word_size, word_in, words_in, word_known, words_known}
 use Rattle.definitions.specs.Growing.{Grown}
 use Rattle.definitions.specs.Joining.{Joined, join, join_in, join_room}
-use Rattle.definitions.specs.Laws.Lists.Members.{every-weaker}
-use Rattle.definitions.specs.Laws.Lists.Records.{records-taken}
-use Rattle.definitions.specs.Laws.Text.Judging.{refused-not-answered}
-use Rattle.definitions.specs.Laws.Text.Ranges.{ranges-at}
-use Rattle.definitions.specs.Laws.Text.RefusalLines.{join-line}
-use Rattle.definitions.specs.Laws.Networks.KnownNetworks.{known-parts}
-use Rattle.definitions.specs.Laws.Networks.NetworkLines.{known-ranged}
-use Rattle.definitions.specs.Laws.Words.WordTables as words
+use Rattle.definitions.proofs.Laws.Lists.Members.{every-weaker}
+use Rattle.definitions.proofs.Laws.Lists.Records.{records-taken}
+use Rattle.definitions.proofs.Laws.Text.Judging.{refused-not-answered}
+use Rattle.definitions.proofs.Laws.Text.Ranges.{ranges-at}
+use Rattle.definitions.proofs.Laws.Text.RefusalLines.{join-line}
+use Rattle.definitions.proofs.Laws.Networks.KnownNetworks.{known-parts}
+use Rattle.definitions.proofs.Laws.Networks.NetworkLines.{known-ranged}
+use Rattle.definitions.proofs.Laws.Words.WordTables as words
 use Rattle.arcs.specs.Whole.{all_arcs}
 use Rattle.arcs.specs.Laws.KnownArcs.{known-length, known-arcs}
 use Rattle.growing.specs.declared.Sizes.{Sizes}

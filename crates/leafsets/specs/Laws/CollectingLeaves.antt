@@ -12,10 +12,10 @@ use Rattle.std.proofs.Math.Seq.{length-take-le, take_at, drop-drop, get_or-set_s
 use borrow.Author.Tests.{eq-eqb, ne_eqb, eqb-true, eqb-false, ltb-true, ltb-false}
 use Rattle.definitions.specs.Lists.{◌!◌, concat_map, up_from, select}
 use Rattle.definitions.specs.Matrices.{most_columns}
-use Rattle.definitions.specs.Laws.Lists.Lists.{concat_map-append, up_from-snoc, up_from-parts}
-use Rattle.definitions.specs.Laws.Lists.Members.{of-up_from}
-use Rattle.definitions.specs.Laws.Lists.Selected.{select-here, select-past, select-append, select-none}
-use Rattle.definitions.specs.Laws.Lists.Tests.{by-test}
+use Rattle.definitions.proofs.Laws.Lists.Lists.{concat_map-append, up_from-snoc, up_from-parts}
+use Rattle.definitions.proofs.Laws.Lists.Members.{of-up_from}
+use Rattle.definitions.proofs.Laws.Lists.Selected.{select-here, select-past, select-append, select-none}
+use Rattle.definitions.proofs.Laws.Lists.Tests.{by-test}
 use Rattle.matrix.specs.Words.{overwritten, first_seven}
 use Rattle.matrix.specs.Laws.Words.{seven-there, overwritten-there}
 use Rattle.leafsets.specs.Leaves.{leaf_size, is_marked, listed_at, listed, UsedWithin, Listing}

@@ -10,13 +10,13 @@ use Rattle.std.proofs.Math.ListN.{length, take, drop}
 use Rattle.definitions.specs.Lists.{if◌then◌else◌, ◌!◌, concat_map, up_from, select, cleared, IsIn, Distinct}
 use Rattle.definitions.specs.Matrices.{matrix_words}
 use Rattle.definitions.specs.Combinations.{Leaf, is_before, insert_leaf, ascending}
-use Rattle.definitions.specs.Laws.Lists.Tests.{by-test}
-use Rattle.definitions.specs.Laws.Lists.Lists.{concat_map-map}
-use Rattle.definitions.specs.Laws.Lists.Members.{in_map, of_map, concat_map-same}
-use Rattle.definitions.specs.Laws.Lists.Selected.{select-here, select-past}
-use Rattle.definitions.specs.Laws.Lists.Rising.{Rising}
-use Rattle.definitions.specs.Laws.Trees.Leaves.{of-ascending}
-use Rattle.definitions.specs.Laws.Trees.Ascending.{leaf_nodes, LeafBefore, ascending-rising}
+use Rattle.definitions.proofs.Laws.Lists.Tests.{by-test}
+use Rattle.definitions.proofs.Laws.Lists.Lists.{concat_map-map}
+use Rattle.definitions.proofs.Laws.Lists.Members.{in_map, of_map, concat_map-same}
+use Rattle.definitions.proofs.Laws.Lists.Selected.{select-here, select-past}
+use Rattle.definitions.proofs.Laws.Lists.Rising.{Rising}
+use Rattle.definitions.proofs.Laws.Trees.Leaves.{of-ascending}
+use Rattle.definitions.proofs.Laws.Trees.Ascending.{leaf_nodes, LeafBefore, ascending-rising}
 use Rattle.leafsets.specs.Leaves.{leaf_size, put_leaves, is_marked, listed_at, listed, NoneUsed, leaf_words}
 use Rattle.leafsets.specs.Laws.PuttingLeaves.{record_at, Sized, AllInTable, all-length, all-other, all_own}
 

@@ -11,10 +11,10 @@ use Rattle.std.proofs.Math.Seq.{drop_at, drop-drop}
 use Rattle.std.proofs.lemmas.List.{take-append-le, drop-append-le}
 use Rattle.definitions.specs.Matrices.{matrix_words}
 use Rattle.definitions.specs.Combinations.{Leaf}
-use Rattle.definitions.specs.Laws.Lists.Tests.{by-test}
+use Rattle.definitions.proofs.Laws.Lists.Tests.{by-test}
 use Rattle.definitions.specs.Lists.{IsIn, Distinct}
-use Rattle.definitions.specs.Laws.Trees.Ascending.{leaf_nodes}
-use Rattle.definitions.specs.Laws.Matrices.SevenWords.{words-length}
+use Rattle.definitions.proofs.Laws.Trees.Ascending.{leaf_nodes}
+use Rattle.definitions.proofs.Laws.Matrices.SevenWords.{words-length}
 use Rattle.leafsets.specs.Leaves.{leaf_size, put_leaf, put_leaves}
 
 -- ---- the record of a node

@@ -14,13 +14,13 @@ use Rattle.definitions.specs.PhoneSets.{alone, all_phones}
 use Rattle.definitions.specs.Matrices.{Matrix, most_columns, matrix_words, root_matrix}
 use Rattle.definitions.specs.Combinations.{Leaf, leaves_below, ascending, leaves_of, on_yes, on_no}
 use Rattle.definitions.specs.Ranges.{InRange}
-use Rattle.definitions.specs.Laws.Lists.Members.{of-append, of-single, of_map}
-use Rattle.definitions.specs.Laws.Trees.Walks.{Forward, by-node}
-use Rattle.definitions.specs.Laws.Trees.Leaves.{below-leaf, below-question}
-use Rattle.definitions.specs.Laws.Matrices.Matrices.{yes-length, no_length, root-length}
-use Rattle.definitions.specs.Laws.Books.Tables.{tree-nodes-length}
-use Rattle.definitions.specs.Laws.Books.NamedOnce.{leaves-once}
-use Rattle.definitions.specs.Laws.Trees.Ascending.{leaf_nodes, nodes-below}
+use Rattle.definitions.proofs.Laws.Lists.Members.{of-append, of-single, of_map}
+use Rattle.definitions.proofs.Laws.Trees.Walks.{Forward, by-node}
+use Rattle.definitions.proofs.Laws.Trees.Leaves.{below-leaf, below-question}
+use Rattle.definitions.proofs.Laws.Matrices.Matrices.{yes-length, no_length, root-length}
+use Rattle.definitions.proofs.Laws.Books.Tables.{tree-nodes-length}
+use Rattle.definitions.proofs.Laws.Books.NamedOnce.{leaves-once}
+use Rattle.definitions.proofs.Laws.Trees.Ascending.{leaf_nodes, nodes-below}
 use Rattle.tables.specs.Usable.{tree_nodes, book_with, Fit}
 use Rattle.tables.specs.Laws.KnownTables.{known-forward}
 use Rattle.matrix.specs.Shapes.{width_of, matrix_in, HasWidth, columns_around}

@@ -16,12 +16,12 @@ use Rattle.definitions.specs.Tables.{Book, node_of, node_records, asked_of}
 use Rattle.definitions.specs.ForeignTables.{header_known, nodes_known}
 use Rattle.definitions.specs.Matrices.{Matrix, matrix_words, yes_side, no_side}
 use Rattle.definitions.specs.Combinations.{Leaf, leaves_below, on_yes, on_no}
-use Rattle.definitions.specs.Laws.Trees.Walks.{Forward, by-node}
-use Rattle.definitions.specs.Laws.Trees.Leaves.{below-leaf, below-question}
-use Rattle.definitions.specs.Laws.Matrices.Matrices.{yes-length, no_length}
-use Rattle.definitions.specs.Laws.Matrices.SevenWords.{words-yes, words-no}
-use Rattle.definitions.specs.Laws.Books.Tables.{tree-nodes-length}
-use Rattle.definitions.specs.Laws.Books.AcceptedKnown.{header-ranges}
+use Rattle.definitions.proofs.Laws.Trees.Walks.{Forward, by-node}
+use Rattle.definitions.proofs.Laws.Trees.Leaves.{below-leaf, below-question}
+use Rattle.definitions.proofs.Laws.Matrices.Matrices.{yes-length, no_length}
+use Rattle.definitions.proofs.Laws.Matrices.SevenWords.{words-yes, words-no}
+use Rattle.definitions.proofs.Laws.Books.Tables.{tree-nodes-length}
+use Rattle.definitions.proofs.Laws.Books.AcceptedKnown.{header-ranges}
 use Rattle.tables.specs.Usable.{book_with}
 use Rattle.tables.specs.Laws.KnownTables.{question-is, leaf-is, question-fits, known-forward}
 use Rattle.matrix.specs.Shapes.{width_of, matrix_in, HasWidth}

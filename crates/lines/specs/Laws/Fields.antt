@@ -6,7 +6,7 @@ use borrow.Author.Tests.{eq-eqb, ne_eqb, le-leb, lt-leb}
 use Rattle.definitions.specs.Lists.{if◌then◌else◌, ◌!◌, every}
 use Rattle.definitions.specs.Numerals.{is_digit, is_numeral, value_of}
 use Rattle.definitions.specs.Lines.{space, Field, blank, malformed, number, skip_spaces, digits_field, field_of}
-use Rattle.definitions.specs.Laws.Lists.Tests.{by-test}
+use Rattle.definitions.proofs.Laws.Lists.Tests.{by-test}
 
 -- ---- leading spaces
 

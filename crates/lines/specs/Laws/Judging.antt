@@ -14,9 +14,9 @@ use Rattle.definitions.specs.Forms.{Form}
 use Rattle.definitions.specs.Lines.{Line, line_of, lines_of, whole_lines}
 use Rattle.definitions.specs.Reading as reading
 use Rattle.definitions.specs.Reading.{Kind, line_tests, line_read, read_from, read_text}
-use Rattle.definitions.specs.Laws.Lists.Tests.{by-test, held, failed}
-use Rattle.definitions.specs.Laws.Text.Judging.{AllPass}
-use Rattle.definitions.specs.Laws.Text.Reading as lines
+use Rattle.definitions.proofs.Laws.Lists.Tests.{by-test, held, failed}
+use Rattle.definitions.proofs.Laws.Text.Judging.{AllPass}
+use Rattle.definitions.proofs.Laws.Text.Reading as lines
 use Rattle.lines.specs.Judging.{verdict_of, verdict_by, line_taken, line_verdict, lines_before, line_bytes}
 use Rattle.lines.specs.Rows.{line_in, parsed_of}
 use Rattle.lines.specs.declared.Verdict.{Verdict}

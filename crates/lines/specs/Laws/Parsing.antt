@@ -11,10 +11,10 @@ use Rattle.definitions.specs.Lists.{if◌then◌else◌, ◌!◌, every, cleared
 use Rattle.definitions.specs.Forms.{Range, Form}
 use Rattle.definitions.specs.Lines.{Field, blank, malformed, number, is_blank, field_of, skip_spaces, digits_field}
 use Rattle.definitions.specs.Lines.{fields_of, numbers_of, form_of, with_letter, line_of}
-use Rattle.definitions.specs.Laws.Lists.Tests.{by-test}
-use Rattle.definitions.specs.Laws.Lists.Lists.{padded-none}
-use Rattle.definitions.specs.Laws.Lists.Records.{read_at}
-use Rattle.definitions.specs.Laws.Text.Lines.{line_known, line-unknown, form-letter, fields-five}
+use Rattle.definitions.proofs.Laws.Lists.Tests.{by-test}
+use Rattle.definitions.proofs.Laws.Lists.Lists.{padded-none}
+use Rattle.definitions.proofs.Laws.Lists.Records.{read_at}
+use Rattle.definitions.proofs.Laws.Text.Lines.{line_known, line-unknown, form-letter, fields-five}
 use Rattle.lines.specs.declared.Letters.{Letters}
 use Rattle.lines.specs.declared.Letters.TheVariants.{Book, Network, Words}
 use Rattle.lines.specs.Places.{form_in, form_at, ranges_at, form_count}

@@ -10,7 +10,7 @@ use Rattle.std.proofs.Math.Seq.{take-append_seam, drop-append-add, drop-drop, le
 use borrow.Rule.Slice.PartMut.{put_mid}
 use Rattle.definitions.specs.Lists.{cleared, padded}
 use Rattle.lines.specs.Putting.{put_at}
-use Rattle.definitions.specs.Laws.Lists.Lists.{drop-cleared}
+use Rattle.definitions.proofs.Laws.Lists.Lists.{drop-cleared}
 
 -- ---- words put one by one
 

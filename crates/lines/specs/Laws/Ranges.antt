@@ -9,7 +9,7 @@ use Rattle.std.proofs.Math.Seq.{drop-cons}
 use Rattle.definitions.specs.Lists.{◌!◌}
 use Rattle.definitions.specs.Forms.{Range, Form, ◌‥◌}
 use Rattle.definitions.specs.Lines.{form_of, in_ranges, in_fixed_ranges}
-use Rattle.definitions.specs.Laws.Lists.Tests.{by-test}
+use Rattle.definitions.proofs.Laws.Lists.Tests.{by-test}
 use Rattle.lines.specs.Places.{form_in, form_at, ranges_at, range_at, form_count}
 use Rattle.lines.specs.Rows.{line_in}
 use Rattle.lines.specs.declared.Row.{Row}

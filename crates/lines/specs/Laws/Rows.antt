@@ -4,8 +4,8 @@ use Rattle.std.proofs.Common.{ap, ◌∙◌}
 use Rattle.std.proofs.Math.Option.{Option, none, some}
 use Rattle.definitions.specs.Lists.{◌!◌}
 use Rattle.definitions.specs.Lines.{Line}
-use Rattle.definitions.specs.Laws.Lists.Lists.{padded-take}
-use Rattle.definitions.specs.Laws.Matrices.SevenWords.{padded-column}
+use Rattle.definitions.proofs.Laws.Lists.Lists.{padded-take}
+use Rattle.definitions.proofs.Laws.Matrices.SevenWords.{padded-column}
 use Rattle.lines.specs.Rows.{line_in, row_of, parsed_of}
 use Rattle.lines.specs.declared.Parsed.{Parsed}
 use Rattle.lines.specs.declared.Row.{Row}

@@ -10,8 +10,8 @@ use borrow.Author.Tests.{eq-eqb, ne_eqb, le-leb, lt-leb}
 use Rattle.definitions.specs.Lists.{every}
 use Rattle.definitions.specs.Forms.{Range, Form, ◌‥◌, form_h}
 use Rattle.definitions.specs.Lines.{form_of}
-use Rattle.definitions.specs.Laws.Lists.Tests.{every-at}
-use Rattle.definitions.specs.Laws.Lists.Lists.{map_at}
+use Rattle.definitions.proofs.Laws.Lists.Tests.{every-at}
+use Rattle.definitions.proofs.Laws.Lists.Lists.{map_at}
 use Rattle.lines.specs.declared.forms.Range.{Range as HeldRange}
 use Rattle.lines.specs.declared.forms.Form.{Form as HeldForm}
 use Rattle.lines.specs.Places.{forms_between, all_forms, form_in, form_at, ranges_of, ranges_at, range_at}

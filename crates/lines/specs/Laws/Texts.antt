@@ -4,8 +4,8 @@ use Rattle.std.specs.Prelude.{◌≡◌, List, [], ◌∷◌, ◌++◌, false, �
 use Rattle.std.proofs.Common.{◌∙◌, arith, lit<, drop_of_length-le, drop-cons, take-suc, lt-ltb, ne_eqb}
 use Rattle.definitions.specs.Lists.{◌!◌}
 use Rattle.definitions.specs.Lines.{line_feed, lines_of, ends_in_line_feed, whole_lines}
-use Rattle.definitions.specs.Laws.Lists.Lists.{part_at}
-use Rattle.definitions.specs.Laws.Lists.Records.{records-length, record-at}
+use Rattle.definitions.proofs.Laws.Lists.Lists.{part_at}
+use Rattle.definitions.proofs.Laws.Lists.Records.{records-length, record-at}
 use Rattle.lines.specs.Laws.Passing.{Passed}
 
 -- ---- the lines of a text

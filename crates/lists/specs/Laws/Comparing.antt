@@ -9,9 +9,9 @@ use Rattle.std.proofs.Math.Seq.{drop-cons}
 use Rattle.definitions.specs.Lists.{◌!◌, same}
 use Rattle.definitions.specs.Matrices.{Matrix, shift}
 use Rattle.definitions.specs.MatrixLists.{same_list, shift_list}
-use Rattle.definitions.specs.Laws.Lists.Lists.{part_at, drop-take, map_at}
-use Rattle.definitions.specs.Laws.Lists.Same.{Alike, alike-start, alike-more, alike-stop, alike_end}
-use Rattle.definitions.specs.Laws.Lists.Tests.{by-test}
+use Rattle.definitions.proofs.Laws.Lists.Lists.{part_at, drop-take, map_at}
+use Rattle.definitions.proofs.Laws.Lists.Same.{Alike, alike-start, alike-more, alike-stop, alike_end}
+use Rattle.definitions.proofs.Laws.Lists.Tests.{by-test}
 use Rattle.matrix.specs.Shapes.{width_of}
 use Rattle.lists.specs.Held.{columns_at, list_in}
 use Rattle.lists.specs.Shifting.{SameShifted}

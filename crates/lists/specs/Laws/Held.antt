@@ -6,8 +6,8 @@ use mathlib.Core.List.{List, []}
 use Rattle.definitions.specs.Lists.{◌!◌, up_from}
 use Rattle.definitions.specs.Matrices.{Matrix, matrix_size}
 use Rattle.definitions.specs.MatrixLists.{most_matrices}
-use Rattle.definitions.specs.Laws.Lists.Lists.{part_at, map-up_from-length, map-up_from-get}
-use Rattle.definitions.specs.Laws.Matrices.Sizes.{columns-held}
+use Rattle.definitions.proofs.Laws.Lists.Lists.{part_at, map-up_from-length, map-up_from-get}
+use Rattle.definitions.proofs.Laws.Matrices.Sizes.{columns-held}
 use Rattle.matrix.specs.Shapes.{width_of}
 use Rattle.lists.specs.Held.{start_of, columns_at, matrix_at, list_in, HasRoom, Holds, Became}
 

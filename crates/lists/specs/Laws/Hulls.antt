@@ -12,11 +12,11 @@ use Rattle.definitions.specs.Lists.{◌!◌, IsIn}
 use Rattle.definitions.specs.PhoneSets.{has}
 use Rattle.definitions.specs.Matrices.{Matrix, meet, valid}
 use Rattle.definitions.specs.MatrixLists.{normal, pairs_met, meet_lists, holds_some}
-use Rattle.definitions.specs.Laws.Lists.Tests.{T_and, T-or, by-test}
-use Rattle.definitions.specs.Laws.Lists.Members.{of_map, of-concat_map}
-use Rattle.definitions.specs.Laws.Matrices.PhoneSets.{has-or, member-nonzero}
-use Rattle.definitions.specs.Laws.Matrices.Matrices.{meet-has, meet-length, valid-columns}
-use Rattle.definitions.specs.Laws.Matrices.MatrixLists.{normal-is}
+use Rattle.definitions.proofs.Laws.Lists.Tests.{T_and, T-or, by-test}
+use Rattle.definitions.proofs.Laws.Lists.Members.{of_map, of-concat_map}
+use Rattle.definitions.proofs.Laws.Matrices.PhoneSets.{has-or, member-nonzero}
+use Rattle.definitions.proofs.Laws.Matrices.Matrices.{meet-has, meet-length, valid-columns}
+use Rattle.definitions.proofs.Laws.Matrices.MatrixLists.{normal-is}
 use Rattle.lists.specs.Joining.{join, hull_from, hull}
 use Rattle.lists.specs.Laws.Joining.{join-length, join-column}
 

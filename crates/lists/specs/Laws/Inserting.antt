@@ -8,7 +8,7 @@ use Rattle.std.proofs.lemmas.Bool.{lt-leb, eqb-false}
 use Rattle.definitions.specs.Lists.{◌!◌}
 use Rattle.definitions.specs.Matrices.{Matrix, most_columns, matrix_size}
 use Rattle.definitions.specs.MatrixLists.{most_matrices}
-use Rattle.definitions.specs.Laws.Lists.Tests.{by-test}
+use Rattle.definitions.proofs.Laws.Lists.Tests.{by-test}
 use Rattle.matrix.specs.Shapes.{width_of, matrix_in}
 use Rattle.lists.specs.Held.{start_of, matrix_at, list_in, Holds, Became}
 use Rattle.lists.specs.Ordering.{inserted_at}

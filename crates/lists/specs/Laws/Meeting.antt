@@ -12,11 +12,11 @@ use Rattle.definitions.specs.Matrices.{Matrix, most_half, most_columns, matrix_w
 use Rattle.definitions.specs.Meeting.{met_words}
 use Rattle.definitions.specs.MatrixLists.{most_matrices, insert_matrix, added, gather, meet_lists, holds_some}
 use Rattle.definitions.specs.MatrixLists.{pairs_met}
-use Rattle.definitions.specs.Laws.Lists.Tests.{by-test}
-use Rattle.definitions.specs.Laws.Matrices.Matrices.{meet-length}
-use Rattle.definitions.specs.Laws.Matrices.Meeting.{valid-met}
-use Rattle.definitions.specs.Laws.Matrices.MatrixLists.{gather-longer, gather_append}
-use Rattle.definitions.specs.Laws.Matrices.SevenWords.{words-length}
+use Rattle.definitions.proofs.Laws.Lists.Tests.{by-test}
+use Rattle.definitions.proofs.Laws.Matrices.Matrices.{meet-length}
+use Rattle.definitions.proofs.Laws.Matrices.Meeting.{valid-met}
+use Rattle.definitions.proofs.Laws.Matrices.MatrixLists.{gather-longer, gather_append}
+use Rattle.definitions.proofs.Laws.Matrices.SevenWords.{words-length}
 use Rattle.matrix.specs.Shapes.{width_of, matrix_in}
 use Rattle.matrix.specs.Laws.Meeting.{first-tells, met-test}
 use Rattle.matrix.specs.Laws.Widths.{matrix-back}

@@ -9,7 +9,7 @@ use borrow.Author.Tests.{lt-ltb, le-ltb, eq-eqb, ne_eqb, ltb-true, ltb-false}
 use Rattle.definitions.specs.Lists.{◌!◌, same, precedes}
 use Rattle.definitions.specs.Matrices.{Matrix}
 use Rattle.definitions.specs.MatrixLists.{insert_matrix}
-use Rattle.definitions.specs.Laws.Lists.Tests.{by-test}
+use Rattle.definitions.proofs.Laws.Lists.Tests.{by-test}
 use Rattle.matrix.specs.Shapes.{width_of, matrix_in}
 use Rattle.lists.specs.Held.{columns_at}
 use Rattle.lists.specs.Ordering.{order_of, BelongsAt}

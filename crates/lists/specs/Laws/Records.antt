@@ -11,11 +11,11 @@ use Rattle.std.proofs.lemmas.List.{length-replicate, replicate-append-replicate}
 use Rattle.definitions.specs.Lists.{◌!◌, concat_map, cleared, padded}
 use Rattle.definitions.specs.Matrices.{Matrix, most_half, matrix_size, matrix_record}
 use Rattle.definitions.specs.MatrixLists.{most_matrices, list_size, list_record}
-use Rattle.definitions.specs.Laws.Lists.Lists.{concat_map-snoc, padded-length, padded-take, padded-none, map_at}
-use Rattle.definitions.specs.Laws.Lists.Members.{in-at}
-use Rattle.definitions.specs.Laws.Lists.Records.{written-length, written-records, record-at}
-use Rattle.definitions.specs.Laws.Lists.Tests.{by-test}
-use Rattle.definitions.specs.Laws.Matrices.Sizes.{columns-held, record-length}
+use Rattle.definitions.proofs.Laws.Lists.Lists.{concat_map-snoc, padded-length, padded-take, padded-none, map_at}
+use Rattle.definitions.proofs.Laws.Lists.Members.{in-at}
+use Rattle.definitions.proofs.Laws.Lists.Records.{written-length, written-records, record-at}
+use Rattle.definitions.proofs.Laws.Lists.Tests.{by-test}
+use Rattle.definitions.proofs.Laws.Matrices.Sizes.{columns-held, record-length}
 use Rattle.lines.specs.Putting.{put_at}
 use Rattle.lines.specs.Laws.Putting.{put-after}
 use Rattle.matrix.specs.Shapes.{width_of, matrix_in}

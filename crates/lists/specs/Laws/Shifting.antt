@@ -7,8 +7,8 @@ use Rattle.definitions.specs.Lists.{◌!◌}
 use Rattle.definitions.specs.Matrices.{Matrix, shift}
 use Rattle.definitions.specs.MatrixLists.{most_matrices, shift_list}
 use Rattle.definitions.specs.PhoneSets.{all_phones}
-use Rattle.definitions.specs.Laws.Lists.Lists.{map_at}
-use Rattle.definitions.specs.Laws.Lists.Tests.{by-test}
+use Rattle.definitions.proofs.Laws.Lists.Lists.{map_at}
+use Rattle.definitions.proofs.Laws.Lists.Tests.{by-test}
 use Rattle.matrix.specs.Shapes.{width_of}
 use Rattle.lists.specs.Held.{start_of, columns_at, matrix_at, HasRoom, Became}
 use Rattle.lists.specs.Inserting.{Put}

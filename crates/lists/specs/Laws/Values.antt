@@ -3,7 +3,7 @@ use Rattle.std.specs.Prelude.{◌≡◌, List, [], ℕ, ◌+◌, ◌≤◌, ◌<
 use Rattle.std.proofs.Common.{sym, ◌∙◌, arith}
 use Rattle.definitions.specs.Lists.{◌!◌}
 use Rattle.definitions.specs.Matrices.{Matrix, most_half, most_columns, matrix_words}
-use Rattle.definitions.specs.Laws.Matrices.SevenWords.{words-column, words-length}
+use Rattle.definitions.proofs.Laws.Matrices.SevenWords.{words-column, words-length}
 use Rattle.matrix.specs.Shapes.{width_of, matrix_in}
 use Rattle.matrix.specs.Laws.Widths.{matrix-back}
 use Rattle.matrix.specs.Laws.Words.{Columns, columns-more, filled-rest, words-rest}

@@ -9,12 +9,12 @@ use Rattle.definitions.specs.Forms.{most_phone, most_places}
 use Rattle.definitions.specs.BookLines.{is_phone}
 use Rattle.definitions.specs.WordBooks.{word_size, word_words, word_in, words_in, word_known}
 use Rattle.definitions.specs.Joining.{phones_in}
-use Rattle.definitions.specs.Laws.Lists.Lists.{part_at}
-use Rattle.definitions.specs.Laws.Lists.Records.{record-within, records-length, record-at, read_at}
-use Rattle.definitions.specs.Laws.Lists.Tests.{between, every-at}
-use Rattle.definitions.specs.Laws.Matrices.SevenWords.{padded-column}
-use Rattle.definitions.specs.Laws.Words.Rows.{row_word, row-again}
-use Rattle.definitions.specs.Laws.Words.WordTables.{held-length}
+use Rattle.definitions.proofs.Laws.Lists.Lists.{part_at}
+use Rattle.definitions.proofs.Laws.Lists.Records.{record-within, records-length, record-at, read_at}
+use Rattle.definitions.proofs.Laws.Lists.Tests.{between, every-at}
+use Rattle.definitions.proofs.Laws.Matrices.SevenWords.{padded-column}
+use Rattle.definitions.proofs.Laws.Words.Rows.{row_word, row-again}
+use Rattle.definitions.proofs.Laws.Words.WordTables.{held-length}
 use Rattle.marks.specs.Lexicon.{spelled, Lexicon}
 use Rattle.marks.specs.Wanting.{IsWord}
 

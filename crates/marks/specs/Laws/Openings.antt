@@ -9,7 +9,7 @@ use Rattle.std.proofs.lemmas.List.{get_or-replicate}
 use Rattle.std.proofs.lemmas.Bool.{eqb-false}
 use Rattle.definitions.specs.Lists.{if◌then◌else◌, ◌!◌, cleared}
 use Rattle.definitions.specs.Joining.{phones_in, is_word}
-use Rattle.definitions.specs.Laws.Lists.Tests.{by-test, between}
+use Rattle.definitions.proofs.Laws.Lists.Tests.{by-test, between}
 use Rattle.marks.specs.Openings.{opening_among, opening_from, Opened}
 
 -- ---- the first word that begins with a phone

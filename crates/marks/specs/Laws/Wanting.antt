@@ -8,7 +8,7 @@ use Rattle.std.proofs.lemmas.Bool.{false≢true}
 use borrow.Author.Tests.{eq-eqb, ne_eqb}
 use Rattle.definitions.specs.Lists.{if◌then◌else◌, ◌!◌}
 use Rattle.definitions.specs.Joining.{Mark, ◌⊚◌, Step, step, phones_in, spoken_to, within, outside, steps}
-use Rattle.definitions.specs.Laws.Lists.Tests.{same_tests, eq→eqb}
+use Rattle.definitions.proofs.Laws.Lists.Tests.{same_tests, eq→eqb}
 use Rattle.marks.specs.declared.Mark as declared
 use Rattle.marks.specs.declared.Wanted.{Wanted}
 use Rattle.marks.specs.Wanting.{mark_of, none_wanted, steps_by, Leads}

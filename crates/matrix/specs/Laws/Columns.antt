@@ -9,8 +9,8 @@ use Rattle.std.proofs.Math.Seq.{set_out}
 use Rattle.definitions.specs.Lists.{◌!◌, every}
 use Rattle.definitions.specs.PhoneSets.{has}
 use Rattle.definitions.specs.Matrices.{Matrix, yes_side, no_side, valid, ends_here}
-use Rattle.definitions.specs.Laws.Matrices.PhoneSets.{without-is-mask}
-use Rattle.definitions.specs.Laws.Matrices.Matrices.{yes-set, no-set}
+use Rattle.definitions.proofs.Laws.Matrices.PhoneSets.{without-is-mask}
+use Rattle.definitions.proofs.Laws.Matrices.Matrices.{yes-set, no-set}
 use Rattle.lines.specs.Laws.Passing.{Passed, passed-more, passed-stop}
 
 -- ---- one column cut by a set, in a matrix that has it or not

@@ -10,10 +10,10 @@ use Rattle.std.proofs.lemmas.Bool.{eqb-false}
 use Rattle.definitions.specs.Lists.{◌!◌, cleared}
 use Rattle.definitions.specs.Matrices.{Matrix, most_columns, matrix_words, meet, valid}
 use Rattle.definitions.specs.Meeting.{columns_met, met_words}
-use Rattle.definitions.specs.Laws.Lists.Tests.{by-test}
-use Rattle.definitions.specs.Laws.Matrices.Matrices.{meet-column, meet-length}
-use Rattle.definitions.specs.Laws.Matrices.SevenWords.{words-column, words-length}
-use Rattle.definitions.specs.Laws.Matrices.Meeting.{NoneEmpty, valid-met, first_word, met-empty, met_all}
+use Rattle.definitions.proofs.Laws.Lists.Tests.{by-test}
+use Rattle.definitions.proofs.Laws.Matrices.Matrices.{meet-column, meet-length}
+use Rattle.definitions.proofs.Laws.Matrices.SevenWords.{words-column, words-length}
+use Rattle.definitions.proofs.Laws.Matrices.Meeting.{NoneEmpty, valid-met, first_word, met-empty, met_all}
 use Rattle.lines.specs.Laws.Filling.{filled-start}
 use Rattle.matrix.specs.Laws.Widths.{matrix-back}
 use Rattle.matrix.specs.Laws.Words.{Columns, columns-more, filled-rest, words-rest}

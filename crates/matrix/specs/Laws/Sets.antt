@@ -10,8 +10,8 @@ use Rattle.std.proofs.lemmas.Nat.{and_mask}
 use Rattle.std.proofs.lemmas.Bool.{lt-leb}
 use Rattle.definitions.specs.Lists.{if◌then◌else◌}
 use Rattle.definitions.specs.PhoneSets.{has, alone, all_phones}
-use Rattle.definitions.specs.Laws.Matrices.PhoneSets.{has-below, one_shifted, alone-shifted}
-use Rattle.definitions.specs.Laws.Lists.Tests.{by-test}
+use Rattle.definitions.proofs.Laws.Matrices.PhoneSets.{has-below, one_shifted, alone-shifted}
+use Rattle.definitions.proofs.Laws.Lists.Tests.{by-test}
 
 -- ---- all phones
 

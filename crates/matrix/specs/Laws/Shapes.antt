@@ -12,9 +12,9 @@ use borrow.Author.Tests.{eqb-true, eqb-false, ltb-true, ltb-false, le-leb, lt-lt
 use Rattle.definitions.specs.Lists.{if◌then◌else◌, ◌!◌}
 use Rattle.definitions.specs.PhoneSets.{alone, all_phones}
 use Rattle.definitions.specs.Matrices.{Matrix, most_columns, matrix_words, root_matrix, shift}
-use Rattle.definitions.specs.Laws.Lists.Tests.{by-test}
-use Rattle.definitions.specs.Laws.Lists.Lists.{map-up_from-length, map-up_from-at}
-use Rattle.definitions.specs.Laws.Matrices.SevenWords.{words-length, words-shift}
+use Rattle.definitions.proofs.Laws.Lists.Tests.{by-test}
+use Rattle.definitions.proofs.Laws.Lists.Lists.{map-up_from-length, map-up_from-at}
+use Rattle.definitions.proofs.Laws.Matrices.SevenWords.{words-length, words-shift}
 use Rattle.matrix.specs.Shapes.{columns_around, shifted_column, shifted_words}
 use Rattle.matrix.specs.Laws.Words.{seven-length, seven_at}
 

@@ -3,8 +3,8 @@
 use Rattle.std.specs.Prelude.{◌≡◌, List, ℕ, ◌≤◌, length, take}
 use Rattle.std.proofs.Common.{sym, ap, ◌∙◌, arith, length-take, length-take-le}
 use Rattle.definitions.specs.Matrices.{Matrix, most_columns, matrix_words, meet}
-use Rattle.definitions.specs.Laws.Matrices.Matrices.{meet-length}
-use Rattle.definitions.specs.Laws.Matrices.SevenWords.{words-length, words_take}
+use Rattle.definitions.proofs.Laws.Matrices.Matrices.{meet-length}
+use Rattle.definitions.proofs.Laws.Matrices.SevenWords.{words-length, words_take}
 use Rattle.matrix.specs.Shapes.{HasWidth}
 
 -- the words of a matrix of that width

@@ -8,9 +8,9 @@ use Rattle.std.proofs.lemmas.List.{length-replicate, take-append-le}
 use Rattle.std.proofs.Math.Seq.{paste, paste-zero, paste-suc, drop-append-add}
 use Rattle.definitions.specs.Lists.{◌!◌, cleared, padded}
 use Rattle.definitions.specs.Matrices.{Matrix, most_columns, matrix_words, matrix_record}
-use Rattle.definitions.specs.Laws.Lists.Lists.{drop-cleared}
-use Rattle.definitions.specs.Laws.Matrices.SevenWords.{padded-column, words-length}
-use Rattle.definitions.specs.Laws.Matrices.Sizes.{record-value}
+use Rattle.definitions.proofs.Laws.Lists.Lists.{drop-cleared}
+use Rattle.definitions.proofs.Laws.Matrices.SevenWords.{padded-column, words-length}
+use Rattle.definitions.proofs.Laws.Matrices.Sizes.{record-value}
 use Rattle.lines.specs.Laws.Filling.{Filled, filled_more, filled-end}
 use Rattle.matrix.specs.Words.{first_seven, overwritten}
 

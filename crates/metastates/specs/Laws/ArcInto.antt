@@ -9,7 +9,7 @@ use Rattle.definitions.specs.Tables.{node_of}
 use Rattle.definitions.specs.Metastates.{Metastate, phone_of, combination_of, models_of}
 use Rattle.definitions.specs.Arcs.{arc, first_state}
 use Rattle.definitions.specs.Connecting.{arc_into}
-use Rattle.definitions.specs.Laws.Books.AcceptedKnown.{header-ranges}
+use Rattle.definitions.proofs.Laws.Books.AcceptedKnown.{header-ranges}
 use Rattle.tables.specs.Usable.{book_with}
 use Rattle.index.specs.Combinations.{combinations_in, nodes_book, Usable}
 use Rattle.index.specs.RecordWords.{phone_word, model_word}

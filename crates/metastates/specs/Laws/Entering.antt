@@ -13,11 +13,11 @@ use Rattle.definitions.specs.Metastates.{Metastate, metastate_size, phone_of, co
 use Rattle.definitions.specs.Building.{room_in}
 use Rattle.definitions.specs.Growing.{Machine, enter, Room, perform_all}
 use Rattle.definitions.specs.Connecting.{arc_into, Network}
-use Rattle.definitions.specs.Construction.Performing.{entered_by, Performed, all-performed}
-use Rattle.definitions.specs.Laws.Lists.Members.{of-append, of-single}
-use Rattle.definitions.specs.Laws.Lists.Records.{record-within}
-use Rattle.definitions.specs.Laws.Text.Judging.{pass-none}
-use Rattle.definitions.specs.Laws.Networks.Metastates.{metastates-told}
+use Rattle.definitions.proofs.Construction.Performing.{entered_by, Performed, all-performed}
+use Rattle.definitions.proofs.Laws.Lists.Members.{of-append, of-single}
+use Rattle.definitions.proofs.Laws.Lists.Records.{record-within}
+use Rattle.definitions.proofs.Laws.Text.Judging.{pass-none}
+use Rattle.definitions.proofs.Laws.Networks.Metastates.{metastates-told}
 use Rattle.index.specs.declared.Follower.{Follower}
 use Rattle.index.specs.Combinations.{combinations_in, machine_in}
 use Rattle.index.specs.Laws.Followers.{narrow}

@@ -14,10 +14,10 @@ use Rattle.definitions.specs.Matrices.{matrix_words, matrix_size, matrix_record}
 use Rattle.definitions.specs.Metastates.{Metastate, metastate_size, metastate_words}
 use Rattle.definitions.specs.Building.{room_in}
 use Rattle.definitions.specs.Connecting.{Network, no_network}
-use Rattle.definitions.specs.Laws.Networks.Metastates.{metastates-equal}
-use Rattle.definitions.specs.Laws.Lists.Lists.{padded-take}
-use Rattle.definitions.specs.Laws.Lists.Records.{records-within}
-use Rattle.definitions.specs.Laws.Matrices.Sizes.{columns-held, record-length, value-record}
+use Rattle.definitions.proofs.Laws.Networks.Metastates.{metastates-equal}
+use Rattle.definitions.proofs.Laws.Lists.Lists.{padded-take}
+use Rattle.definitions.proofs.Laws.Lists.Records.{records-within}
+use Rattle.definitions.proofs.Laws.Matrices.Sizes.{columns-held, record-length, value-record}
 use Rattle.matrix.specs.Shapes.{width_of, matrix_in, HasWidth}
 use Rattle.matrix.specs.Laws.Widths.{width-taken}
 use Rattle.growing.specs.Chains.{Coded, heads_in}

@@ -8,8 +8,8 @@ use Rattle.definitions.specs.Matrices.{matrix_words}
 use Rattle.definitions.specs.Metastates.{Metastate, metastate_size, metastate_words}
 use Rattle.definitions.specs.Building.{room_in}
 use Rattle.definitions.specs.Connecting.{Network, no_metastate}
-use Rattle.definitions.specs.Laws.Lists.Members.{in-at}
-use Rattle.definitions.specs.Laws.Lists.Records.{record-within}
+use Rattle.definitions.proofs.Laws.Lists.Members.{in-at}
+use Rattle.definitions.proofs.Laws.Lists.Records.{record-within}
 use Rattle.matrix.specs.Shapes.{width_of}
 use Rattle.matrix.specs.Words.{first_seven}
 use Rattle.matrix.specs.Laws.Words.{record-seven}

@@ -5,7 +5,7 @@ use Rattle.std.proofs.Common.{mul-le-mul, arith}
 use Rattle.definitions.specs.declared.Header.{Header}
 use Rattle.definitions.specs.Arcs.{first_state, last_state}
 use Rattle.definitions.specs.ForeignTables.{header_known}
-use Rattle.definitions.specs.Laws.Books.AcceptedKnown.{header-ranges}
+use Rattle.definitions.proofs.Laws.Books.AcceptedKnown.{header-ranges}
 
 module _ (header : Header) (known : T (header_known header)) {states : ℕ} (e : states ≡ header.states) where
   -- a network's states are few, so that they are words

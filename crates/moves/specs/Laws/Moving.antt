@@ -5,7 +5,7 @@ use Rattle.std.proofs.Math.Path.{subst}
 use borrow.Author.Tests.{ne_eqb, eq-eqb}
 use Rattle.definitions.specs.Faults.{Outcome, answered}
 use Rattle.definitions.specs.Lists.{select}
-use Rattle.definitions.specs.Laws.Lists.Tests.{by-test}
+use Rattle.definitions.proofs.Laws.Lists.Tests.{by-test}
 use Rattle.definitions.specs.Growing.{Grown, enter, perform, perform_all}
 use Rattle.definitions.specs.Joining.{Joined, joined, Move, may_enter}
 use Rattle.growing.specs.declared.Sizes.{Sizes}

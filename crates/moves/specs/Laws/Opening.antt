@@ -10,7 +10,7 @@ use Rattle.definitions.specs.Faults.{Outcome, and_then}
 use Rattle.definitions.specs.Lists.{if◌then◌else◌, ◌!◌, select}
 use Rattle.definitions.specs.Growing.{Grown, Room, enter, perform_all}
 use Rattle.definitions.specs.Joining.{Mark, step, is_word, spoken_to, Joined, Move, move_by, may_enter}
-use Rattle.definitions.specs.Laws.Lists.Tests.{T_and, by-test}
+use Rattle.definitions.proofs.Laws.Lists.Tests.{T_and, by-test}
 use Rattle.growing.specs.declared.Sizes.{Sizes}
 use Rattle.growing.specs.declared.Step.{Step}
 use Rattle.growing.specs.declared.Step.TheVariants as answer

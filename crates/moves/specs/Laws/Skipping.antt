@@ -7,8 +7,8 @@ use Rattle.std.proofs.Math.ListN.{length, get_or}
 use Rattle.definitions.specs.Lists.{◌!◌, select, concat_map}
 use Rattle.definitions.specs.Arcs.{Arc, arc_size, arc_of}
 use Rattle.definitions.specs.Joining.{◌⊚◌, Mark, steps, Move, moves_along}
-use Rattle.definitions.specs.Laws.Lists.Selected.{select-here}
-use Rattle.definitions.specs.Laws.Networks.KnownNetworks.{arcs-length}
+use Rattle.definitions.proofs.Laws.Lists.Selected.{select-here}
+use Rattle.definitions.proofs.Laws.Networks.KnownNetworks.{arcs-length}
 use Rattle.arcs.specs.Laws.KnownArcs.{arc-at, source-at, arc-words-at, arcs-next}
 use Rattle.arcs.specs.Whole.{all_arcs, arc_at}
 use Rattle.arcs.specs.Laws.Leaving.{leaves, own-past}

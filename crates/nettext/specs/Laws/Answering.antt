@@ -7,7 +7,7 @@ use Rattle.definitions.specs.Faults.{Outcome, answered, refused}
 use Rattle.definitions.specs.Lists.{cleared}
 use Rattle.definitions.specs.NetworkText.{NetworkLine, no_counts, counts_of, read_network, arcs_left}
 use Rattle.definitions.specs.Said.{said_of}
-use Rattle.definitions.specs.Laws.Lists.Lists.{clear-length}
+use Rattle.definitions.proofs.Laws.Lists.Lists.{clear-length}
 use Rattle.nettext.specs.declared.Reading.{Reading}
 use Rattle.nettext.specs.declared.Reading.TheVariants.{Accepted, Refused}
 use Rattle.nettext.specs.Answers.{reading_of, reading_said}

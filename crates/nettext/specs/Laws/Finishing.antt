@@ -6,8 +6,8 @@ use Rattle.definitions.specs.declared.Fault.TheVariants.{Count}
 use Rattle.definitions.specs.Faults.{answered, judge}
 use Rattle.definitions.specs.Reading.{read_from}
 use Rattle.definitions.specs.NetworkText.{NetworkLine, network_complete, network_kind}
-use Rattle.definitions.specs.Laws.Lists.Tests.{by-test}
-use Rattle.definitions.specs.Laws.Text.Judging.{test-answered}
+use Rattle.definitions.proofs.Laws.Lists.Tests.{by-test}
+use Rattle.definitions.proofs.Laws.Text.Judging.{test-answered}
 use Rattle.nettext.specs.Answers.{reading_of}
 use Rattle.nettext.specs.States.{state_of, complete_in}
 use Rattle.nettext.specs.Taking.{finish_of}

@@ -8,8 +8,8 @@ use Rattle.definitions.specs.Lists.{concat_map}
 use Rattle.definitions.specs.Reading.{line_tests}
 use Rattle.definitions.specs.NetworkText.{NetworkLine, W, A, counts_in_line, counts_of, arc_in_line, arcs_of}
 use Rattle.definitions.specs.NetworkText.{network_follows, network_tests, network_complete, network_kind}
-use Rattle.definitions.specs.Laws.Lists.Tests.{by-test}
-use Rattle.definitions.specs.Laws.Text.Judging.{passes_at}
+use Rattle.definitions.proofs.Laws.Lists.Tests.{by-test}
+use Rattle.definitions.proofs.Laws.Text.Judging.{passes_at}
 use Rattle.lines.specs.Judging.{line_taken}
 use Rattle.lines.specs.Laws.Judging.{Taken, verdict-taken}
 use Rattle.nettext.specs.States.{state_of}

@@ -11,7 +11,7 @@ use Rattle.definitions.specs.Faults.{refuse}
 use Rattle.definitions.specs.Lines.{whole_lines}
 use Rattle.definitions.specs.Reading.{Kind, read_from}
 use Rattle.definitions.specs.NetworkText.{NetworkLine, network_kind, read_network, arcs_left}
-use Rattle.definitions.specs.Laws.Text.Judging.{refused-not-answered}
+use Rattle.definitions.proofs.Laws.Text.Judging.{refused-not-answered}
 use Rattle.lines.specs.Judging.{line_taken, lines_before, line_bytes}
 use Rattle.lines.specs.Laws.Judging.{verdict-taken, lines_none, lines_more, lines-counted, GoesOn}
 use Rattle.lines.specs.Laws.Judging.{goes-on-first, text-torn, goes-on-more, goes-on-refused, goes-on-end}

@@ -9,7 +9,7 @@ use Rattle.definitions.specs.Faults.{Outcome, answered, refused, answer_left}
 use Rattle.definitions.specs.Lists.{padded}
 use Rattle.definitions.specs.NetworkText.{NetworkLine, no_counts, counts_of, read_network, arcs_left, write_network}
 use Rattle.definitions.specs.Said.{said_of}
-use Rattle.definitions.specs.Laws.Networks.RoundTrips.{written-read-same, read-written}
+use Rattle.definitions.proofs.Laws.Networks.RoundTrips.{written-read-same, read-written}
 use Rattle.writing.specs.Answers.{written_of, written_said}
 use Rattle.writing.specs.Laws.Said.{written-told}
 use Rattle.writing.specs.Laws.Answering.{bytes-written}

@@ -4,7 +4,7 @@ use Rattle.std.proofs.Common.{sym, ap, ◌∙◌}
 use Rattle.definitions.specs.Faults.{Outcome, answered, refused}
 use Rattle.definitions.specs.NetworkText.{NetworkLine, no_counts, counts_of}
 use Rattle.definitions.specs.Said.{said_of}
-use Rattle.definitions.specs.Laws.Text.Said.{told, refusal-told, said_same}
+use Rattle.definitions.proofs.Laws.Text.Said.{told, refusal-told, said_same}
 use Rattle.nettext.specs.declared.Reading.{Reading}
 use Rattle.nettext.specs.declared.Reading.TheVariants.{Accepted, Refused}
 use Rattle.nettext.specs.Answers.{reading_of, reading_said}

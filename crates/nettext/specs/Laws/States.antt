@@ -9,7 +9,7 @@ use Rattle.definitions.specs.Forms.{network_forms}
 use Rattle.definitions.specs.Reading.{line_tests}
 use Rattle.definitions.specs.NetworkText.{NetworkLine, W, A, network_line, counts_of, arc_in_line, arcs_of}
 use Rattle.definitions.specs.NetworkText.{network_follows, network_in_order, network_complete, network_kind}
-use Rattle.definitions.specs.Laws.Lists.Lists.{concat_map-snoc}
+use Rattle.definitions.proofs.Laws.Lists.Lists.{concat_map-snoc}
 use Rattle.lines.specs.Judging.{verdict_by, line_verdict}
 use Rattle.nettext.specs.declared.State.{State}
 use Rattle.nettext.specs.States.{last_source, state_of, follows_in, in_order_in, tests_in, complete_in}

@@ -5,8 +5,8 @@ use Rattle.std.proofs.Common.{append-nil, arith}
 use Rattle.definitions.specs.Arcs.{arc_size, arc_words}
 use Rattle.definitions.specs.Lists.{concat_map, cleared}
 use Rattle.definitions.specs.NetworkText.{NetworkLine, W, A, arc_in_line, arcs_of}
-use Rattle.definitions.specs.Laws.Lists.Lists.{concat_map-snoc, padded-length}
-use Rattle.definitions.specs.Laws.Lists.Records.{flat-length, arc-sized}
+use Rattle.definitions.proofs.Laws.Lists.Lists.{concat_map-snoc, padded-length}
+use Rattle.definitions.proofs.Laws.Lists.Records.{flat-length, arc-sized}
 use Rattle.lines.specs.Laws.Putting.{put-after, padded-zeros}
 use Rattle.nettext.specs.Storing.{arcs_after, arcs_stored}
 use Rattle.nettext.specs.Laws.States.{arcs-more}

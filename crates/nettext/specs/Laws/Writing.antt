@@ -20,16 +20,16 @@ use Rattle.definitions.specs.Lines.{Line, line_text}
 use Rattle.definitions.specs.Arcs.{Arc, arc_size, arc_words, arc_of, arcs_in}
 use Rattle.definitions.specs.NetworkText.{arc_known, network_known, line_of_counts, line_of_arc, network_text}
 use Rattle.definitions.specs.NetworkText.{write_network}
-use Rattle.definitions.specs.Laws.Lists.Tests.{by-test, if-true, every-at}
-use Rattle.definitions.specs.Laws.Lists.Lists.{map_at, part_at, drop-cleared}
-use Rattle.definitions.specs.Laws.Lists.Members.{in-every, every-weaker}
-use Rattle.definitions.specs.Laws.Lists.Records.{record-at, written-length, written-records}
-use Rattle.definitions.specs.Laws.Text.LineFields.{all_fit}
-use Rattle.definitions.specs.Laws.Text.Lines.{line-length}
-use Rattle.definitions.specs.Laws.Networks.NetworkLines.{counts_ranged, counts-fit, arc-fit, known-ranged}
-use Rattle.definitions.specs.Laws.Networks.NetworkTexts.{arc_text}
-use Rattle.definitions.specs.Laws.Networks.KnownNetworks.{arcs-length, known-parts}
-use Rattle.definitions.specs.Laws.Networks.RoundTrips.{text-length, known_written}
+use Rattle.definitions.proofs.Laws.Lists.Tests.{by-test, if-true, every-at}
+use Rattle.definitions.proofs.Laws.Lists.Lists.{map_at, part_at, drop-cleared}
+use Rattle.definitions.proofs.Laws.Lists.Members.{in-every, every-weaker}
+use Rattle.definitions.proofs.Laws.Lists.Records.{record-at, written-length, written-records}
+use Rattle.definitions.proofs.Laws.Text.LineFields.{all_fit}
+use Rattle.definitions.proofs.Laws.Text.Lines.{line-length}
+use Rattle.definitions.proofs.Laws.Networks.NetworkLines.{counts_ranged, counts-fit, arc-fit, known-ranged}
+use Rattle.definitions.proofs.Laws.Networks.NetworkTexts.{arc_text}
+use Rattle.definitions.proofs.Laws.Networks.KnownNetworks.{arcs-length, known-parts}
+use Rattle.definitions.proofs.Laws.Networks.RoundTrips.{text-length, known_written}
 use Rattle.lines.specs.Rows.{line_in}
 use Rattle.lines.specs.declared.Row.{Row}
 use Rattle.writing.specs.Writing.{written}

@@ -12,7 +12,7 @@ use Rattle.definitions.specs.Matrices.{Matrix, most_columns, matrix_words}
 use Rattle.definitions.specs.Combinations.{Combination}
 use Rattle.definitions.specs.Metastates.{Metastate, starts, followers_from}
 use Rattle.definitions.specs.Connecting.{start_events, Network, no_network}
-use Rattle.definitions.specs.Laws.Books.AcceptedKnown.{header-ranges}
+use Rattle.definitions.proofs.Laws.Books.AcceptedKnown.{header-ranges}
 use Rattle.tables.specs.Usable.{book_with}
 use Rattle.matrix.specs.Laws.Shapes.{around-length, around-words}
 use Rattle.matrix.specs.Shapes.{width_of, matrix_in, HasWidth, columns_around}

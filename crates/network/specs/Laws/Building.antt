@@ -23,9 +23,9 @@ use Rattle.definitions.specs.Growing.{finished, stopped}
 use Rattle.definitions.specs.Connecting.{rules_of, Network, Built, connect}
 use Rattle.definitions.specs.Building.{Space, room_in, build, network_in, buffers_of, no_buffers, buffers_left}
 use Rattle.definitions.specs.Said.{said_of, progress_of, no_progress}
-use Rattle.definitions.specs.Laws.Text.Judging.{passes_at, judge-answered}
-use Rattle.definitions.specs.Laws.Lists.Records.{records-within}
-use Rattle.definitions.specs.Laws.Lists.Lists.{padded-length, padded-take, clear-length, clear-itself}
+use Rattle.definitions.proofs.Laws.Text.Judging.{passes_at, judge-answered}
+use Rattle.definitions.proofs.Laws.Lists.Records.{records-within}
+use Rattle.definitions.proofs.Laws.Lists.Lists.{padded-length, padded-take, clear-length, clear-itself}
 use Rattle.tables.specs.Lending.{lent_tables}
 use Rattle.combinations.specs.declared.Combined.{Combined}
 use Rattle.combinations.specs.declared.Combined.TheVariants as combined

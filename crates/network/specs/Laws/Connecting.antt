@@ -15,7 +15,7 @@ use Rattle.definitions.specs.Metastates.{metastate_words}
 use Rattle.definitions.specs.Building.{room_in, network_in}
 use Rattle.definitions.specs.Growing.{Room, turns_from, grow}
 use Rattle.definitions.specs.Connecting.{rules_of, start_events, Network, no_network, machine_of}
-use Rattle.definitions.specs.Laws.Text.RefusalLines.{performs-line}
+use Rattle.definitions.proofs.Laws.Text.RefusalLines.{performs-line}
 use Rattle.index.specs.Combinations.{combinations_in, nodes_book}
 use Rattle.index.specs.Indexing.{ends_size, farthest}
 use Rattle.index.specs.Filling.{Fillable, Filled}

@@ -12,13 +12,13 @@ use Rattle.definitions.specs.Lists.{◌!◌, concat_map, up_from, padded, IsIn}
 use Rattle.definitions.specs.Tables.{Book}
 use Rattle.definitions.specs.Combinations.{Combination, combinations_of, combinations}
 use Rattle.definitions.specs.Metastates.{no_combination, numbered}
-use Rattle.definitions.specs.Laws.Lists.Lists.{concat_map-append, map-up_from-length, map-up_from-at}
-use Rattle.definitions.specs.Laws.Lists.Lists.{padded-length, up_from-parts}
-use Rattle.definitions.specs.Laws.Lists.Members.{in-at, of-concat_map, of-up_from}
-use Rattle.definitions.specs.Laws.Matrices.SevenWords.{padded-column}
-use Rattle.definitions.specs.Laws.Books.Sound.{Sound}
-use Rattle.definitions.specs.Demand.Carrier.{top_of, top-wide}
-use Rattle.definitions.specs.Demand.Chosen.{choose-begins}
+use Rattle.definitions.proofs.Laws.Lists.Lists.{concat_map-append, map-up_from-length, map-up_from-at}
+use Rattle.definitions.proofs.Laws.Lists.Lists.{padded-length, up_from-parts}
+use Rattle.definitions.proofs.Laws.Lists.Members.{in-at, of-concat_map, of-up_from}
+use Rattle.definitions.proofs.Laws.Matrices.SevenWords.{padded-column}
+use Rattle.definitions.proofs.Laws.Books.Sound.{Sound}
+use Rattle.definitions.proofs.Demand.Carrier.{top_of, top-wide}
+use Rattle.definitions.proofs.Demand.Chosen.{choose-begins}
 use Rattle.combinations.specs.Answers.{end_of, ends_of}
 use Rattle.index.specs.Combinations.{EndsAt}
 

@@ -6,7 +6,7 @@ use Rattle.definitions.specs.declared.Refusal.{Refusal}
 use Rattle.definitions.specs.declared.Header.{Header}
 use Rattle.definitions.specs.Faults.{Outcome, answered, refused}
 use Rattle.definitions.specs.Connecting.{Built}
-use Rattle.definitions.specs.Laws.Text.Judging.{refused-not-answered}
+use Rattle.definitions.proofs.Laws.Text.Judging.{refused-not-answered}
 use Rattle.network.specs.declared.Build.TheVariants as build
 use Rattle.network.specs.Answers.{build_of}
 use Rattle.network.specs.Connected.{Connected}

@@ -6,7 +6,7 @@ use Rattle.definitions.specs.Lists.{if◌then◌else◌}
 use Rattle.definitions.specs.Growing.{finished, stopped}
 use Rattle.definitions.specs.Connecting.{Built}
 use Rattle.definitions.specs.Said.{said_of, Progress, progress_of, no_progress}
-use Rattle.definitions.specs.Laws.Text.Said.{told, refusal-told, said_same}
+use Rattle.definitions.proofs.Laws.Text.Said.{told, refusal-told, said_same}
 use Rattle.network.specs.declared.Totals.{Totals}
 use Rattle.network.specs.declared.Build.{Build}
 use Rattle.network.specs.declared.Build.TheVariants as build

@@ -15,10 +15,10 @@ use Rattle.definitions.specs.PhoneSets.{has, alone, all_phones}
 use Rattle.definitions.specs.Matrices.{Matrix, valid, meet, start_cut}
 use Rattle.definitions.specs.Combinations.{Combination}
 use Rattle.definitions.specs.Metastates.{Metastate, starts_from, followers_from, numbered}
-use Rattle.definitions.specs.Laws.Lists.Tests.{T_and, by-test}
-use Rattle.definitions.specs.Laws.Matrices.PhoneSets.{has-and, has-alone, same-members, within_all}
-use Rattle.definitions.specs.Laws.Matrices.Matrices.{meet-column, meet-length, start-column, start-other}
-use Rattle.definitions.specs.Laws.Matrices.Matrices.{start-length, valid-columns}
+use Rattle.definitions.proofs.Laws.Lists.Tests.{T_and, by-test}
+use Rattle.definitions.proofs.Laws.Matrices.PhoneSets.{has-and, has-alone, same-members, within_all}
+use Rattle.definitions.proofs.Laws.Matrices.Matrices.{meet-column, meet-length, start-column, start-other}
+use Rattle.definitions.proofs.Laws.Matrices.Matrices.{start-length, valid-columns}
 use Rattle.matrix.specs.Shapes.{columns_around}
 use Rattle.matrix.specs.Laws.Shapes.{around-length, around-left, around-centre, around-right}
 use Rattle.index.specs.Combinations.{IsCombination}

@@ -16,7 +16,7 @@ use Rattle.definitions.specs.Metastates.{metastate_words}
 use Rattle.definitions.specs.Building.{room_in, network_in, counts_in}
 use Rattle.definitions.specs.Growing.{Room, finished, stopped, grown_in, expand, turns_from}
 use Rattle.definitions.specs.Connecting.{Network, Built, machine_of}
-use Rattle.definitions.specs.Laws.Text.RefusalLines.{performs-line}
+use Rattle.definitions.proofs.Laws.Text.RefusalLines.{performs-line}
 use Rattle.index.specs.Combinations.{combinations_in, nodes_book, machine_in}
 use Rattle.growing.specs.declared.Sizes.{Sizes}
 use Rattle.growing.specs.declared.Step.{Step}

@@ -17,16 +17,16 @@ use Rattle.definitions.specs.BookLines.{leaf}
 use Rattle.definitions.specs.Lookup.{node_at}
 use Rattle.definitions.specs.Combinations.{Combination, combinations, combination_size, combination_words}
 use Rattle.definitions.specs.Metastates.{no_combination, numbered}
-use Rattle.definitions.specs.Laws.Lists.Lists.{padded-length, padded-take}
-use Rattle.definitions.specs.Laws.Lists.Members.{in-at, place_of, map_back}
-use Rattle.definitions.specs.Laws.Lists.Records.{written-length, written_all}
-use Rattle.definitions.specs.Laws.Matrices.Sizes.{record-length}
-use Rattle.definitions.specs.Laws.Text.Ranges.{phone_range}
+use Rattle.definitions.proofs.Laws.Lists.Lists.{padded-length, padded-take}
+use Rattle.definitions.proofs.Laws.Lists.Members.{in-at, place_of, map_back}
+use Rattle.definitions.proofs.Laws.Lists.Records.{written-length, written_all}
+use Rattle.definitions.proofs.Laws.Matrices.Sizes.{record-length}
+use Rattle.definitions.proofs.Laws.Text.Ranges.{phone_range}
 use Rattle.definitions.specs.Ranges.{InRange}
-use Rattle.definitions.specs.Laws.Books.Tables.{tree-nodes-length}
-use Rattle.definitions.specs.Demand.Windows.{valid-through}
-use Rattle.definitions.specs.Demand.Chosen.{Chosen, chosen_at}
-use Rattle.definitions.specs.Laws.Books.AcceptedKnown.{header-ranges}
+use Rattle.definitions.proofs.Laws.Books.Tables.{tree-nodes-length}
+use Rattle.definitions.proofs.Demand.Windows.{valid-through}
+use Rattle.definitions.proofs.Demand.Chosen.{Chosen, chosen_at}
+use Rattle.definitions.proofs.Laws.Books.AcceptedKnown.{header-ranges}
 use Rattle.tables.specs.Lending.{lent_tables}
 use Rattle.tables.specs.Usable.{book_with}
 use Rattle.tables.specs.Laws.KnownTables.{known-header, known-sound}

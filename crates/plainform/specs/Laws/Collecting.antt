@@ -9,7 +9,7 @@ use Rattle.definitions.specs.BookReading.{node_size}
 use Rattle.definitions.specs.Tables.{node_of}
 use Rattle.definitions.specs.BookLines.{no_root}
 use Rattle.definitions.specs.PlainForm.{Tree, sets_in, first_uses, trees_there}
-use Rattle.definitions.specs.Laws.Lists.Lists.{concat_map-append}
+use Rattle.definitions.proofs.Laws.Lists.Lists.{concat_map-append}
 use Rattle.plainform.specs.LentTrees.{tree_in, uses_in, KnownNode}
 use Rattle.plainform.specs.Collecting.{Collected}
 use Rattle.plainform.specs.Laws.Sets.{among, not-among}

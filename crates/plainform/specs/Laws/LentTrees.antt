@@ -12,11 +12,11 @@ use Rattle.definitions.specs.BookLines.{no_root}
 use Rattle.definitions.specs.BookReading.{node_size}
 use Rattle.definitions.specs.Tables.{node_of, asked_of}
 use Rattle.definitions.specs.PlainForm.{Tree, asking, giving, question_of, sets_in, size_of, trees_there}
-use Rattle.definitions.specs.Laws.Books.Accepted.{QuestionFits}
-use Rattle.definitions.specs.Laws.Books.Tables.{tree-nodes-length}
-use Rattle.definitions.specs.Laws.Lists.Tests.{T-or, every-at}
-use Rattle.definitions.specs.Laws.Lists.Lists.{every-cons}
-use Rattle.definitions.specs.Spelling.TreeShapes.{tree-asks, tree-gives}
+use Rattle.definitions.proofs.Laws.Books.Accepted.{QuestionFits}
+use Rattle.definitions.proofs.Laws.Books.Tables.{tree-nodes-length}
+use Rattle.definitions.proofs.Laws.Lists.Tests.{T-or, every-at}
+use Rattle.definitions.proofs.Laws.Lists.Lists.{every-cons}
+use Rattle.definitions.proofs.Spelling.TreeShapes.{tree-asks, tree-gives}
 use Rattle.tables.specs.Usable.{tree_nodes}
 use Rattle.tables.specs.Laws.KnownTables.{question-is, leaf-is, question-fits, known-forward}
 use Rattle.plainform.specs.LentTrees.{tree_in, KnownNode, KnownRoots}

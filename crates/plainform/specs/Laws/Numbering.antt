@@ -16,12 +16,12 @@ use Rattle.definitions.specs.BookReading.{node_size}
 use Rattle.definitions.specs.Tables.{node_words, node_of, asked_of}
 use Rattle.definitions.specs.PlainForm.{Question, Tree, asking, question_of, class_among, asked_among, size_of}
 use Rattle.definitions.specs.PlainForm.{nodes_from, all_nodes, roots_from, trees_there}
-use Rattle.definitions.specs.Laws.Lists.Tests.{by-test}
-use Rattle.definitions.specs.Laws.Lists.Sums.{sum-append}
-use Rattle.definitions.specs.Laws.Lists.Lists.{concat_map-append}
-use Rattle.definitions.specs.Laws.Lists.Records.{flat-length}
-use Rattle.definitions.specs.Laws.Books.Tables.{node-sized}
-use Rattle.definitions.specs.Spelling.PlainTrees.{nodes-size, sizes, all-size, roots-length}
+use Rattle.definitions.proofs.Laws.Lists.Tests.{by-test}
+use Rattle.definitions.proofs.Laws.Lists.Sums.{sum-append}
+use Rattle.definitions.proofs.Laws.Lists.Lists.{concat_map-append}
+use Rattle.definitions.proofs.Laws.Lists.Records.{flat-length}
+use Rattle.definitions.proofs.Laws.Books.Tables.{node-sized}
+use Rattle.definitions.proofs.Spelling.PlainTrees.{nodes-size, sizes, all-size, roots-length}
 use Rattle.lines.specs.Putting.{put_at}
 use Rattle.lines.specs.Laws.Putting.{put-none, put-each, put_both, put-before}
 use Rattle.plainform.specs.LentTrees.{tree_in, there_in, KnownNode}

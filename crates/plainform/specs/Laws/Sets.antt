@@ -5,9 +5,9 @@ use Prim.Native.Nat.{ℕ, suc, ◌+◌, ◌≤◌, ◌<◌}
 use Rattle.std.proofs.Math.Dec.{eqb}
 use borrow.Author.Tests.{eq-eqb, ne_eqb}
 use Rattle.definitions.specs.Lists.{◌!◌, at_least_one, place_of, IsIn}
-use Rattle.definitions.specs.Laws.Lists.Tests.{by-test, same_tests}
-use Rattle.definitions.specs.Laws.Lists.Members.{listed}
-use Rattle.definitions.specs.Laws.Lists.Places.{numbers-told, placed}
+use Rattle.definitions.proofs.Laws.Lists.Tests.{by-test, same_tests}
+use Rattle.definitions.proofs.Laws.Lists.Members.{listed}
+use Rattle.definitions.proofs.Laws.Lists.Places.{numbers-told, placed}
 
 -- ---- looking at one set after the other
 

@@ -15,12 +15,12 @@ use Rattle.definitions.specs.ForeignTables.{tables_known}
 use Rattle.definitions.specs.Said.{said_of}
 use Rattle.definitions.specs.Transcription.{transcribe}
 use Rattle.definitions.specs.PlainForm.{SameBook, plain_lines, plain_text, write_plain}
-use Rattle.definitions.specs.Laws.Lists.Tests.{if-true}
-use Rattle.definitions.specs.Laws.Text.Judging.{refused-not-answered}
-use Rattle.definitions.specs.Laws.Books.Books.{accepted-contents}
-use Rattle.definitions.specs.Laws.Books.AcceptedKnown.{accepted-known}
-use Rattle.definitions.specs.Spelling.PlainModels.{plain-accepted, plain-transcribed}
-use Rattle.definitions.specs.Spelling.OneSpelling.{one-spelling, plain_form}
+use Rattle.definitions.proofs.Laws.Lists.Tests.{if-true}
+use Rattle.definitions.proofs.Laws.Text.Judging.{refused-not-answered}
+use Rattle.definitions.proofs.Laws.Books.Books.{accepted-contents}
+use Rattle.definitions.proofs.Laws.Books.AcceptedKnown.{accepted-known}
+use Rattle.definitions.proofs.Spelling.PlainModels.{plain-accepted, plain-transcribed}
+use Rattle.definitions.proofs.Spelling.OneSpelling.{one-spelling, plain_form}
 use Rattle.book.specs.Answers.{reading_of, reading_said}
 use Rattle.book.specs.declared.Reading.{Reading}
 use Rattle.book.specs.Laws.Said.{reading-told}

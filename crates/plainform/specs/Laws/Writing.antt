@@ -22,15 +22,15 @@ use Rattle.definitions.specs.BookText.{book_line_for, lines_of_book}
 use Rattle.definitions.specs.PlainForm.{Tree, asking, giving, tree_for, trees_of, sets_in, sets_of, size_of, all_nodes}
 use Rattle.definitions.specs.PlainForm.{roots_from}
 use Rattle.definitions.specs.PlainForm.{numbered, plain_contents, header_for, plain_lines, plain_text, write_plain}
-use Rattle.definitions.specs.Laws.Lists.Tests.{T-or, by-test}
-use Rattle.definitions.specs.Laws.Lists.Selected.{in-select}
-use Rattle.definitions.specs.Laws.Lists.Lists.{padded-none, padded-take}
-use Rattle.definitions.specs.Laws.Lists.Members.{every_in}
-use Rattle.definitions.specs.Laws.Books.Books.{Roomy, roomy, roots_few}
-use Rattle.definitions.specs.Laws.Books.Tables.{tables-contents}
-use Rattle.definitions.specs.Laws.Books.KnownBooks.{Stated, known-stated, known-wide}
-use Rattle.definitions.specs.Spelling.PlainTrees.{sizes, all-size, roots-length}
-use Rattle.definitions.specs.Spelling.PlainStated.{stated-root, stated-size, plain-nodes, plain-stated, plain-wide}
+use Rattle.definitions.proofs.Laws.Lists.Tests.{T-or, by-test}
+use Rattle.definitions.proofs.Laws.Lists.Selected.{in-select}
+use Rattle.definitions.proofs.Laws.Lists.Lists.{padded-none, padded-take}
+use Rattle.definitions.proofs.Laws.Lists.Members.{every_in}
+use Rattle.definitions.proofs.Laws.Books.Books.{Roomy, roomy, roots_few}
+use Rattle.definitions.proofs.Laws.Books.Tables.{tables-contents}
+use Rattle.definitions.proofs.Laws.Books.KnownBooks.{Stated, known-stated, known-wide}
+use Rattle.definitions.proofs.Spelling.PlainTrees.{sizes, all-size, roots-length}
+use Rattle.definitions.proofs.Spelling.PlainStated.{stated-root, stated-size, plain-nodes, plain-stated, plain-wide}
 use Rattle.lines.specs.Putting.{put_at}
 use Rattle.lines.specs.Laws.Putting.{put-after}
 use Rattle.tables.specs.Usable.{tree_nodes}

@@ -16,9 +16,9 @@ use Rattle.definitions.specs.NetworkText.{network_known}
 use Rattle.definitions.specs.Said.{said_of, no_progress, book_progress}
 use Rattle.definitions.specs.Program.{program_lent, program_space, program_turns, text_of_built, network_of}
 use Rattle.definitions.specs.Program.{refusal_text, printed}
-use Rattle.definitions.specs.Laws.Text.Judging.{and_then-answered}
-use Rattle.definitions.specs.Laws.Lists.Records.{arcs-read}
-use Rattle.definitions.specs.Laws.Text.RefusalLines.{built-line}
+use Rattle.definitions.proofs.Laws.Text.Judging.{and_then-answered}
+use Rattle.definitions.proofs.Laws.Lists.Records.{arcs-read}
+use Rattle.definitions.proofs.Laws.Text.RefusalLines.{built-line}
 use Rattle.network.specs.declared.Build.{Build}
 use Rattle.network.specs.declared.Build.TheVariants as build
 use Rattle.network.specs.Answers.{build_of, build_said, totals_of}

@@ -15,10 +15,10 @@ use Rattle.definitions.specs.Connecting.{Built}
 use Rattle.definitions.specs.Building.{Space, build, network_in, counts_in, buffers_left}
 use Rattle.definitions.specs.NetworkText.{network_known}
 use Rattle.definitions.specs.Ranges.{Within}
-use Rattle.definitions.specs.Laws.Books.Accepted.{leaf-fitting}
-use Rattle.definitions.specs.Demand.Assembly.{built-tables-known, build-connects, arcs-decoded}
-use Rattle.definitions.specs.Demand.BuiltKnown.{connected-known}
-use Rattle.definitions.specs.Laws.Books.KnownBooks.{known-stated, stated-sound}
+use Rattle.definitions.proofs.Laws.Books.Accepted.{leaf-fitting}
+use Rattle.definitions.proofs.Demand.Assembly.{built-tables-known, build-connects, arcs-decoded}
+use Rattle.definitions.proofs.Demand.BuiltKnown.{connected-known}
+use Rattle.definitions.proofs.Laws.Books.KnownBooks.{known-stated, stated-sound}
 
 -- the leaves of known tables have models in range
 known-leaf : (header : Header) (tables : Tables) → T (tables_known header tables)

@@ -20,12 +20,13 @@ use Rattle.definitions.specs.Building.{build, counts_in, buffers_left}
 use Rattle.definitions.specs.BookBuilding.{BookBuilt, build_read, build_book}
 use Rattle.definitions.specs.Program.{program_lent, program_space, program_turns, text_of_built, network_of}
 use Rattle.definitions.specs.Program.{refusal_text, printed, program}
-use Rattle.definitions.specs.Laws.Lists.Tests.{by-test}
-use Rattle.definitions.specs.Laws.Text.Judging.{and_then-answered}
-use Rattle.definitions.specs.Laws.Text.Lines.{line-letter}
-use Rattle.definitions.specs.Laws.Networks.Program.{program-long, program-short}
-use Rattle.definitions.specs.Construction.Turns.{program-never-stopped}
-use Rattle.definitions.specs.Demand.Demand.{Demand3, demand3}
+use Rattle.definitions.proofs.Laws.Lists.Tests.{by-test}
+use Rattle.definitions.proofs.Laws.Text.Judging.{and_then-answered}
+use Rattle.definitions.proofs.Laws.Text.Lines.{line-letter}
+use Rattle.definitions.proofs.Laws.Networks.Program.{program-long, program-short}
+use Rattle.definitions.proofs.Construction.Turns.{program-never-stopped}
+use Rattle.definitions.specs.Demand.{Demand3}
+use Rattle.definitions.proofs.Demand.Demand.{demand3}
 use Rattle.program.specs.Laws.RoundTrips.{built-read}
 use Rattle.program.specs.Printing.{Prints}
 use Rattle.program.specs.Demand.{PrintsDemand3}

@@ -15,10 +15,10 @@ use Rattle.definitions.specs.Faults.{answered, number_of, answer_left}
 use Rattle.definitions.specs.Arcs.{arc_size}
 use Rattle.definitions.specs.NetworkText.{network_known, write_network}
 use Rattle.definitions.specs.Program.{refusal_text}
-use Rattle.definitions.specs.Laws.Lists.Lists.{drop-cleared, padded-none, padded-length}
-use Rattle.definitions.specs.Laws.Networks.KnownNetworks.{known-holds}
-use Rattle.definitions.specs.Laws.Networks.RoundTrips.{known_written}
-use Rattle.definitions.specs.Laws.Networks.Program.{fault-small, refusal-length}
+use Rattle.definitions.proofs.Laws.Lists.Lists.{drop-cleared, padded-none, padded-length}
+use Rattle.definitions.proofs.Laws.Networks.KnownNetworks.{known-holds}
+use Rattle.definitions.proofs.Laws.Networks.RoundTrips.{known_written}
+use Rattle.definitions.proofs.Laws.Networks.Program.{fault-small, refusal-length}
 use Rattle.lines.specs.declared.Row.{Row}
 use Rattle.lines.specs.Rows.{line_in}
 use Rattle.writing.specs.Writing.{writable, written}

@@ -3,7 +3,7 @@
 use Rattle.std.specs.Prelude.{◌≡◌, List, ℕ, length, take}
 use Rattle.std.proofs.Common.{ap, ◌∙◌}
 use Rattle.definitions.specs.Program.{program}
-use Rattle.definitions.specs.Laws.Networks.Program.{program-read}
+use Rattle.definitions.proofs.Laws.Networks.Program.{program-read}
 use Rattle.program.specs.Printing.{Prints}
 use Rattle.program.specs.Reading.{PrintsInput}
 use Rattle.program.specs.Laws.Printing.{prints-same}

@@ -12,7 +12,7 @@ use Rattle.definitions.specs.Faults.{Outcome, answered, refused}
 use Rattle.definitions.specs.NetworkText.{network_known, network_text, write_network, Leaves}
 use Rattle.definitions.specs.Said.{said_of, progress_of, no_progress}
 use Rattle.definitions.specs.Tables.{Tables, tables_book}
-use Rattle.definitions.specs.Laws.Networks.RoundTrips.{written-read-same, text-length, known_written}
+use Rattle.definitions.proofs.Laws.Networks.RoundTrips.{written-read-same, text-length, known_written}
 use Rattle.writing.specs.Answers.{written_of, written_said}
 use Rattle.writing.specs.Laws.Said.{written-told}
 use Rattle.writing.specs.declared.Written.{Written}

@@ -7,7 +7,7 @@ use Rattle.std.proofs.Math.Nat.{sub-zero}
 use Rattle.std.proofs.Math.ListN.{length}
 use borrow.Author.Tests.{eq-eqb, ne_eqb}
 use Rattle.definitions.specs.Lists.{◌!◌}
-use Rattle.definitions.specs.Laws.Lists.Lists.{drop-take}
+use Rattle.definitions.proofs.Laws.Lists.Lists.{drop-take}
 use Rattle.showing.specs.Titles.{place_of, title_of, end_of, text_of}
 
 -- ---- finding a byte

@@ -10,10 +10,10 @@ use Rattle.definitions.specs.Ranges.{InRange}
 use Rattle.definitions.specs.Lists.{◌!◌}
 use Rattle.definitions.specs.BookLines.{root_count, root_place}
 use Rattle.definitions.specs.Tables.{tree_phone, tables_contents, roots_in_force}
-use Rattle.definitions.specs.Laws.Lists.Lists.{map-up_from-length, map-up_from-at}
-use Rattle.definitions.specs.Laws.Books.AcceptedKnown.{header-ranges, holds-padded}
-use Rattle.definitions.specs.Laws.Books.KnownBooks.{plain-table-parts, root-table-parts}
-use Rattle.definitions.specs.Laws.Books.ForcedRoots.{tree_plain}
+use Rattle.definitions.proofs.Laws.Lists.Lists.{map-up_from-length, map-up_from-at}
+use Rattle.definitions.proofs.Laws.Books.AcceptedKnown.{header-ranges, holds-padded}
+use Rattle.definitions.proofs.Laws.Books.KnownBooks.{plain-table-parts, root-table-parts}
+use Rattle.definitions.proofs.Laws.Books.ForcedRoots.{tree_plain}
 use Rattle.lines.specs.Laws.Filling.{Filled, filled-start, filled_more}
 use Rattle.tables.specs.Forcing.{forced_roots, Forceable}
 use Rattle.tables.specs.Laws.Roots.{tree-place}

@@ -18,18 +18,18 @@ use Rattle.definitions.specs.Tables.{tables_contents, book_in, roots_in_force}
 use Rattle.definitions.specs.ForeignTables.{header_known, nodes_known, class_table_known, named_once}
 use Rattle.definitions.specs.ForeignTables.{tables_known}
 use Rattle.definitions.specs.Lookup.{node_at}
-use Rattle.definitions.specs.Laws.Lists.Records.{record-at}
-use Rattle.definitions.specs.Laws.Books.Tables.{node-of-first, tree-nodes-length}
-use Rattle.definitions.specs.Laws.Books.Accepted.{AllFrom, NodeFits, QuestionFits, question-fitting}
-use Rattle.definitions.specs.Laws.Books.Accepted.{fitting-forward}
-use Rattle.definitions.specs.Laws.Trees.Walks.{Forward}
-use Rattle.definitions.specs.Laws.Books.AcceptedKnown.{header-ranges, tables-parts, holds-padded, KnownParts}
-use Rattle.definitions.specs.Laws.Books.KnownBooks.{known-nodes, node-table-parts, class-table-parts}
-use Rattle.definitions.specs.Laws.Books.KnownBooks.{none-orphaned, Stated, known-stated, stated-force}
-use Rattle.definitions.specs.Laws.Books.KnownBooks.{stated-sound}
-use Rattle.definitions.specs.Laws.Books.Books.{roots_few}
-use Rattle.definitions.specs.Laws.Books.Sound.{Sound}
-use Rattle.definitions.specs.Laws.Books.NamedOnce.{child-once}
+use Rattle.definitions.proofs.Laws.Lists.Records.{record-at}
+use Rattle.definitions.proofs.Laws.Books.Tables.{node-of-first, tree-nodes-length}
+use Rattle.definitions.proofs.Laws.Books.Accepted.{AllFrom, NodeFits, QuestionFits, question-fitting}
+use Rattle.definitions.proofs.Laws.Books.Accepted.{fitting-forward}
+use Rattle.definitions.proofs.Laws.Trees.Walks.{Forward}
+use Rattle.definitions.proofs.Laws.Books.AcceptedKnown.{header-ranges, tables-parts, holds-padded, KnownParts}
+use Rattle.definitions.proofs.Laws.Books.KnownBooks.{known-nodes, node-table-parts, class-table-parts}
+use Rattle.definitions.proofs.Laws.Books.KnownBooks.{none-orphaned, Stated, known-stated, stated-force}
+use Rattle.definitions.proofs.Laws.Books.KnownBooks.{stated-sound}
+use Rattle.definitions.proofs.Laws.Books.Books.{roots_few}
+use Rattle.definitions.proofs.Laws.Books.Sound.{Sound}
+use Rattle.definitions.proofs.Laws.Books.NamedOnce.{child-once}
 use Rattle.tables.specs.Lending.{lent_tables}
 use Rattle.tables.specs.Forcing.{forced_roots, Forceable}
 use Rattle.tables.specs.Laws.Forcing.{forced-length}

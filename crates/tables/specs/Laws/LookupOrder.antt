@@ -7,7 +7,7 @@ use Rattle.definitions.specs.BookReading.{node_size}
 use Rattle.definitions.specs.Tables.{node_records}
 use Rattle.definitions.specs.ForeignTables.{header_known, nodes_known, holds_only, node_table_known, class_table_known}
 use Rattle.definitions.specs.Lookup.{lookup_known}
-use Rattle.definitions.specs.Laws.Books.Tables.{node-records-length}
+use Rattle.definitions.proofs.Laws.Books.Tables.{node-records-length}
 
 -- the length of the table is tested after the header, with its records; that there are as many of these as the
 -- header says needs no test

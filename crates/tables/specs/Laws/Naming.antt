@@ -12,9 +12,9 @@ use borrow.Author.Tests.{lt-ltb, le-ltb, eq-eqb, ne_eqb, ltb-true, ltb-false}
 use Rattle.definitions.specs.Lists.{◌!◌, select, concat_map, up_from, occurrences}
 use Rattle.definitions.specs.BookLines.{TreeNode, question, leaf, children_of}
 use Rattle.definitions.specs.BookReading.{orphans}
-use Rattle.definitions.specs.Laws.Lists.Tests.{by-test}
-use Rattle.definitions.specs.Laws.Lists.Lists.{map-up_from-length, map-up_from-at}
-use Rattle.definitions.specs.Laws.Lists.Occurrences.{occurrences-append, occurrences-least}
+use Rattle.definitions.proofs.Laws.Lists.Tests.{by-test}
+use Rattle.definitions.proofs.Laws.Lists.Lists.{map-up_from-length, map-up_from-at}
+use Rattle.definitions.proofs.Laws.Lists.Occurrences.{occurrences-append, occurrences-least}
 use Rattle.tables.specs.Naming.{counts_of, named_again, named_all, first_misnamed, all_names}
 
 -- ---- how often a number stands in a list

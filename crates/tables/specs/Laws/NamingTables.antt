@@ -13,9 +13,9 @@ use Rattle.definitions.specs.BookLines.{TreeNode, children_of, root_count}
 use Rattle.definitions.specs.BookReading.{node_size}
 use Rattle.definitions.specs.Tables.{node_of, tree_node, tables_contents}
 use Rattle.definitions.specs.ForeignTables.{header_known, named_once}
-use Rattle.definitions.specs.Laws.Books.Tables.{tree-nodes-length}
-use Rattle.definitions.specs.Laws.Books.Books.{roots_few}
-use Rattle.definitions.specs.Laws.Books.AcceptedKnown.{header-ranges}
+use Rattle.definitions.proofs.Laws.Books.Tables.{tree-nodes-length}
+use Rattle.definitions.proofs.Laws.Books.Books.{roots_few}
+use Rattle.definitions.proofs.Laws.Books.AcceptedKnown.{header-ranges}
 use Rattle.tables.specs.Lending.{lent_tables}
 use Rattle.tables.specs.Naming.{all_names, counts_of, named_again, named_all, first_misnamed}
 use Rattle.tables.specs.Usable.{records_from, tree_nodes}

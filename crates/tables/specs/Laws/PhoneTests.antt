@@ -11,7 +11,7 @@ use Rattle.definitions.specs.Lists.{◌!◌, every, up_from}
 use Rattle.definitions.specs.BookLines.{root_count, no_root}
 use Rattle.definitions.specs.ForeignTables.{holds_only, roots_of_phone, phone_known, roots_known, root_table_known}
 use Rattle.definitions.specs.ForeignTables.{plains_known, plain_table_known}
-use Rattle.definitions.specs.Laws.Lists.Lists.{part_at, up_from-length, map-up_from-length, map-up_from-at}
+use Rattle.definitions.proofs.Laws.Lists.Lists.{part_at, up_from-length, map-up_from-length, map-up_from-at}
 use Rattle.lines.specs.Laws.Passing.{Passed, passed_start, passed-more, passed-stop, passed-end}
 
 -- ---- a whole table, where nothing stands beyond the words that count

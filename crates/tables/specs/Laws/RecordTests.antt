@@ -1,7 +1,7 @@
 -- Laws about the tests of a single record and of a single set of phones, one for each answer of the code.
 use Rattle.std.specs.Prelude.{◌≡◌, ◌↔◌, Bool, true, false, ℕ, suc, ◌-◌, ◌*◌, ◌/◌, ◌^◌, ◌≤◌, ◌<◌, T, ltb}
 use Rattle.std.proofs.Common.{ap, ◌∙◌, div-lt_iff_lt-mul, pow-suc, arith, ltb→lt, lt→ltb, pow_pos, lt-ltb, ltb-true}
-use Rattle.definitions.specs.Laws.Lists.Tests.{by-test, same_tests}
+use Rattle.definitions.proofs.Laws.Lists.Tests.{by-test, same_tests}
 
 -- ---- records
 

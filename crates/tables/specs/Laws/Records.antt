@@ -6,7 +6,7 @@ use Rattle.definitions.specs.declared.Header.{Header}
 use Rattle.definitions.specs.Lists.{◌!◌, records}
 use Rattle.definitions.specs.BookReading.{node_size}
 use Rattle.definitions.specs.Tables.{node_of, node_records}
-use Rattle.definitions.specs.Laws.Books.Tables.{node-of-first}
+use Rattle.definitions.proofs.Laws.Books.Tables.{node-of-first}
 use Rattle.tables.specs.Usable.{records_from}
 
 -- five words from a place on are a record

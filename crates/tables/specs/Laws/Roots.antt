@@ -5,7 +5,7 @@ use Rattle.std.proofs.Common.{sym, ap, ◌∙◌, suc-mul, mul-le-mul_right, ari
 use Rattle.definitions.specs.declared.Header.{Header}
 use Rattle.definitions.specs.Lists.{◌!◌}
 use Rattle.definitions.specs.BookLines.{root_count}
-use Rattle.definitions.specs.Laws.Lists.Tests.{every-at}
+use Rattle.definitions.proofs.Laws.Lists.Tests.{every-at}
 use Rattle.tables.specs.Usable.{RootsListed}
 
 pub tree-place : (header : Header) (phone state : ℕ) → 1 ≤ phone → phone ≤ header.phones → 1 ≤ state

@@ -10,7 +10,7 @@ use Rattle.definitions.specs.BookLines.{root_count}
 use Rattle.definitions.specs.BookReading.{node_size}
 use Rattle.definitions.specs.Tables.{node_of}
 use Rattle.definitions.specs.ForeignTables.{question_known, leaf_known, nodes_known, holds_only, node_table_known}
-use Rattle.definitions.specs.Laws.Books.AcceptedKnown.{holds-padded}
+use Rattle.definitions.proofs.Laws.Books.AcceptedKnown.{holds-padded}
 use Rattle.lines.specs.Laws.Passing.{Passed}
 use Rattle.tables.specs.Usable.{records_from}
 use Rattle.tables.specs.Laws.Records.{records-start, records-next, records-end}

@@ -17,9 +17,9 @@ use Rattle.definitions.specs.Tables.{Tables, Book, tables_book, book_in, tables_
 use Rattle.definitions.specs.ForeignTables.{tables_known}
 use Rattle.definitions.specs.Transcription.{transcription, question_sum, transcribed, is_utterance, transcribe}
 use Rattle.definitions.specs.Transcription.{models_left}
-use Rattle.definitions.specs.Laws.Lists.Tests.{by-test}
-use Rattle.definitions.specs.Laws.Lists.Lists.{drop-cleared}
-use Rattle.definitions.specs.Laws.Books.AcceptedKnown.{header-ranges}
+use Rattle.definitions.proofs.Laws.Lists.Tests.{by-test}
+use Rattle.definitions.proofs.Laws.Lists.Lists.{drop-cleared}
+use Rattle.definitions.proofs.Laws.Books.AcceptedKnown.{header-ranges}
 use Rattle.tables.specs.Laws.KnownTables.{known-header}
 use Rattle.trees.specs.Laws.Answering.{at-no-line}
 use Rattle.transcripts.specs.declared.Transcript.{Transcript}

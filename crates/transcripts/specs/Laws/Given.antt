@@ -17,12 +17,12 @@ use Rattle.definitions.specs.ForeignTables.{tables_known}
 use Rattle.definitions.specs.TreesGive.{trees_give}
 use Rattle.definitions.specs.Transcription.{Transcribed, transcribed, is_utterance, transcribe}
 use Rattle.definitions.specs.QuestionsPut.{questions_put}
-use Rattle.definitions.specs.Laws.Lists.Tests.{T_and, if-true}
-use Rattle.definitions.specs.Laws.Text.Judging.{passes_at, judge-passing, judge-answered}
-use Rattle.definitions.specs.Laws.Books.Books.{accepted-book}
-use Rattle.definitions.specs.Laws.Books.AcceptedKnown.{accepted-known}
-use Rattle.definitions.specs.Laws.Trees.ModelsAlong.{models-along, questions-along}
-use Rattle.definitions.specs.Laws.Trees.Utterances.{utterance-phones}
+use Rattle.definitions.proofs.Laws.Lists.Tests.{T_and, if-true}
+use Rattle.definitions.proofs.Laws.Text.Judging.{passes_at, judge-passing, judge-answered}
+use Rattle.definitions.proofs.Laws.Books.Books.{accepted-book}
+use Rattle.definitions.proofs.Laws.Books.AcceptedKnown.{accepted-known}
+use Rattle.definitions.proofs.Laws.Trees.ModelsAlong.{models-along, questions-along}
+use Rattle.definitions.proofs.Laws.Trees.Utterances.{utterance-phones}
 
 option-same : {A : Type 0} {x y : A} → ◌≡◌ {A = Option A} (some x) (some y) → x ≡ y
 option-same e = cc

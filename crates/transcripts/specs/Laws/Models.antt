@@ -18,12 +18,12 @@ use Rattle.definitions.specs.Tables.{Book, node_of, root_of}
 use Rattle.definitions.specs.Lookup.{reached, model_at, is_context}
 use Rattle.definitions.specs.TreesGive.{silences, contexts}
 use Rattle.definitions.specs.Transcription.{reached_for, model_of, transcription}
-use Rattle.definitions.specs.Laws.Lists.Tests.{T_and, eq→eqb}
-use Rattle.definitions.specs.Laws.Lists.Lists.{map-up_from-length, map-up_from-at, concat_map-snoc}
-use Rattle.definitions.specs.Laws.Lists.Records.{flat-length}
-use Rattle.definitions.specs.Laws.Trees.Walks.{reached-model}
-use Rattle.definitions.specs.Laws.Trees.Contexts.{context_at, contexts-length, context-phones, silent-phones}
-use Rattle.definitions.specs.Laws.Trees.Contexts.{silent-context-length}
+use Rattle.definitions.proofs.Laws.Lists.Tests.{T_and, eq→eqb}
+use Rattle.definitions.proofs.Laws.Lists.Lists.{map-up_from-length, map-up_from-at, concat_map-snoc}
+use Rattle.definitions.proofs.Laws.Lists.Records.{flat-length}
+use Rattle.definitions.proofs.Laws.Trees.Walks.{reached-model}
+use Rattle.definitions.proofs.Laws.Trees.Contexts.{context_at, contexts-length, context-phones, silent-phones}
+use Rattle.definitions.proofs.Laws.Trees.Contexts.{silent-context-length}
 use Rattle.tables.specs.Usable.{book_with, tree_nodes}
 use Rattle.trees.specs.declared.Walked.{Walked}
 use Rattle.trees.specs.Answers.{walked_of}

@@ -13,11 +13,11 @@ use Rattle.definitions.specs.Lists.{◌!◌, up_from, sum_of}
 use Rattle.definitions.specs.Tables.{Book, tree_node, node_records, root_of}
 use Rattle.definitions.specs.TreesGive.{contexts}
 use Rattle.definitions.specs.Transcription.{reached_for, questions_at, question_sum}
-use Rattle.definitions.specs.Laws.Lists.Lists.{up_from-length, up_from-snoc}
-use Rattle.definitions.specs.Laws.Lists.Sums.{sum-append, sum-most}
-use Rattle.definitions.specs.Laws.Books.Tables.{node-records-length}
-use Rattle.definitions.specs.Laws.Trees.Walks.{reached-few}
-use Rattle.definitions.specs.Laws.Trees.Contexts.{context_at}
+use Rattle.definitions.proofs.Laws.Lists.Lists.{up_from-length, up_from-snoc}
+use Rattle.definitions.proofs.Laws.Lists.Sums.{sum-append, sum-most}
+use Rattle.definitions.proofs.Laws.Books.Tables.{node-records-length}
+use Rattle.definitions.proofs.Laws.Trees.Walks.{reached-few}
+use Rattle.definitions.proofs.Laws.Trees.Contexts.{context_at}
 use Rattle.lines.specs.Laws.Filling.{Filled, filled-start}
 use Rattle.tables.specs.Usable.{book_with, Fit}
 use Rattle.transcripts.specs.Answers.{state_models}

@@ -4,7 +4,7 @@ use Rattle.std.proofs.Common.{sym, ◌∙◌}
 use Rattle.definitions.specs.Faults.{Outcome, answered, refused}
 use Rattle.definitions.specs.Said.{said_of}
 use Rattle.definitions.specs.Transcription.{Transcribed}
-use Rattle.definitions.specs.Laws.Text.Said.{told, refusal-told, said_same}
+use Rattle.definitions.proofs.Laws.Text.Said.{told, refusal-told, said_same}
 use Rattle.transcripts.specs.declared.Transcript.{Transcript}
 use Rattle.transcripts.specs.declared.Transcript.TheVariants as transcript
 use Rattle.transcripts.specs.Answers.{tally_of, no_tally, transcript_of, transcript_said}

@@ -16,11 +16,11 @@ use Rattle.definitions.specs.BookReading.{node_size}
 use Rattle.definitions.specs.Tables.{record_words, node_of, node_records}
 use Rattle.definitions.specs.ForeignTables.{holds_only}
 use Rattle.definitions.specs.Lookup.{leaf_lookup, leaf_lookup_in_table}
-use Rattle.definitions.specs.Laws.Lists.Tests.{if-true}
-use Rattle.definitions.specs.Laws.Lists.Members.{map_back}
-use Rattle.definitions.specs.Laws.Lists.Records.{flat-length}
-use Rattle.definitions.specs.Laws.Books.Tables.{written-nodes}
-use Rattle.definitions.specs.Laws.Books.AcceptedKnown.{holds-used}
+use Rattle.definitions.proofs.Laws.Lists.Tests.{if-true}
+use Rattle.definitions.proofs.Laws.Lists.Members.{map_back}
+use Rattle.definitions.proofs.Laws.Lists.Records.{flat-length}
+use Rattle.definitions.proofs.Laws.Books.Tables.{written-nodes}
+use Rattle.definitions.proofs.Laws.Books.AcceptedKnown.{holds-used}
 use Rattle.trees.specs.declared.Lookup.{Lookup}
 use Rattle.trees.specs.Answers.{walked_of, no_walk, lookup_of, lookup_said}
 use Rattle.trees.specs.Laws.Said.{lookup-told}

@@ -15,7 +15,7 @@ use Rattle.definitions.specs.BookReading.{node_size}
 use Rattle.definitions.specs.Tables.{tree_node, node_records}
 use Rattle.definitions.specs.ForeignTables.{header_known, nodes_known, holds_only, class_table_known}
 use Rattle.definitions.specs.Lookup.{reached, lookup_known, is_context, leaf_lookup, leaf_lookup_in_table}
-use Rattle.definitions.specs.Laws.Lists.Tests.{T-three, by-test}
+use Rattle.definitions.proofs.Laws.Lists.Tests.{T-three, by-test}
 use Rattle.tables.specs.Usable.{tree_nodes}
 use Rattle.trees.specs.declared.Walked.{Walked}
 use Rattle.trees.specs.declared.Lookup.{Lookup}

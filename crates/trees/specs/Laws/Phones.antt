@@ -7,8 +7,8 @@ use Rattle.definitions.specs.declared.Header.{Header}
 use Rattle.definitions.specs.Lists.{◌!◌, every}
 use Rattle.definitions.specs.BookLines.{is_phone}
 use Rattle.definitions.specs.Lookup.{is_context}
-use Rattle.definitions.specs.Laws.Lists.Tests.{T_and, every-at}
-use Rattle.definitions.specs.Laws.Text.Ranges.{phone_range}
+use Rattle.definitions.proofs.Laws.Lists.Tests.{T_and, every-at}
+use Rattle.definitions.proofs.Laws.Text.Ranges.{phone_range}
 
 -- ---- one number: a phone of the book or not
 

@@ -4,7 +4,7 @@ use Rattle.std.proofs.Common.{sym, ap, ◌∙◌}
 use Rattle.definitions.specs.Faults.{Outcome, answered, refused}
 use Rattle.definitions.specs.Said.{said_of}
 use Rattle.definitions.specs.BookLines.{Reached}
-use Rattle.definitions.specs.Laws.Text.Said.{told, refusal-told, said_same}
+use Rattle.definitions.proofs.Laws.Text.Said.{told, refusal-told, said_same}
 use Rattle.trees.specs.declared.Lookup.{Lookup}
 use Rattle.trees.specs.declared.Lookup.TheVariants as lookup
 use Rattle.trees.specs.Answers.{walked_of, no_walk, lookup_of, lookup_said}

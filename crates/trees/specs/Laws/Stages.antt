@@ -16,8 +16,8 @@ use Rattle.definitions.specs.declared.Node.{Node}
 use Rattle.definitions.specs.Tables.{node_of}
 use Rattle.definitions.specs.ForeignTables.{header_known, question_known, leaf_known, nodes_known, class_table_known}
 use Rattle.definitions.specs.Lookup.{lookup_known, is_context, leaf_lookup}
-use Rattle.definitions.specs.Laws.Lists.Tests.{T_and, T-three, by-test}
-use Rattle.definitions.specs.Laws.Books.AcceptedKnown.{header-ranges}
+use Rattle.definitions.proofs.Laws.Lists.Tests.{T_and, T-three, by-test}
+use Rattle.definitions.proofs.Laws.Books.AcceptedKnown.{header-ranges}
 use Rattle.trees.specs.declared.Stage.{Stage}
 use Rattle.trees.specs.declared.Stage.TheVariants.{Judging, Walking, Answered}
 use Rattle.trees.specs.Answers.{lookup_of}

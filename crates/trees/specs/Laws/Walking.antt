@@ -15,7 +15,7 @@ use Rattle.definitions.specs.BookReading.{node_size}
 use Rattle.definitions.specs.Tables.{node_of, tree_node, asked_of}
 use Rattle.definitions.specs.ForeignTables.{nodes_known}
 use Rattle.definitions.specs.Lookup.{node_at, answers, walk, reached, leaf_reached, model_at}
-use Rattle.definitions.specs.Laws.Trees.Walks.{walk-leaf, walk-question, either-node, model-at}
+use Rattle.definitions.proofs.Laws.Trees.Walks.{walk-leaf, walk-question, either-node, model-at}
 use Rattle.tables.specs.Usable.{tree_nodes}
 use Rattle.tables.specs.Laws.KnownTables.{node-listed, leaf-is, record-fits}
 use Rattle.trees.specs.declared.Walked.{Walked}

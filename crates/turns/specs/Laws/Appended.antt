@@ -6,7 +6,7 @@ use Rattle.std.proofs.Math.ListN.{length, take, drop}
 use Rattle.definitions.specs.Arcs.{Arc, arc_size, arc_words}
 use Rattle.definitions.specs.Building.{room_in}
 use Rattle.definitions.specs.Connecting.{Network}
-use Rattle.definitions.specs.Laws.Lists.Records.{flat-length, arc-sized}
+use Rattle.definitions.proofs.Laws.Lists.Records.{flat-length, arc-sized}
 use Rattle.growing.specs.Steps.{arc_room}
 use Rattle.growing.specs.Laws.KeptMore.{with_arcs, put-arcs}
 use Rattle.metastates.specs.Networks.{Holds}

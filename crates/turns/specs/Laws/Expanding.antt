@@ -17,9 +17,9 @@ use Rattle.definitions.specs.Metastates.{Metastate, followers_from, followers}
 use Rattle.definitions.specs.Building.{room_in}
 use Rattle.definitions.specs.Growing.{Event, plain, enter, Room, perform_all, expand}
 use Rattle.definitions.specs.Connecting.{rules_of, final_arcs, turn_events, Network, no_metastate, machine_of}
-use Rattle.definitions.specs.Laws.Lists.Tests.{held, failed}
-use Rattle.definitions.specs.Laws.Text.Judging.{refused-not-answered}
-use Rattle.definitions.specs.Laws.Networks.Metastates.{metastates-equal}
+use Rattle.definitions.proofs.Laws.Lists.Tests.{held, failed}
+use Rattle.definitions.proofs.Laws.Text.Judging.{refused-not-answered}
+use Rattle.definitions.proofs.Laws.Networks.Metastates.{metastates-equal}
 use Rattle.tables.specs.Usable.{book_with}
 use Rattle.matrix.specs.Shapes.{matrix_in, shifted_words}
 use Rattle.index.specs.declared.Follower.{Follower}

@@ -12,8 +12,8 @@ use Rattle.definitions.specs.BookReading.{node_size}
 use Rattle.definitions.specs.Connecting.{own_arcs}
 use Rattle.definitions.specs.Metastates.{Metastate, models_of}
 use Rattle.definitions.specs.Tables.{node_of}
-use Rattle.definitions.specs.Laws.Lists.Lists.{concat_map-snoc, up_from-snoc, map-up_from-length, map-up_from-at}
-use Rattle.definitions.specs.Laws.Books.AcceptedKnown.{header-ranges}
+use Rattle.definitions.proofs.Laws.Lists.Lists.{concat_map-snoc, up_from-snoc, map-up_from-length, map-up_from-at}
+use Rattle.definitions.proofs.Laws.Books.AcceptedKnown.{header-ranges}
 use Rattle.index.specs.Combinations.{combinations_in, nodes_book, Usable}
 use Rattle.index.specs.RecordWords.{model_word}
 use Rattle.index.specs.Laws.RecordWords.{leaf-word, models_length, model-word}

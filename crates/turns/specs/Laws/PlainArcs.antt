@@ -11,8 +11,8 @@ use Rattle.definitions.specs.Arcs.{Arc, arc, first_state, last_state}
 use Rattle.definitions.specs.Matrices.{ends_here}
 use Rattle.definitions.specs.Metastates.{Metastate, combination_of, phone_of, models_of, may_end}
 use Rattle.definitions.specs.Connecting.{final_arcs}
-use Rattle.definitions.specs.Laws.Lists.Tests.{by-test, held, failed}
-use Rattle.definitions.specs.Laws.Books.AcceptedKnown.{header-ranges}
+use Rattle.definitions.proofs.Laws.Lists.Tests.{by-test, held, failed}
+use Rattle.definitions.proofs.Laws.Books.AcceptedKnown.{header-ranges}
 use Rattle.tables.specs.Usable.{book_with}
 use Rattle.index.specs.Combinations.{combinations_in, nodes_book, Usable, rules_in}
 use Rattle.index.specs.RecordWords.{phone_word}

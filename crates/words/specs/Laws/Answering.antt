@@ -6,7 +6,7 @@ use Rattle.definitions.specs.Faults.{Outcome, answered, refused}
 use Rattle.definitions.specs.Lists.{cleared}
 use Rattle.definitions.specs.Said.{said_of}
 use Rattle.definitions.specs.WordBooks.{WordLine, word_count, read_words, words_left}
-use Rattle.definitions.specs.Laws.Lists.Lists.{clear-length}
+use Rattle.definitions.proofs.Laws.Lists.Lists.{clear-length}
 use Rattle.words.specs.declared.Reading.{Reading}
 use Rattle.words.specs.declared.Reading.TheVariants.{Accepted, Refused}
 use Rattle.words.specs.Answers.{reading_of, reading_said}

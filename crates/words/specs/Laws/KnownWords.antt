@@ -12,8 +12,8 @@ use Rattle.definitions.specs.Forms.{most_phone, most_places, most_words}
 use Rattle.definitions.specs.ForeignTables.{holds_only}
 use Rattle.definitions.specs.Lists.{◌!◌, every, records}
 use Rattle.definitions.specs.WordBooks.{word_size, word_in, word_known, words_known}
-use Rattle.definitions.specs.Laws.Books.AcceptedKnown.{holds-padded}
-use Rattle.definitions.specs.Laws.Lists.Records.{records-length, record-at, records-taken}
+use Rattle.definitions.proofs.Laws.Books.AcceptedKnown.{holds-padded}
+use Rattle.definitions.proofs.Laws.Lists.Records.{records-length, record-at, records-taken}
 
 -- ---- a phone
 

@@ -13,12 +13,12 @@ use Rattle.definitions.specs.Lines.{whole_lines}
 use Rattle.definitions.specs.Reading.{Kind, read_from}
 use Rattle.definitions.specs.WordBooks.{WordLine, word_line, last_line, word_count, word_size, word_kind}
 use Rattle.definitions.specs.WordBooks.{read_words, words_left}
-use Rattle.definitions.specs.Laws.Lists.Tests.{by-test}
-use Rattle.definitions.specs.Laws.Text.Judging.{refused-not-answered}
-use Rattle.definitions.specs.Laws.Text.Reading.{lines_end}
-use Rattle.definitions.specs.Laws.Words.AcceptedWords.{words-judged}
-use Rattle.definitions.specs.Laws.Words.OneMore.{InOrder, order-none, order-more}
-use Rattle.definitions.specs.Laws.Words.WordsSaid.{last_more}
+use Rattle.definitions.proofs.Laws.Lists.Tests.{by-test}
+use Rattle.definitions.proofs.Laws.Text.Judging.{refused-not-answered}
+use Rattle.definitions.proofs.Laws.Text.Reading.{lines_end}
+use Rattle.definitions.proofs.Laws.Words.AcceptedWords.{words-judged}
+use Rattle.definitions.proofs.Laws.Words.OneMore.{InOrder, order-none, order-more}
+use Rattle.definitions.proofs.Laws.Words.WordsSaid.{last_more}
 use Rattle.lines.specs.Judging.{taken_by, line_taken, lines_before, line_bytes}
 use Rattle.lines.specs.Laws.Judging.{verdict-taken, lines_none, lines_more, GoesOn}
 use Rattle.lines.specs.Laws.Judging.{goes-on-first, text-torn, goes-on-more, goes-on-refused, goes-on-end}

@@ -15,14 +15,14 @@ use Rattle.std.proofs.Math.Seq.{append_snoc, take-nil, take_all, take-append-le}
 use Rattle.definitions.specs.Forms.{most_places}
 use Rattle.definitions.specs.Lists.{concat_map, up_from, cleared, padded, IsIn}
 use Rattle.definitions.specs.WordBooks.{WordLine, last_line, word_count, phones_said, words_of, word_size, word_words}
-use Rattle.definitions.specs.Laws.Lists.Lists.{concat_map-snoc, padded-none, padded-length, map-up_from-length}
-use Rattle.definitions.specs.Laws.Lists.Members.{in_left}
-use Rattle.definitions.specs.Laws.Lists.Tests.{by-test}
-use Rattle.definitions.specs.Laws.Words.OneMore.{InOrder, words-begun, place-own, before-words}
-use Rattle.definitions.specs.Laws.Words.Rows.{AllWords, word-sized}
-use Rattle.definitions.specs.Laws.Words.WordLines.{Fits}
-use Rattle.definitions.specs.Laws.Words.WordTables.{words_size}
-use Rattle.definitions.specs.Laws.Words.WordsSaid.{words-length, words_before, words_more}
+use Rattle.definitions.proofs.Laws.Lists.Lists.{concat_map-snoc, padded-none, padded-length, map-up_from-length}
+use Rattle.definitions.proofs.Laws.Lists.Members.{in_left}
+use Rattle.definitions.proofs.Laws.Lists.Tests.{by-test}
+use Rattle.definitions.proofs.Laws.Words.OneMore.{InOrder, words-begun, place-own, before-words}
+use Rattle.definitions.proofs.Laws.Words.Rows.{AllWords, word-sized}
+use Rattle.definitions.proofs.Laws.Words.WordLines.{Fits}
+use Rattle.definitions.proofs.Laws.Words.WordTables.{words_size}
+use Rattle.definitions.proofs.Laws.Words.WordsSaid.{words-length, words_before, words_more}
 use Rattle.lines.specs.Laws.Putting.{padded-set, padded-zeros}
 use Rattle.words.specs.Storing.{phone_put, words_after, words_stored}
 

@@ -8,7 +8,7 @@ use Rattle.definitions.specs.declared.Fault.TheVariants.{Vocabulary}
 use Rattle.definitions.specs.Forms.{word_forms}
 use Rattle.definitions.specs.Reading.{line_tests}
 use Rattle.definitions.specs.WordBooks.{WordLine, word_line, last_line, word_size, word_kind}
-use Rattle.definitions.specs.Laws.Words.WordLines.{Fits, line-fits}
+use Rattle.definitions.proofs.Laws.Words.WordLines.{Fits, line-fits}
 use Rattle.lines.specs.declared.Verdict.{Verdict}
 use Rattle.lines.specs.declared.Verdict.TheVariants.{Passed, Failed}
 use Rattle.lines.specs.Judging.{verdict_of, verdict_by, taken_by, line_taken, line_verdict}

@@ -3,8 +3,8 @@ use Rattle.std.specs.Prelude.{◌≡◌, refl, List, [], ◌∷◌, Bool, true, 
 use Rattle.std.proofs.Common.{sym, subst, ◌∙◌, arith, leb→le, le→leb, ltb→lt, lt→ltb, le-leb}
 use Rattle.std.proofs.lemmas.Bool.{lt-leb}
 use Rattle.definitions.specs.Lists.{if◌then◌else◌, every}
-use Rattle.definitions.specs.Laws.Lists.Tests.{T_and, same_tests}
-use Rattle.definitions.specs.Laws.Text.LineFields.{all_fit}
+use Rattle.definitions.proofs.Laws.Lists.Tests.{T_and, same_tests}
+use Rattle.definitions.proofs.Laws.Text.LineFields.{all_fit}
 use Rattle.lines.specs.Rows.{line_in}
 use Rattle.lines.specs.declared.Row.{Row}
 use Rattle.writing.specs.Writing.{writable, written}

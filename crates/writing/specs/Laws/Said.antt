@@ -3,7 +3,7 @@ use Rattle.std.specs.Prelude.{◌≡◌, refl, List, ℕ, length}
 use Rattle.std.proofs.Common.{sym, ap, ◌∙◌}
 use Rattle.definitions.specs.Faults.{Outcome, answered, refused}
 use Rattle.definitions.specs.Said.{said_of}
-use Rattle.definitions.specs.Laws.Text.Said.{told, refusal-told, said_same}
+use Rattle.definitions.proofs.Laws.Text.Said.{told, refusal-told, said_same}
 use Rattle.writing.specs.declared.Written.{Written}
 use Rattle.writing.specs.declared.Written.TheVariants.{Bytes, Refused}
 use Rattle.writing.specs.Answers.{written_of, written_said}

@@ -7,8 +7,8 @@ use Rattle.std.proofs.lemmas.List.{replicate-append-replicate}
 use Rattle.std.proofs.Math.Seq.{append_snoc}
 use Rattle.definitions.specs.Numerals.{numeral}
 use Rattle.definitions.specs.Lines.{space, field_text}
-use Rattle.definitions.specs.Laws.Lists.Tests.{by-test}
-use Rattle.definitions.specs.Laws.Text.Numerals.{numeral-short, numeral-long}
+use Rattle.definitions.proofs.Laws.Lists.Tests.{by-test}
+use Rattle.definitions.proofs.Laws.Text.Numerals.{numeral-short, numeral-long}
 use Rattle.writing.specs.Writing.{last_byte, leading}
 
 -- ---- a number's bytes, from the right

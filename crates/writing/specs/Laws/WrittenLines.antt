@@ -11,9 +11,9 @@ use Rattle.std.proofs.Math.Seq.{append_snoc}
 use borrow.Rule.Slice.PartMut.{put_mid, same_len_mid}
 use Rattle.definitions.specs.Lists.{every, concat_map}
 use Rattle.definitions.specs.Lines.{space, line_feed, field_text, line_text}
-use Rattle.definitions.specs.Laws.Lists.Tests.{every-at}
-use Rattle.definitions.specs.Laws.Lists.Lists.{every-cons}
-use Rattle.definitions.specs.Laws.Text.Fields.{field-length}
+use Rattle.definitions.proofs.Laws.Lists.Tests.{every-at}
+use Rattle.definitions.proofs.Laws.Lists.Lists.{every-cons}
+use Rattle.definitions.proofs.Laws.Text.Fields.{field-length}
 use Rattle.lines.specs.Rows.{line_in}
 use Rattle.lines.specs.declared.Row.{Row}
 use Rattle.writing.specs.Laws.Rows.{is_small, writable-parts}

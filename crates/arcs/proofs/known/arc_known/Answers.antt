@@ -1,7 +1,7 @@
 -- `known::arc_known` meets its contract, by the first test that fails.
 use mathlib.Core.Path.{◌∙◌}
 use Rattle.definitions.specs.Arcs.{arc_words, arc_of}
-use Rattle.definitions.specs.Laws.Lists.Tests.{held, failed}
+use Rattle.definitions.proofs.Laws.Lists.Tests.{held, failed}
 use Rattle.arcs.specs.Laws.KnownArcs.{arc-misranged, arc-adrift, arc-judged}
 use Rattle.std.proofs.lemmas.Bool.{not_from_true}
 use Rattle.std.proofs.lemmas.Bool.{not_from_false}

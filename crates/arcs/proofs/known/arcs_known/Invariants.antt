@@ -3,7 +3,7 @@
 use Prim.Native.Nat.{◌-◌, ◌/◌}
 use lib.ListN.{length}
 use Rattle.definitions.specs.Arcs.{arc_size}
-use Rattle.definitions.specs.Laws.Lists.Tests.{held, failed}
+use Rattle.definitions.proofs.Laws.Lists.Tests.{held, failed}
 use Rattle.arcs.specs.Laws.KnownArcs.{lent-sized, Tested, tested-start, tested-more, tested-foreign}
 use Rattle.arcs.specs.Laws.KnownArcs.{tested-descends, tested-end}
 use Rattle.arcs.proofs.known.arcs_known.Given as goal

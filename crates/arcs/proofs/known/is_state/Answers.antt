@@ -1,7 +1,7 @@
 -- `known::is_state` meets its contract. Two 32-bit words multiplied fit in 64 bits.
 use Prim.Native.Nat.{◌<◌}
 use native.Mathlib.Omega.{arith}
-use Rattle.definitions.specs.Laws.Lists.Products.{product-fits}
+use Rattle.definitions.proofs.Laws.Lists.Products.{product-fits}
 use Rattle.arcs.specs.Laws.KnownArcs.{state_low, state_high}
 use borrow.Author.Rules.{rules}
 use Rattle.arcs.proofs.known.is_state.Goals as goal

@@ -1,6 +1,6 @@
 -- `known::network_known` meets its contract.
 use mathlib.Core.Path.{◌∙◌}
-use Rattle.definitions.specs.Laws.Lists.Tests.{held, failed}
+use Rattle.definitions.proofs.Laws.Lists.Tests.{held, failed}
 use Rattle.tables.specs.Laws.TableTests.{holds-taken}
 use Rattle.arcs.specs.Laws.KnownArcs.{network-miscounted, network-unheld, network-judged}
 use Rattle.std.proofs.lemmas.Bool.{not_from_true}

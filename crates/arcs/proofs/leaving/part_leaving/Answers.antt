@@ -1,7 +1,7 @@
 -- `leaving::part_leaving` meets its contract. The part's first arc and its end are found by two searches.
 use mathlib.Core.Path.{◌∙◌}
 use native.Mathlib.Omega.{arith}
-use Rattle.definitions.specs.Laws.Lists.Tests.{held, failed}
+use Rattle.definitions.proofs.Laws.Lists.Tests.{held, failed}
 use Rattle.arcs.specs.Laws.Said.{standing-said}
 use Rattle.arcs.specs.Laws.KnownArcs.{known-taken, known-order}
 use Rattle.arcs.specs.Laws.Leaving.{standing-foreign, standing-beyond, Searched, searched, part-order}

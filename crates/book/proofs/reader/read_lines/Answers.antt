@@ -3,7 +3,7 @@ use Prim.Native.Nat.{◌+◌, ◌-◌, ◌/◌, ◌<◌}
 use native.Mathlib.Omega.{arith}
 use lib.ListN.{length}
 use Rattle.tables.specs.Lending.{lengths_of}
-use Rattle.definitions.specs.Laws.Lists.Tests.{held, failed}
+use Rattle.definitions.proofs.Laws.Lists.Tests.{held, failed}
 use Rattle.lines.specs.Laws.Judging.{next-bytes}
 use Rattle.book.specs.Laws.Reading.{Turn, first-turn, turn-ready, turn-endable, turn-next, torn-returns}
 use Rattle.book.specs.Laws.Reading.{stop-returns, end_returns}

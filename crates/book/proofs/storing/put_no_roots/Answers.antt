@@ -6,7 +6,7 @@ use native.Mathlib.Omega.{arith}
 use lib.ListN.{replicate}
 use Rattle.definitions.specs.BookLines.{root_count, no_root}
 use Rattle.lines.specs.Putting.{put_at}
-use Rattle.definitions.specs.Laws.Lists.Products.{product-fits}
+use Rattle.definitions.proofs.Laws.Lists.Products.{product-fits}
 use Rattle.book.specs.Laws.Putting.{first-filled}
 use Rattle.book.proofs.storing.put_no_roots.Goals as goal
 

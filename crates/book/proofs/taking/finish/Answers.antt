@@ -6,7 +6,7 @@ use lib.ListN.{take}
 use lib.Seq.{length-take-le}
 use Rattle.tables.specs.Naming.{first_misnamed}
 use Rattle.booklines.specs.States.{enough_in, chained_in}
-use Rattle.definitions.specs.Laws.Lists.Tests.{held, failed}
+use Rattle.definitions.proofs.Laws.Lists.Tests.{held, failed}
 use Rattle.book.specs.Laws.Taking.{finish-early, finish-chained, finish-orphan, finish-fine}
 use Rattle.std.proofs.lemmas.Bool.{not_from_true}
 use Rattle.std.proofs.lemmas.Bool.{not_from_false}

@@ -29,7 +29,7 @@ verdict c =
 
 -- the line passed, so it is taken
 abbrev start : goal.In_default → goal.Start
-start c = c
+start c = (c)
 
 taken : (c : goal.In_default) → let a = (start c).args in
     step_of (lengths_of a.nodes-1.now a.classes-1.now a.roots-1.now a.plains-1.now) a.s a.bytes.now

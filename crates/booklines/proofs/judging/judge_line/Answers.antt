@@ -11,7 +11,7 @@ use Rattle.lines.specs.Judging.{verdict_of}
 use Rattle.lines.specs.Rows.{line_in}
 use Rattle.booklines.specs.Entries.{entry_line, lent_of}
 use Rattle.booklines.specs.States.{tests_in}
-use Rattle.definitions.specs.Laws.Lists.Tests.{held}
+use Rattle.definitions.proofs.Laws.Lists.Tests.{held}
 use Rattle.lines.specs.Laws.Judging.{LeftTo, test-held, test-failed, none-failed}
 use Rattle.std.proofs.lemmas.Bool.{not_from_true}
 use Rattle.std.proofs.lemmas.Bool.{not_from_false}
@@ -40,7 +40,7 @@ unfolding tests_in book_tests
 returns-then-not-in_fixed_ranges c = test-failed (left1 (goal.at.returns-then-not-in_fixed_ranges c).Else-not-follows) c.in_fixed_ranges.ensures (not_from_false _ c.if-not-in_fixed_ranges.true)
 
 abbrev start2 : goal.Else-not-in_fixed_ranges → goal.Start
-start2 c = c
+start2 c = c.before.before.before.before
 
 left2 : (c : goal.Else-not-in_fixed_ranges) → Left (start2 c) 2
 unfolding tests_in book_tests

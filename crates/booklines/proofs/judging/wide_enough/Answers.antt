@@ -4,7 +4,7 @@ use native.Mathlib.Omega.{arith}
 use borrow.Author.Tests.{le-leb, lt-leb}
 use Rattle.definitions.specs.BookLines.{root_count}
 use Rattle.definitions.specs.BookReading.{wide_enough}
-use Rattle.definitions.specs.Laws.Lists.Products.{product-fits}
+use Rattle.definitions.proofs.Laws.Lists.Products.{product-fits}
 use Rattle.booklines.proofs.judging.wide_enough.Goals as goal
 
 pub returns-then-lengths-wide : goal.returns-then-lengths-wide

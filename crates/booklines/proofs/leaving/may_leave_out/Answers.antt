@@ -5,7 +5,7 @@ use native.Mathlib.Nat.{div-le_self}
 use native.Mathlib.Omega.{arith}
 use Rattle.definitions.specs.BookReading.{left_out}
 use Rattle.definitions.specs.PhoneSets.{has}
-use Rattle.definitions.specs.Laws.Lists.Tests.{held, failed}
+use Rattle.definitions.proofs.Laws.Lists.Tests.{held, failed}
 use Rattle.booklines.specs.Laws.LeavingOut.{all_after, nothing-between, comes-before, starts-within, ends-within}
 use Rattle.booklines.specs.Laws.LeavingOut.{whole-phones, next-stays, next-left, none_after}
 use Rattle.std.proofs.lemmas.Bool.{not_from_true}
@@ -47,8 +47,9 @@ overflow_add-phone c =
 pub returns-then-not-set_has : goal.returns-then-not-set_has
 returns-then-not-set_has c =
     let turn = c in
-    next-stays _ _ _ turn.loop-phone-test.true (failed c.set_has.ensures (not_from_false _ c.if-not-set_has.true))
-    ∙ sym turn.loop-phone.invariant
+    rw (← c.wide-states.ensures)
+    (next-stays _ _ _ turn.loop-phone-test.true (failed c.set_has.ensures (not_from_false _ c.if-not-set_has.true))
+    ∙ sym turn.loop-phone.invariant)
 
 pub loop-phone-smaller : goal.loop-phone-smaller
 loop-phone-smaller c = omega (arith, c.loop-phone-test.true)
@@ -60,4 +61,6 @@ loop-phone-preserved c =
     ∙ next-left _ _ _ turn.loop-phone-test.true (held c.set_has.ensures (not_from_true _ c.if-not-set_has.false))
 
 pub returns : goal.returns
-returns c = none_after _ _ _ c.loop-phone-test.false ∙ sym c.loop-phone.invariant
+returns c =
+    rw (← c.wide-states.ensures)
+    (none_after _ _ _ c.loop-phone-test.false ∙ sym c.loop-phone.invariant)

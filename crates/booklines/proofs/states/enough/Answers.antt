@@ -2,7 +2,7 @@
 use native.Mathlib.Omega.{arith}
 use Rattle.definitions.specs.BookLines.{root_count}
 use Rattle.booklines.specs.States.{enough_in, left_out_in}
-use Rattle.definitions.specs.Laws.Lists.Products.{product-fits}
+use Rattle.definitions.proofs.Laws.Lists.Products.{product-fits}
 use Rattle.booklines.specs.Laws.Numbers.{above_zero}
 use Rattle.booklines.proofs.states.enough.Goals as goal
 

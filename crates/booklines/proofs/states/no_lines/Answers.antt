@@ -3,7 +3,7 @@ use mathlib.Core.Path.{refl}
 use Rattle.definitions.specs.BookLines.{header_of, next_place}
 use Rattle.definitions.specs.PhoneSets.{set_of}
 use Rattle.booklines.specs.States.{state_of, last_of, after_of}
-use Rattle.definitions.specs.Laws.Books.SaidLines.{none-says}
+use Rattle.definitions.proofs.Laws.Books.SaidLines.{none-says}
 use Rattle.booklines.proofs.states.no_lines.Goals as goal
 
 pub returns : goal.returns

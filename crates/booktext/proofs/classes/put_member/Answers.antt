@@ -2,7 +2,7 @@
 use lib.Dec.{lit≤}
 use Rattle.definitions.specs.BookText.{book_line_for}
 use Rattle.definitions.specs.Lists.{select}
-use Rattle.definitions.specs.Laws.Lists.Tests.{held, failed}
+use Rattle.definitions.proofs.Laws.Lists.Tests.{held, failed}
 use Rattle.lines.specs.Rows.{line_in}
 use Rattle.booktext.specs.Laws.Putting.{put-none}
 use Rattle.std.proofs.lemmas.Bool.{not_from_true}

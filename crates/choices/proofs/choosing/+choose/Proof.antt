@@ -7,7 +7,7 @@ use lib.ListN.{length}
 use borrow.Author.Rules.{rules}
 use borrow.Fn.Kinds.{In}
 use borrow.Fn.PlainCycle.{Measures, is, falls, and}
-use Rattle.definitions.specs.Laws.Matrices.Sizes.{columns-held}
+use Rattle.definitions.proofs.Laws.Matrices.Sizes.{columns-held}
 use Rattle.matrix.specs.Shapes.{width_of}
 use Rattle.choices.specs.Laws.Choosing.{Choosing, choosing-last, choosing-start, choosing-inside}
 use Rattle.choices.specs.Laws.Choosing.{choosing-holding, choosing-asked, choosing-over, choosing-again}

@@ -7,8 +7,8 @@ use lib.Dec.{T}
 use lib.ListN.{length, take, drop, length-take, length-drop}
 use Rattle.definitions.specs.Matrices.{valid}
 use Rattle.definitions.specs.Combinations.{combination_room}
-use Rattle.definitions.specs.Laws.Lists.Tests.{failed}
-use Rattle.definitions.specs.Laws.Matrices.Sizes.{words-few}
+use Rattle.definitions.proofs.Laws.Lists.Tests.{failed}
+use Rattle.definitions.proofs.Laws.Matrices.Sizes.{words-few}
 use Rattle.matrix.specs.Shapes.{width_of}
 use Rattle.choices.specs.Laws.Adding.{added_none, added-within, added-put}
 use Rattle.std.proofs.lemmas.Bool.{not_from_false}

@@ -6,7 +6,7 @@ use native.Mathlib.Omega.{arith}
 use lib.ListN.{length, take}
 use Rattle.definitions.specs.Combinations.{Leaf}
 use Rattle.definitions.specs.Searching.{NoneFrom}
-use Rattle.definitions.specs.Laws.Lists.Searching.{none-start, none-one, none_more, none_found, none-all}
+use Rattle.definitions.proofs.Laws.Lists.Searching.{none-start, none-one, none_more, none_found, none-all}
 use Rattle.matrix.specs.Shapes.{width_of}
 use Rattle.matrix.specs.Laws.Meeting.{met-test}
 use Rattle.leafsets.specs.Leaves.{leaves_in}
@@ -32,12 +32,12 @@ pub meets-requires : goal.meets-requires
 meets-requires c = omega arith
 
 tested : (c : goal.After-meets)
-    → fits_at (take (width_of (entry c).args.half) (entry c).args.m.columns) (leaves_of c.before.before)
+    → fits_at (take (width_of (c).args.half) (c).args.m.columns) (leaves_of c.before.before)
     c.loop-place.place ≡ c.meets.result
 tested c =
-    let a = (entry c).args in
-    let pre = (entry c).requires in
-    let wide = (widened c).wide in
+    let a = (c).args in
+    let pre = (c).requires in
+    let wide = (c).wide in
     let width : 2 * wide.result + 1 ≡ width_of a.half = omega (arith, wide.ensures) in
     let words = a.leaves.now in
     let own =

@@ -6,7 +6,7 @@ use native.Mathlib.Omega.{arith}
 use lib.ListN.{length, take}
 use Rattle.definitions.specs.Combinations.{Leaf}
 use Rattle.definitions.specs.Searching.{NoneFrom}
-use Rattle.definitions.specs.Laws.Lists.Searching.{none-start, none-one, none_more, none_found, none-all}
+use Rattle.definitions.proofs.Laws.Lists.Searching.{none-start, none-one, none_more, none_found, none-all}
 use Rattle.matrix.specs.Shapes.{width_of}
 use Rattle.matrix.specs.Laws.Meeting.{met-test}
 use Rattle.leafsets.specs.Leaves.{leaves_in}

@@ -16,7 +16,7 @@ use Rattle.combinations.proofs.combining.choose_phone.Goals as goal
 use Rattle.combinations.proofs.combining.choose_phone.Goals.{After-around-top, After-list_leaves-c, Start}
 
 abbrev start : goal.After-around-top → goal.Start
-start c = entry (one (two c))
+start c = ((c))
 
 abbrev book : goal.Start → Book
 book c =
@@ -51,7 +51,7 @@ list_leaves-b-requires c =
 pub list_leaves-c-requires : goal.list_leaves-c-requires
 list_leaves-c-requires c =
     let second = c in
-    let p = (entry second).requires in
+    let p = second.requires in
     let left = second.list_leaves-b.ensures in
     let sized = left.table_sized ∙ second.list_leaves-a.ensures.table_sized in
     let unused = still-unused p.2.unused sized left.none in
@@ -59,26 +59,26 @@ list_leaves-c-requires c =
 
 pub overflow_mul-a : goal.overflow_mul-a
 overflow_mul-a c =
-    let list = (one (two c)).list_leaves-a in
+    let list = ((c)).list_leaves-a in
     omega (arith, list.ensures.room, list.ensures.list_sized, (start (goal.at.overflow_mul-a c).After-around-top).well_formed)
 
 pub slice_bounds-choose-end : goal.slice_bounds-choose-end
-slice_bounds-choose-end c = (one (two c)).list_leaves-a.ensures.room
+slice_bounds-choose-end c = ((c)).list_leaves-a.ensures.room
 
 pub slice_bounds-choose-end-2 : goal.slice_bounds-choose-end-2
-slice_bounds-choose-end-2 c = sym (length-take-le _ _ (one (two c)).list_leaves-a.ensures.room)
+slice_bounds-choose-end-2 c = sym (length-take-le _ _ ((c)).list_leaves-a.ensures.room)
 
 pub overflow_mul-b : goal.overflow_mul-b
 overflow_mul-b c =
-    let list = (two c).list_leaves-b in
+    let list = (c).list_leaves-b in
     omega (arith, list.ensures.room, list.ensures.list_sized, (start (goal.at.overflow_mul-b c).After-around-top).well_formed)
 
 pub slice_bounds-choose-end-3 : goal.slice_bounds-choose-end-3
-slice_bounds-choose-end-3 c = (two c).list_leaves-b.ensures.room
+slice_bounds-choose-end-3 c = (c).list_leaves-b.ensures.room
 
 pub slice_bounds-choose-end-4 : goal.slice_bounds-choose-end-4
 slice_bounds-choose-end-4 c =
-    sym (length-take-le _ _ (two c).list_leaves-b.ensures.room)
+    sym (length-take-le _ _ (c).list_leaves-b.ensures.room)
 
 pub overflow_mul-c : goal.overflow_mul-c
 overflow_mul-c c =
@@ -106,7 +106,7 @@ choose-requires c =
       record {
         chosen = start-chosen b phone _ width narrow _ (top-is (goal.at.choose-requires c).After-around-top) p.1.low p.1.high;
         few = omega (arith, r.states_range.high);
-        first_is = list-is b phone _ width narrow 1 (one list).list_leaves-a.ensures.holds;
+        first_is = list-is b phone _ width narrow 1 list.list_leaves-a.ensures.holds;
         second_is = list-is b phone _ width narrow 2 list.list_leaves-b.ensures.holds;
         third_is = list-is b phone _ width narrow 3 list.list_leaves-c.ensures.holds;
       },
@@ -117,12 +117,12 @@ pub shape_of-table : goal.shape_of-table
 shape_of-table c =
     let list = c in
     list.list_leaves-c.ensures.table_sized ∙ list.list_leaves-b.ensures.table_sized
-    ∙ (one list).list_leaves-a.ensures.table_sized
+    ∙ list.list_leaves-a.ensures.table_sized
 
 pub shape_of-first : goal.shape_of-first
 shape_of-first c =
     let list = c in
-    (one list).list_leaves-a.ensures.list_sized
+    list.list_leaves-a.ensures.list_sized
 
 pub returns : goal.returns
 unfolding book_with
@@ -131,7 +131,7 @@ returns c =
     let from = start (goal.at.returns c).After-around-top in
     let r = ranges (goal.at.returns c).Start in
     let list = top in
-    let first = (one list).list_leaves-a.ensures in
+    let first = list.list_leaves-a.ensures in
     let second = list.list_leaves-b.ensures in
     let third = list.list_leaves-c.ensures in
     let all = start-all (book (goal.at.returns c).Start) from.args.phone _ (width_is (goal.at.returns c).Start) r.half_range.high _ (top-is (goal.at.returns c).After-around-top)

@@ -27,7 +27,7 @@ book c =
     let a = c.args in
     book_with a.header a.nodes.now a.classes.now a.roots.now
 
-within : (c : goal.In-loop-phone) → c.loop-phone.phone ≤ (book (entry c)).phones
+within : (c : goal.In-loop-phone) → c.loop-phone.phone ≤ (book c.before.before.before.before.before.before.before.before.before.before.before.before).phones
 unfolding book_with
 within c = c.loop-phone-test.true
 
@@ -51,11 +51,11 @@ unfolding book_with
 choose_phone-adding-requires c =
     let turn = c in
     let (added, worked) = turn.loop-phone.invariant in
-    let fit = (entry turn).requires.0 in
+    let fit = turn.requires.0 in
     (fit, record { low = added.low; high = turn.loop-phone-test.true }, worked.working, added-holding added)
 
 pub shape_of-ends-in-Stop : goal.shape_of-ends-in-Stop
-shape_of-ends-in-Stop c = ends_sized (loop-of (turn c))
+shape_of-ends-in-Stop c = ends_sized ((c))
 
 pub returns-in-Stop : goal.returns-in-Stop
 unfolding book_with
@@ -76,15 +76,15 @@ overflow_cast-ends c =
 
 pub bounds-ends-wide : goal.bounds-ends-wide
 bounds-ends-wide c =
-    let turn = turn c in
-    let most = (ranges (entry turn)).phones_range.high in
+    let turn = c in
+    let most = (ranges (goal.at.bounds-ends-wide c).Start).phones_range.high in
     let sized = noted-length turn.loop-phone.invariant.0 in
     omega (arith, c.wide.ensures, turn.loop-phone-test.true, most, sized)
 
 pub overflow_add-phone : goal.overflow_add-phone
 overflow_add-phone c =
-    let turn = turn c in
-    omega (arith, turn.loop-phone-test.true, (ranges (entry turn)).phones_range.high)
+    let turn = c in
+    omega (arith, turn.loop-phone-test.true, (ranges (goal.at.overflow_add-phone c).Start).phones_range.high)
 
 pub loop-phone-preserved : goal.loop-phone-preserved
 unfolding book_with

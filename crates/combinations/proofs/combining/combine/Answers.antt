@@ -8,7 +8,7 @@ use lib.ListN.{length}
 use Rattle.definitions.specs.Lists.{cleared}
 use Rattle.definitions.specs.Tables.{Tables}
 use Rattle.definitions.specs.ForeignTables.{tables_known}
-use Rattle.definitions.specs.Laws.Lists.Tests.{held, failed}
+use Rattle.definitions.proofs.Laws.Lists.Tests.{held, failed}
 use Rattle.tables.specs.Lending.{lent_tables}
 use Rattle.tables.specs.Laws.KnownTables.{known-forceable, tables-fit, forced-book}
 use Rattle.combinations.specs.Laws.Combining.{ends_foreign, ends-stopped, ends-combined}
@@ -18,7 +18,7 @@ use Rattle.combinations.proofs.combining.combine.Goals as goal
 use Rattle.combinations.proofs.combining.combine.Goals.{After-tables_known, Else-not-tables_known, Start}
 
 abbrev space : goal.After-tables_known → List ℕ
-space c = c.clear_wide_words.new.0
+space c = c.clear_wide_words.new.wide
 
 abbrev tables : goal.Start → Tables
 tables c = lent_tables c.args.nodes.now c.args.classes.now c.args.roots.now c.args.plains.now
@@ -31,7 +31,7 @@ holds c = rw (known c) tt
 
 -- the space keeps its length, and is clear
 sized : (c : goal.After-tables_known) → length (space c) ≡ length c.args.space.now
-sized c = c.clear_wide_words.auto.0
+sized c = c.clear_wide_words.auto.wide
 
 clear : (c : goal.After-tables_known) → space c ≡ cleared (length (space c))
 clear c = c.clear_wide_words.ensures ∙ ap cleared (sym (sized c))

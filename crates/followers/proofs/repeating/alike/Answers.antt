@@ -3,7 +3,7 @@ use mathlib.Core.Path.{◌≡◌}
 use Prim.Native.Nat.{◌-◌}
 use native.Mathlib.Omega.{arith}
 use lib.ListN.{length}
-use Rattle.definitions.specs.Laws.Lists.Same.{Alike, alike-start, alike-more, alike-stop, alike_end}
+use Rattle.definitions.proofs.Laws.Lists.Same.{Alike, alike-start, alike-more, alike-stop, alike_end}
 use borrow.Author.Rules.{rules}
 use Rattle.followers.proofs.repeating.alike.Goals as goal
 

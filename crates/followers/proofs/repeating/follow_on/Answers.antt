@@ -90,7 +90,7 @@ pub note_span-requires : goal.note_span-requires
 note_span-requires c =
     let arm = c in
     let call = arm in
-    let slot = slotted call in
+    let slot = call in
     let start = entry (goal.at.note_span-requires c).After-slot_for-slot in
     let last = call in
     record {
@@ -106,7 +106,7 @@ returns-in-Next c =
     let noted = c in
     let arm = noted in
     let call = arm in
-    let slot = slotted call in
+    let slot = call in
     let at = call.last_state-from.ensures in
     followed-noted (entry (goal.at.returns-in-Next c).After-slot_for-slot).requires at call.follow-step.ensures _ (slot-there (goal.at.returns-in-Next c).After-slot_for-slot) arm.in-Next.is
     noted.note_span.ensures
@@ -116,5 +116,5 @@ returns-in-Stop c =
     let arm = c in
     let call = arm in
     let at = call.last_state-from.ensures in
-    followed-refused (entry (slotted call)).requires at call.follow-step.ensures
+    followed-refused (entry (goal.at.returns-in-Stop c).After-slot_for-slot).requires at call.follow-step.ensures
     arm.in-Stop.is

@@ -5,7 +5,7 @@ use native.Mathlib.Omega.{arith}
 use lib.Dec.{T}
 use lib.ListN.{length}
 use Rattle.definitions.specs.Metastates.{metastate_size}
-use Rattle.definitions.specs.Laws.Lists.Records.{record-within}
+use Rattle.definitions.proofs.Laws.Lists.Records.{record-within}
 use Rattle.followers.specs.Laws.Repeating.{alike-repeats}
 use Rattle.followers.proofs.repeating.repeats.Goals as goal
 

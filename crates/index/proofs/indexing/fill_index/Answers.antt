@@ -1,5 +1,5 @@
 -- `indexing::fill_index` meets its contract.
-use Rattle.definitions.specs.Laws.Books.AcceptedKnown.{header-ranges}
+use Rattle.definitions.proofs.Laws.Books.AcceptedKnown.{header-ranges}
 use Rattle.index.specs.Laws.Filling.{filled}
 use Rattle.index.proofs.indexing.fill_index.Goals as goal
 

@@ -2,7 +2,7 @@
 use Prim.Native.Nat.{◌-◌, ◌<◌}
 use native.Mathlib.Omega.{arith}
 use Rattle.definitions.specs.Combinations.{combination_size}
-use Rattle.definitions.specs.Laws.Lists.Records.{record-within}
+use Rattle.definitions.proofs.Laws.Lists.Records.{record-within}
 use Rattle.index.specs.RecordWords.{count_in}
 use Rattle.index.specs.Filling.{CombinationsMarked}
 use Rattle.index.specs.Laws.Filling.{all_none, all_more, all-marked}

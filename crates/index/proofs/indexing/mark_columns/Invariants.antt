@@ -6,7 +6,7 @@ use native.Mathlib.Omega.{arith}
 use lib.Seq.{get_or-drop}
 use Rattle.definitions.specs.Lists.{◌!◌}
 use Rattle.definitions.specs.Combinations.{combination_size}
-use Rattle.definitions.specs.Laws.Matrices.Sizes.{columns-held}
+use Rattle.definitions.proofs.Laws.Matrices.Sizes.{columns-held}
 use Rattle.index.specs.RecordWords.{record_of, IsRecord}
 use Rattle.index.specs.Laws.CutRecords.{cut-within, cut-is}
 use Rattle.index.specs.Filling.{ColumnsMarked}

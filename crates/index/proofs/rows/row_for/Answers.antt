@@ -1,6 +1,6 @@
 -- `rows::row_for` meets its contract: no row, or the row of the phone that the column has alone.
 use native.Mathlib.Omega.{arith}
-use Rattle.definitions.specs.Laws.Books.AcceptedKnown.{header-ranges}
+use Rattle.definitions.proofs.Laws.Books.AcceptedKnown.{header-ranges}
 use Rattle.index.specs.Laws.RecordWords.{combinations-length}
 use Rattle.index.specs.Laws.Rows.{no_row, row-admits}
 use Rattle.index.proofs.rows.row_for.Goals as goal

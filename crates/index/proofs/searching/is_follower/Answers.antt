@@ -2,7 +2,7 @@
 use mathlib.Core.Path.{◌≡◌, sym}
 use Prim.Native.Nat.{◌+◌, ◌*◌}
 use native.Mathlib.Omega.{arith}
-use Rattle.definitions.specs.Laws.Lists.Tests.{failed}
+use Rattle.definitions.proofs.Laws.Lists.Tests.{failed}
 use Rattle.matrix.specs.Shapes.{width_of}
 use Rattle.index.specs.Laws.RecordWords.{is-listed, has-phone}
 use Rattle.index.specs.Laws.Followers.{narrow, not-following, following-valid}

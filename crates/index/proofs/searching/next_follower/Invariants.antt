@@ -4,7 +4,7 @@ use Prim.Native.Nat.{◌-◌, ◌<◌}
 use native.Mathlib.Omega.{arith}
 use lib.ListN.{length}
 use Rattle.definitions.specs.Searching.{NoneFrom}
-use Rattle.definitions.specs.Laws.Lists.Searching.{none_more, none_found, none-all}
+use Rattle.definitions.proofs.Laws.Lists.Searching.{none_more, none_found, none-all}
 use Rattle.matrix.specs.Shapes.{matrix_in}
 use Rattle.index.specs.Combinations.{combinations_in}
 use Rattle.index.specs.Following.{follows_at}

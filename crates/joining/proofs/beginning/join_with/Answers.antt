@@ -10,12 +10,12 @@ fill_starts-placed-requires c =
 
 pub fill_index-requires : goal.fill_index-requires
 fill_index-requires c =
-    let start = entry c in (start.requires.0.lexicon, refl, index-room start.requires.0)
+    let start = c in (start.requires.0.lexicon, refl, index-room start.requires.0)
 
 pub slice_bounds-take_turns-end-2 : goal.slice_bounds-take_turns-end-2
 slice_bounds-take_turns-end-2 c =
     let first = c in
-    sym (length-take-le _ _ (placed first).fill_starts-placed.ensures.0)
+    sym (length-take-le _ _ first.fill_starts-placed.ensures.0)
 
 pub take_turns-requires : goal.take_turns-requires
 take_turns-requires c =
@@ -29,5 +29,5 @@ pub returns : goal.returns
 returns c =
     let call = c in
     let first = call in
-    let start = entry (placed first) in
+    let start = first in
     join-left start.requires.0 first.begin.ensures call.take_turns.ensures

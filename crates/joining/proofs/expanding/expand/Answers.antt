@@ -14,7 +14,7 @@ use Rattle.joining.proofs.expanding.expand.Goals as goal
 use Rattle.joining.proofs.expanding.expand.Goals.{After-arcs_before, In-loop-at, Start}
 
 abbrev begun : goal.In-loop-at → goal.Start
-begun c = entry (rowed turn)
+begun c = turn
 
 -- the source of the first arc
 first_is : (c : goal.After-arcs_before)
@@ -60,7 +60,7 @@ pub follow-step-requires : goal.follow-step-requires
 follow-step-requires c =
     let hop = c in
     let turn = hop in
-    let row = rowed turn in (
+    let row = turn in (
       expanding-asks (begun (goal.at.follow-step-requires c).In-loop-at).requires row.joined_at-x.ensures turn.wanted-wants.ensures
           turn.loop-at.invariant turn.loop-at-test.true
           hop.hop_at-hop.ensures,
@@ -72,7 +72,7 @@ returns-in-Stop c =
     let call = c in
     let hop = call in
     let turn = hop in
-    let row = rowed turn in
+    let row = turn in
     expanding-stop (begun (goal.at.returns-in-Stop c).In-loop-at).requires row.joined_at-x.ensures turn.wanted-wants.ensures
     turn.loop-at.invariant turn.loop-at-test.true
     hop.hop_at-hop.ensures call.follow-step.ensures c.in-Stop.is
@@ -87,7 +87,7 @@ overflow_add-at c =
 pub next_arc-at-requires-in-loop-at : goal.next_arc-at-requires-in-loop-at
 next_arc-at-requires-in-loop-at c =
     let turn = c in
-    let row = rowed turn in
+    let row = turn in
     expanding-next (begun (goal.at.next_arc-at-requires-in-loop-at c).In-loop-at).requires row.joined_at-x.ensures turn.wanted-wants.ensures
     turn.loop-at.invariant turn.loop-at-test.true
 
@@ -101,7 +101,7 @@ loop-at-preserved c =
     let call = c in
     let hop = call in
     let turn = hop in
-    let row = rowed turn in
+    let row = turn in
     expanding-more (begun (goal.at.loop-at-preserved c).In-loop-at).requires row.joined_at-x.ensures
     turn.wanted-wants.ensures turn.loop-at.invariant
     turn.loop-at-test.true hop.hop_at-hop.ensures call.follow-step.ensures c.in-Next.is

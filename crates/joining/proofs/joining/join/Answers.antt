@@ -5,39 +5,39 @@ use Rattle.joining.proofs.joining.join.Goals as goal
 pub join_cleared-answer-requires : goal.join_cleared-answer-requires
 join_cleared-answer-requires c =
     let second = c in
-    let a = (entry second).args in
-    cleared_both a.counts a.arcs.now a.count a.words.now a.states-1.now a.joined-1.now
+    let a = second.args in
+    cleared_both a.counts a.arcs.now a.count a.words.now a.states.now a.joined.now
     second.clear_words.ensures second.clear_words-2.ensures
 
 pub returns-in-Joined-clause-answer : goal.returns-in-Joined-clause-answer
 returns-in-Joined-clause-answer c = (let call = c in
     let second = call in
-    let a = (entry second).args in
-    join-accepted a.counts a.arcs.now a.count a.words.now a.states-1.now a.joined-1.now
+    let a = second.args in
+    join-accepted a.counts a.arcs.now a.count a.words.now a.states.now a.joined.now
     second.clear_words.ensures second.clear_words-2.ensures call.join_cleared-answer.ensures.answer
     call.join_cleared-answer.ensures.left _ c.in-Joined.is).0
 
 pub returns-in-Joined-clause-states : goal.returns-in-Joined-clause-states
 returns-in-Joined-clause-states c = (let call = c in
     let second = call in
-    let a = (entry second).args in
-    join-accepted a.counts a.arcs.now a.count a.words.now a.states-1.now a.joined-1.now
+    let a = second.args in
+    join-accepted a.counts a.arcs.now a.count a.words.now a.states.now a.joined.now
     second.clear_words.ensures second.clear_words-2.ensures call.join_cleared-answer.ensures.answer
     call.join_cleared-answer.ensures.left _ c.in-Joined.is).1
 
 pub returns-in-Joined-clause-joined : goal.returns-in-Joined-clause-joined
 returns-in-Joined-clause-joined c = (let call = c in
     let second = call in
-    let a = (entry second).args in
-    join-accepted a.counts a.arcs.now a.count a.words.now a.states-1.now a.joined-1.now
+    let a = second.args in
+    join-accepted a.counts a.arcs.now a.count a.words.now a.states.now a.joined.now
     second.clear_words.ensures second.clear_words-2.ensures call.join_cleared-answer.ensures.answer
     call.join_cleared-answer.ensures.left _ c.in-Joined.is).2
 
 pub returns-in-Joined-clause-paths : goal.returns-in-Joined-clause-paths
 returns-in-Joined-clause-paths c = (let call = c in
     let second = call in
-    let a = (entry second).args in
-    join-accepted a.counts a.arcs.now a.count a.words.now a.states-1.now a.joined-1.now
+    let a = second.args in
+    join-accepted a.counts a.arcs.now a.count a.words.now a.states.now a.joined.now
     second.clear_words.ensures second.clear_words-2.ensures call.join_cleared-answer.ensures.answer
     call.join_cleared-answer.ensures.left _ c.in-Joined.is).3
 
@@ -47,8 +47,8 @@ returns-in-Refused-clause-answer c = (let fourth = c in
     let told = third in
     let call = told in
     let second = call in
-    let a = (entry second).args in
-    join-refusal a.counts a.arcs.now a.count a.words.now a.states-1.now a.joined-1.now
+    let a = second.args in
+    join-refusal a.counts a.arcs.now a.count a.words.now a.states.now a.joined.now
     second.clear_words.ensures second.clear_words-2.ensures call.join_cleared-answer.ensures.answer
     call.join_cleared-answer.ensures.left _ told.in-Refused.is third.clear_words-in-Refused.ensures
     fourth.clear_words-in-Refused-2.ensures).0
@@ -59,8 +59,8 @@ returns-in-Refused-clause-states c = (let fourth = c in
     let told = third in
     let call = told in
     let second = call in
-    let a = (entry second).args in
-    join-refusal a.counts a.arcs.now a.count a.words.now a.states-1.now a.joined-1.now
+    let a = second.args in
+    join-refusal a.counts a.arcs.now a.count a.words.now a.states.now a.joined.now
     second.clear_words.ensures second.clear_words-2.ensures call.join_cleared-answer.ensures.answer
     call.join_cleared-answer.ensures.left _ told.in-Refused.is third.clear_words-in-Refused.ensures
     fourth.clear_words-in-Refused-2.ensures).1
@@ -71,8 +71,8 @@ returns-in-Refused-clause-joined c = (let fourth = c in
     let told = third in
     let call = told in
     let second = call in
-    let a = (entry second).args in
-    join-refusal a.counts a.arcs.now a.count a.words.now a.states-1.now a.joined-1.now
+    let a = second.args in
+    join-refusal a.counts a.arcs.now a.count a.words.now a.states.now a.joined.now
     second.clear_words.ensures second.clear_words-2.ensures call.join_cleared-answer.ensures.answer
     call.join_cleared-answer.ensures.left _ told.in-Refused.is third.clear_words-in-Refused.ensures
     fourth.clear_words-in-Refused-2.ensures).2
@@ -83,8 +83,8 @@ returns-in-Refused-clause-paths c = (let fourth = c in
     let told = third in
     let call = told in
     let second = call in
-    let a = (entry second).args in
-    join-refusal a.counts a.arcs.now a.count a.words.now a.states-1.now a.joined-1.now
+    let a = second.args in
+    join-refusal a.counts a.arcs.now a.count a.words.now a.states.now a.joined.now
     second.clear_words.ensures second.clear_words-2.ensures call.join_cleared-answer.ensures.answer
     call.join_cleared-answer.ensures.left _ told.in-Refused.is third.clear_words-in-Refused.ensures
     fourth.clear_words-in-Refused-2.ensures).3

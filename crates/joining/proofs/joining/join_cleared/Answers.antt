@@ -5,7 +5,7 @@ use native.Mathlib.Omega.{arith}
 use lib.Seq.{length-take-le}
 use Rattle.definitions.specs.NetworkText.{network_known}
 use Rattle.definitions.specs.WordBooks.{words_known}
-use Rattle.definitions.specs.Laws.Lists.Tests.{held, failed}
+use Rattle.definitions.proofs.Laws.Lists.Tests.{held, failed}
 use Rattle.joining.specs.Laws.Lending.{arcs-held, words-held, refusal-held, refusal-answer, foreign-arcs}
 use Rattle.joining.specs.Laws.Lending.{foreign-words, too_few, startable, join-held, join-answered, join-refused}
 use Rattle.std.proofs.lemmas.Bool.{not_from_true}

@@ -16,17 +16,17 @@ fit : (c : goal.Start)
 fit c = c.requires.0
 
 top : (c : goal.After-around-top)
-    → Top (entry c).args.header (entry c).args.phone c.around-top.result.columns
+    → Top (c).args.header (c).args.phone c.around-top.result.columns
 top c =
-    let start = entry c in
+    let start = c in
     top-words start.args.header (fit c.before.before.before.before.before.before.before.before.before.before).ranges start.args.phone start.requires.1.high
     c.all_phones-all.result c.alone.result c.around-top.result.columns
     c.all_phones-all.ensures c.alone.ensures c.around-top.ensures
 
 -- the root that it starts at
 root : (c : goal.After-root_of-root)
-    → TreeRoot (entry c).args.header (entry c).args.roots.now
-    (entry c).args.phone (entry c).args.state
+    → TreeRoot (c).args.header (c).args.roots.now
+    (c).args.phone (c).args.state
     c.root_of-root.result
 root c =
     let asks = c in
@@ -43,9 +43,9 @@ tree c =
     a.state
 
 put : (c : goal.After-walk-last)
-    → TreePut (entry c).args.header
-    (tree (entry c)) c.root_of-root.result
-    c.walk-last.result c.walk-last.new.1.1.1.1.1.0
+    → TreePut (c).args.header
+    (tree (c)) c.root_of-root.result
+    c.walk-last.result c.walk-last.new.nodes.1.1.1.1.0
 put c =
     let rooted = c in
     let around = rooted in
@@ -54,7 +54,7 @@ put c =
     let a = start.args in
     leaves-put a.header a.nodes.now a.classes.now a.roots.now (fit c.before.before.before.before.before.before.before.before.before.before.before.before.before) a.phone a.state
     asks.if-header-state.false rooted.root_of-root.result (root c.before.before).own (root c.before.before).listed
-    around.around-top.result.columns (top c.before.before.before) a.table.now c.walk-last.new.1.1.1.1.1.0
+    around.around-top.result.columns (top c.before.before.before) a.table.now c.walk-last.new.nodes.1.1.1.1.0
     start.requires.3.sized start.requires.3.none c.walk-last.ensures.table c.walk-last.ensures.last
 
 pub returns-then-header-state : goal.returns-then-header-state
@@ -73,7 +73,7 @@ returns-then-header-state c =
 pub walk-last-requires : goal.walk-last-requires
 walk-last-requires c =
     let around = c in
-    let start = entry around in (
+    let start = around in (
       (fit (goal.at.walk-last-requires c).Start).header-known,
       (fit (goal.at.walk-last-requires c).Start).nodes-known,
       (fit (goal.at.walk-last-requires c).Start).classes_wide,
@@ -86,10 +86,10 @@ pub collect-requires : goal.collect-requires
 collect-requires c =
     let walked = c in
     let rooted = walked in
-    let start = entry rooted in
+    let start = rooted in
     let first = c.wide.ensures in
     let last = c.wide-2.ensures in
-    let sized = walked.walk-last.auto.1.1.1.1.1.0 ∙ start.requires.3.sized in (
+    let sized = walked.walk-last.auto.nodes.1.1.1.1.0 ∙ start.requires.3.sized in (
       omega (arith, first, sized, (root (goal.at.collect-requires c).After-root_of-root).listed),
       omega (arith, last, sized, (put (goal.at.collect-requires c).After-walk-last).inside),
       omega (arith, sized, start.requires.3.sized, start.requires.4),
@@ -105,6 +105,6 @@ returns c =
       room = list.room;
       holds = list.holds ∙ (put (goal.at.returns c).After-walk-last).holds;
       list_sized = list.list_sized;
-      table_sized = list.table_sized ∙ walked.walk-last.auto.1.1.1.1.1.0;
+      table_sized = list.table_sized ∙ walked.walk-last.auto.nodes.1.1.1.1.0;
       none = list.none;
     }

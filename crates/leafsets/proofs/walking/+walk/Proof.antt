@@ -7,7 +7,7 @@ use borrow.Author.Rules.{rules}
 use borrow.Fn.Kinds.{In}
 use borrow.Fn.PlainCycle.{Measures, is, falls, and}
 use Rattle.definitions.specs.declared.Node.{Node}
-use Rattle.definitions.specs.Laws.Books.Accepted.{QuestionFits}
+use Rattle.definitions.proofs.Laws.Books.Accepted.{QuestionFits}
 use Rattle.definitions.specs.Tables.{asked_of}
 use Rattle.definitions.proofs.wide.Reads as wide-reads
 use Rattle.tables.specs.Laws.KnownTables.{question-fits}

@@ -1,7 +1,7 @@
 -- `counting::root_place` meets its contract: a product and a sum of 32-bit numbers are numbers of 64 bits.
 use Prim.Native.Nat.{◌+◌, ◌*◌, ◌<◌}
 use native.Mathlib.Omega.{arith}
-use Rattle.definitions.specs.Laws.Lists.Products.{product-fits, sum_fits}
+use Rattle.definitions.proofs.Laws.Lists.Products.{product-fits, sum_fits}
 use borrow.Author.Rules.{rules}
 use Rattle.lines.proofs.counting.root_place.Goals as goal
 use Rattle.lines.proofs.counting.root_place.Goals.{After-from_zero-2}

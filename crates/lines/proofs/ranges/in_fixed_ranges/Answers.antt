@@ -3,7 +3,7 @@
 use mathlib.Core.Path.{ap, sym, ◌∙◌}
 use Prim.Native.Nat.{◌-◌}
 use native.Mathlib.Omega.{arith}
-use Rattle.definitions.specs.Laws.Lists.Tests.{held, failed}
+use Rattle.definitions.proofs.Laws.Lists.Tests.{held, failed}
 use Rattle.lines.specs.Places.{form_at}
 use Rattle.lines.specs.Laws.Ranges.{Judging, judging-start, range-passed, range-left, ranges-end}
 use Rattle.lines.specs.Laws.Ranges.{row-unknown, row-short, row-full}

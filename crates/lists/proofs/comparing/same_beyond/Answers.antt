@@ -2,7 +2,7 @@
 use mathlib.Core.Path.{◌≡◌, refl, sym, ◌∙◌}
 use Prim.Native.Nat.{ℕ, ◌-◌, ◌≤◌}
 use native.Mathlib.Omega.{arith}
-use Rattle.definitions.specs.Laws.Lists.Tests.{held, failed}
+use Rattle.definitions.proofs.Laws.Lists.Tests.{held, failed}
 use Rattle.matrix.specs.Shapes.{width_of}
 use Rattle.lists.specs.Laws.Held.{Turn, turn-of}
 use Rattle.lists.specs.Laws.Comparing.{AlikeLists, alike-lists-more, alike-lists-stop, alike-lists-end}
@@ -11,28 +11,25 @@ use Rattle.lists.specs.Laws.Comparing.{beyond-inside, beyond-test}
 use Rattle.std.proofs.lemmas.Bool.{not_from_true}
 use Rattle.std.proofs.lemmas.Bool.{not_from_false}
 use Rattle.lists.proofs.comparing.same_beyond.Goals as goal
-use Rattle.lists.proofs.comparing.same_beyond.Goals.{After-start_of-from, Start}
+use Rattle.lists.proofs.comparing.same_beyond.Goals.{After-start_of-from}
 
 -- a turn's two matrices
 module _ (c : goal.After-start_of-from) where
-  abbrev start : goal.Start
-  start = c
-
-  first-within : start.args.first ≤ width_of start.args.half
-  first-within = omega (arith, start.requires.2)
+  first-within : c.args.first ≤ width_of c.args.half
+  first-within = omega (arith, c.requires.2)
 
   abbrev place : ℕ
   place = c.loop-place.place
 
-  turn-a : Turn start.args.half start.args.a.now place c.start_of-from.result
+  turn-a : Turn c.args.half c.args.a.now place c.start_of-from.result
   turn-a =
-      turn-of start.requires.0 c.matrices_in-count.ensures place
+      turn-of c.requires.0 c.matrices_in-count.ensures place
       c.loop-place-test.true c.start_of-from.ensures
 
-  turn-b : Turn start.args.half start.args.b.now place c.start_of-from.result
+  turn-b : Turn c.args.half c.args.b.now place c.start_of-from.result
   turn-b =
       let told = c in
-      turn-of start.requires.1 (told.if-count-matrices_in.false ∙ told.matrices_in.ensures) place
+      turn-of c.requires.1 (told.if-count-matrices_in.false ∙ told.matrices_in.ensures) place
       c.loop-place-test.true c.start_of-from.ensures
 
 pub returns-then-count-matrices_in : goal.returns-then-count-matrices_in
@@ -46,7 +43,7 @@ pub loop-place-init : goal.loop-place-init
 loop-place-init c =
     let told = c in
     let a = told.args in (
-      c.width_of_lem.ensures.0,
+      c.width_of-width.ensures.0,
       beyond-start a.half a.first a.a.now a.b.now
           (sym told.matrices_in-count.ensures ∙ c.if-count-matrices_in.false ∙ told.matrices_in.ensures),
     )

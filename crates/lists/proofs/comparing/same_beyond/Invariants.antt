@@ -2,7 +2,7 @@
 use mathlib.Core.Path.{◌≡◌, refl, sym, ◌∙◌}
 use Prim.Native.Nat.{ℕ, ◌-◌, ◌≤◌}
 use native.Mathlib.Omega.{arith}
-use Rattle.definitions.specs.Laws.Lists.Tests.{held, failed}
+use Rattle.definitions.proofs.Laws.Lists.Tests.{held, failed}
 use Rattle.matrix.specs.Shapes.{width_of}
 use Rattle.lists.specs.Laws.Held.{Turn, turn-of}
 use Rattle.lists.specs.Laws.Comparing.{AlikeLists, alike-lists-more, alike-lists-stop, alike-lists-end}

@@ -10,47 +10,41 @@ use Rattle.lists.specs.Held.{list_in}
 use Rattle.lists.specs.Laws.Held.{Turn, turn-of, turns-end}
 use Rattle.lists.specs.Laws.Values.{turn-read}
 use Rattle.lists.proofs.ending.ends_in.Goals as goal
-use Rattle.lists.proofs.ending.ends_in.Goals.{After-ends_here, After-start_of, Start}
+use Rattle.lists.proofs.ending.ends_in.Goals.{After-ends_here, After-start_of}
 
 pub loop-place-init : goal.loop-place-init
 loop-place-init c = missed-start _ _
 
 -- a turn's matrix
 module _ (c : goal.After-start_of) where
-  abbrev start : goal.Start
-  start = c
-
-  turn : Turn start.args.half start.args.list.now c.loop-place.place c.start_of.result
+  turn : Turn c.args.half c.args.list.now c.loop-place.place c.start_of.result
   turn =
-      turn-of start.requires c.matrices_in-count.ensures c.loop-place.place
+      turn-of c.requires c.matrices_in-count.ensures c.loop-place.place
       c.loop-place-test.true c.start_of.ensures
 
 pub matrix_from-requires : goal.matrix_from-requires
-matrix_from-requires c = ((start (goal.at.matrix_from-requires c).After-start_of).requires.space.narrow, (turn (goal.at.matrix_from-requires c).After-start_of).there)
+matrix_from-requires c = (c.requires.space.narrow, (turn (goal.at.matrix_from-requires c).After-start_of).there)
 
 -- its test
 module _ (c : goal.After-ends_here) where
-  abbrev at : goal.After-start_of
-  at = c
-
-  tested : ends_here (start c.before.before).args.half
-      (get_or (list_in (start c.before.before).args.half (start c.before.before).args.list.now) at.loop-place.place [])
+  tested : ends_here c.args.half
+      (get_or (list_in c.args.half c.args.list.now) c.loop-place.place [])
       ≡ c.ends_here.result
   tested =
-      ap (ends_here (start c.before.before).args.half) (turn-read (turn c.before.before) c.matrix_from.ensures)
+      ap (ends_here c.args.half) (turn-read (turn c.before.before) c.matrix_from.ensures)
       ∙ sym c.ends_here.ensures
 
 pub returns-then-ends_here : goal.returns-then-ends_here
 unfolding list_ends
 returns-then-ends_here c =
     let told = c in
-    missed-found [] (at (goal.at.returns-then-ends_here c).After-ends_here).loop-place.invariant (turn (at (goal.at.returns-then-ends_here c).After-ends_here)).inside
+    missed-found [] told.loop-place.invariant (turn (goal.at.returns-then-ends_here c).After-start_of).inside
     (tested (goal.at.returns-then-ends_here c).After-ends_here ∙ c.if-ends_here.true)
 
 pub loop-place-preserved : goal.loop-place-preserved
 loop-place-preserved c =
     let told = c in
-    missed_more [] (at (goal.at.loop-place-preserved c).After-ends_here).loop-place.invariant (turn (at (goal.at.loop-place-preserved c).After-ends_here)).inside
+    missed_more [] told.loop-place.invariant (turn (goal.at.loop-place-preserved c).After-start_of).inside
     (tested (goal.at.loop-place-preserved c).After-ends_here ∙ c.if-ends_here.false)
 
 pub returns : goal.returns

@@ -22,11 +22,8 @@ list c = list_in c.args.half c.args.list.now
 
 -- the place that is told
 module _ (c : goal.In-At) where
-  abbrev start : goal.Start
-  start = c
-
-  counted : length (list c.before.before.before.before.before) ≡ start.args.list.now ! 0
-  counted = list_length start.args.half start.args.list.now
+  counted : length (list c.before.before.before.before.before) ≡ c.args.list.now ! 0
+  counted = list_length c.args.half c.args.list.now
 
   belongs : BelongsAt (own c.before.before.before.before.before) (list c.before.before.before.before.before) (At c.in-At.place)
   belongs =
@@ -36,7 +33,7 @@ module _ (c : goal.In-At) where
 pub insert_at-requires : goal.insert_at-requires
 insert_at-requires c =
     let place = c in
-    ((start (goal.at.insert_at-requires c).In-At).requires, omega (arith, (belongs (goal.at.insert_at-requires c).In-At).0, counted (goal.at.insert_at-requires c).In-At))
+    (place.requires, omega (arith, (belongs (goal.at.insert_at-requires c).In-At).0, counted (goal.at.insert_at-requires c).In-At))
 
 pub returns-in-At : goal.returns-in-At
 returns-in-At c =

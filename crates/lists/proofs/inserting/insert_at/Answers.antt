@@ -13,29 +13,26 @@ use Rattle.lists.proofs.inserting.insert_at.Goals.{After-start_of, Start}
 
 pub returns-then-count-eq8 : goal.returns-then-count-eq8
 returns-then-count-eq8 c =
-    let start = c in
-    ninth _ _ start.requires.1 (sym c.matrices_in-count.ensures ∙ c.if-count-eq8.true)
+    let c = c in
+    ninth _ _ c.requires.1 (sym c.matrices_in-count.ensures ∙ c.if-count-eq8.true)
 
 sized : (c : goal.Start) → length c.args.m.columns ≡ 7
 sized c = search rules
 
 -- where the matrix goes, and where the last one ends
 module _ (c : goal.After-start_of) where
-  abbrev start : goal.Start
-  start = c
-
-  abbrev count_is : c.matrices_in-count.result ≡ start.args.list.now ! 0
+  abbrev count_is : c.matrices_in-count.result ≡ c.args.list.now ! 0
   count_is = c.matrices_in-count.ensures
 
-  within : start.args.place ≤ c.matrices_in-count.result
-  within = omega (arith, count_is, start.requires.1)
+  within : c.args.place ≤ c.matrices_in-count.result
+  within = omega (arith, count_is, c.requires.1)
 
   few : c.matrices_in-count.result < 8
-  few = omega (arith, count_is, start.requires.0.few, c.if-count-eq8.false)
+  few = omega (arith, count_is, c.requires.0.few, c.if-count-eq8.false)
 
   fits : (c.start_of-from.result ≤ c.start_of.result)
-      × (c.start_of.result + matrix_size start.args.half ≤ length start.args.list.now)
-  fits = gap-fits start.requires.0 _ _ within c c.start_of-from.ensures c.start_of.ensures
+      × (c.start_of.result + matrix_size c.args.half ≤ length c.args.list.now)
+  fits = gap-fits c.requires.0 _ _ within c c.start_of-from.ensures c.start_of.ensures
 
 pub open_gap-requires : goal.open_gap-requires
 open_gap-requires c = ((fits (goal.at.open_gap-requires c).After-start_of).0, omega (arith, (fits (goal.at.open_gap-requires c).After-start_of).1, c.matrix_size.ensures.0))
@@ -44,7 +41,7 @@ pub put_columns-requires : goal.put_columns-requires
 put_columns-requires c =
     let gap = c in
     let call = gap in
-    let space = (start (goal.at.put_columns-requires c).After-start_of).requires.0.space in (
+    let space = call.requires.0.space in (
       space.narrow,
       omega (arith, fits (goal.at.put_columns-requires c).After-start_of, gap.open_gap.ensures.sized, wide_enough space),
     )
@@ -52,7 +49,7 @@ put_columns-requires c =
 pub shape_of-list : goal.shape_of-list
 shape_of-list c =
     let put = c in
-    length-set put.put_columns.new.1.0 0 _
+    length-set put.put_columns.new.words.0 0 _
     ∙ put.put_columns.ensures.sized ∙ put.open_gap.ensures.sized
 
 pub returns : goal.returns
@@ -60,7 +57,7 @@ returns c =
     let put = c in
     let gap = put in
     let call = gap in
-    inserted (start (goal.at.returns c).After-start_of).requires.0 _ _ (sized (start (goal.at.returns c).After-start_of)) (count_is (goal.at.returns c).After-start_of) (within (goal.at.returns c).After-start_of) (few (goal.at.returns c).After-start_of)
+    inserted call.requires.0 _ _ (sized (goal.at.returns c).Start) (count_is (goal.at.returns c).After-start_of) (within (goal.at.returns c).After-start_of) (few (goal.at.returns c).After-start_of)
     call.start_of-from.ensures call.start_of.ensures
     (gap-as gap.matrix_size.ensures.0 gap.open_gap.ensures)
     put.put_columns.ensures

@@ -4,26 +4,23 @@ use Rattle.lists.specs.Held.{list_in}
 use Rattle.lists.specs.Laws.Held.{columns-length, Turn, turn-of, turns-end}
 use Rattle.lists.specs.Laws.Joining.{Joined, joined-start, joined-more, joined_end}
 use Rattle.lists.proofs.joining.hull.Goals as goal
-use Rattle.lists.proofs.joining.hull.Goals.{After-start_of, Start}
+use Rattle.lists.proofs.joining.hull.Goals.{After-start_of}
 
 pub loop-place-init : goal.loop-place-init
 loop-place-init c =
-    let start = c in
-    joined-start start.requires.space.narrow _
+    let c = c in
+    joined-start c.requires.space.narrow _
 
 -- a turn's matrix
 module _ (c : goal.After-start_of) where
-  abbrev start : goal.Start
-  start = c
-
-  turn : Turn start.args.half start.args.list.now c.loop-place.place
+  turn : Turn c.args.half c.args.list.now c.loop-place.place
       c.start_of.result
   turn =
-      turn-of start.requires c.matrices_in-count.ensures c.loop-place.place
+      turn-of c.requires c.matrices_in-count.ensures c.loop-place.place
       c.loop-place-test.true c.start_of.ensures
 
 pub join_from-sofar-requires : goal.join_from-sofar-requires
-join_from-sofar-requires c = ((start (goal.at.join_from-sofar-requires c).After-start_of).requires.space.narrow, (turn (goal.at.join_from-sofar-requires c).After-start_of).there)
+join_from-sofar-requires c = (c.requires.space.narrow, (turn (goal.at.join_from-sofar-requires c).After-start_of).there)
 
 pub loop-place-preserved : goal.loop-place-preserved
 loop-place-preserved c =

@@ -16,7 +16,7 @@ use Rattle.lists.proofs.joining.join_from.Goals as goal
 use Rattle.lists.proofs.joining.join_from.Goals.{Start}
 
 pub loop-c-init : goal.loop-c-init
-loop-c-init c = (c.width_of_lem.ensures.0, omega arith, filled-start _ _)
+loop-c-init c = (c.width_of-width.ensures.0, omega arith, filled-start _ _)
 
 sized : (c : goal.Start) → length c.args.m.columns ≡ most_columns
 sized c = search rules

@@ -21,7 +21,7 @@ returns-then-met-eq0 c =
     added-invalid _
     (met-none met.requires.1.space.narrow a.m.columns (seven (goal.at.returns-then-met-eq0 c).Start) _
     (columns-length a.half a.words.now a.from met.requires.0)
-    met.matrix_from.ensures met.width_of_lem.ensures.0 met.meet-meeting.ensures.matrix
+    met.matrix_from.ensures met.width_of.ensures.0 met.meet-meeting.ensures.matrix
     c.if-met-eq0.true)
     met.requires.1
 
@@ -33,7 +33,7 @@ returns c =
     let a = met.args in
     let x = columns-length a.half a.words.now a.from met.requires.0 in
     let read = met.matrix_from.ensures in
-    let width = met.width_of_lem.ensures.0 in
+    let width = met.width_of.ensures.0 in
     let narrow = met.requires.1.space.narrow in
     added-valid _
     (met_some narrow a.m.columns (seven (goal.at.returns c).Start) _ x read width met.meet-meeting.ensures.matrix other.if-met-eq0.false)

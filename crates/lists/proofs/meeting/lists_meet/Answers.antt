@@ -10,48 +10,42 @@ use Rattle.lists.specs.Laws.Held.{Turn, turn-of, turns-end}
 use Rattle.lists.specs.Laws.Meeting.{meet-some}
 use Rattle.lists.specs.Laws.Values.{turn-read}
 use Rattle.lists.proofs.meeting.lists_meet.Goals as goal
-use Rattle.lists.proofs.meeting.lists_meet.Goals.{After-meets_one, After-start_of, Start}
+use Rattle.lists.proofs.meeting.lists_meet.Goals.{After-meets_one, After-start_of}
 
 pub loop-place-init : goal.loop-place-init
 loop-place-init c = missed-start _ _
 
 -- a turn's matrix
 module _ (c : goal.After-start_of) where
-  abbrev start : goal.Start
-  start = c
-
-  turn : Turn start.args.half start.args.a.now c.loop-place.place c.start_of.result
+  turn : Turn c.args.half c.args.a.now c.loop-place.place c.start_of.result
   turn =
-      turn-of start.requires.0 c.matrices_in-count.ensures c.loop-place.place
+      turn-of c.requires.0 c.matrices_in-count.ensures c.loop-place.place
       c.loop-place-test.true c.start_of.ensures
 
 pub matrix_from-requires : goal.matrix_from-requires
-matrix_from-requires c = ((start (goal.at.matrix_from-requires c).After-start_of).requires.0.space.narrow, (turn (goal.at.matrix_from-requires c).After-start_of).there)
+matrix_from-requires c = (c.requires.0.space.narrow, (turn (goal.at.matrix_from-requires c).After-start_of).there)
 
 -- its test
 module _ (c : goal.After-meets_one) where
-  abbrev at : goal.After-start_of
-  at = c
-
-  tested : meets_some (list_in (start c.before.before).args.half (start c.before.before).args.b.now)
-      (get_or (list_in (start c.before.before).args.half (start c.before.before).args.a.now) at.loop-place.place [])
+  tested : meets_some (list_in c.args.half c.args.b.now)
+      (get_or (list_in c.args.half c.args.a.now) c.loop-place.place [])
       ≡ c.meets_one.result
   tested =
-      ap (meets_some (list_in (start c.before.before).args.half (start c.before.before).args.b.now))
+      ap (meets_some (list_in c.args.half c.args.b.now))
       (turn-read (turn c.before.before) c.matrix_from.ensures)
       ∙ sym c.meets_one.ensures
 
 pub returns-then-meets_one : goal.returns-then-meets_one
 returns-then-meets_one c =
     let met = c in
-    missed-found [] (at (goal.at.returns-then-meets_one c).After-meets_one).loop-place.invariant (turn (at (goal.at.returns-then-meets_one c).After-meets_one)).inside
+    missed-found [] met.loop-place.invariant (turn (goal.at.returns-then-meets_one c).After-start_of).inside
     (tested (goal.at.returns-then-meets_one c).After-meets_one ∙ c.if-meets_one.true)
     ∙ meet-some _ _
 
 pub loop-place-preserved : goal.loop-place-preserved
 loop-place-preserved c =
     let met = c in
-    missed_more [] (at (goal.at.loop-place-preserved c).After-meets_one).loop-place.invariant (turn (at (goal.at.loop-place-preserved c).After-meets_one)).inside
+    missed_more [] met.loop-place.invariant (turn (goal.at.loop-place-preserved c).After-start_of).inside
     (tested (goal.at.loop-place-preserved c).After-meets_one ∙ c.if-meets_one.false)
 
 pub returns : goal.returns

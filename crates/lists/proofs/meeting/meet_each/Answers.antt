@@ -5,7 +5,7 @@ use mathlib.Core.List.{map}
 use Prim.Native.Nat.{◌-◌}
 use Rattle.definitions.specs.Matrices.{meet}
 use Rattle.definitions.specs.MatrixLists.{gather}
-use Rattle.definitions.specs.Laws.Lists.Tests.{held, failed}
+use Rattle.definitions.proofs.Laws.Lists.Tests.{held, failed}
 use Rattle.matrix.specs.Shapes.{matrix_in}
 use Rattle.lists.specs.Held.{list_in}
 use Rattle.lists.specs.Laws.Held.{Turn, turn-of, turns-end}
@@ -14,24 +14,21 @@ use Rattle.lists.specs.Laws.Meeting.{met_alone, met-each}
 use Rattle.std.proofs.lemmas.Bool.{not_from_true}
 use Rattle.std.proofs.lemmas.Bool.{not_from_false}
 use Rattle.lists.proofs.meeting.meet_each.Goals as goal
-use Rattle.lists.proofs.meeting.meet_each.Goals.{After-start_of, Start}
+use Rattle.lists.proofs.meeting.meet_each.Goals.{After-start_of}
 
 -- a turn's matrix
 module _ (c : goal.After-start_of) where
-  abbrev start : goal.Start
-  start = c
-
-  turn : Turn start.args.half start.args.list.now c.loop-place.place
+  turn : Turn c.args.half c.args.list.now c.loop-place.place
       c.start_of.result
   turn =
-      turn-of start.requires.0 c.matrices_in-count.ensures c.loop-place.place
+      turn-of c.requires.0 c.matrices_in-count.ensures c.loop-place.place
       c.loop-place-test.true c.start_of.ensures
 
 pub loop-place-init : goal.loop-place-init
 loop-place-init c =
-    let start = c in
-    gathered-start _ _ start.requires.1
-    (ap (gather (list_in start.args.half start.args.out.now)) (met-each _ _))
+    let c = c in
+    gathered-start _ _ c.requires.1
+    (ap (gather (list_in c.args.half c.args.out.now)) (met-each _ _))
 
 pub add_met-requires : goal.add_met-requires
 add_met-requires c =

@@ -5,7 +5,7 @@ use mathlib.Core.List.{map}
 use Prim.Native.Nat.{◌-◌}
 use Rattle.definitions.specs.Matrices.{meet}
 use Rattle.definitions.specs.MatrixLists.{gather}
-use Rattle.definitions.specs.Laws.Lists.Tests.{held, failed}
+use Rattle.definitions.proofs.Laws.Lists.Tests.{held, failed}
 use Rattle.matrix.specs.Shapes.{matrix_in}
 use Rattle.lists.specs.Held.{list_in}
 use Rattle.lists.specs.Laws.Held.{Turn, turn-of, turns-end}

@@ -6,7 +6,7 @@ use Prim.Native.Nat.{◌-◌}
 use lib.ListN.{length-set}
 use Rattle.definitions.specs.Matrices.{Matrix}
 use Rattle.definitions.specs.MatrixLists.{gather, pairs_met, meet_lists}
-use Rattle.definitions.specs.Laws.Lists.Tests.{held, failed}
+use Rattle.definitions.proofs.Laws.Lists.Tests.{held, failed}
 use Rattle.lists.specs.Held.{list_in}
 use Rattle.lists.specs.Laws.Held.{Turn, turn-of, turns-end, became-from, emptied-holds, emptied-list}
 use Rattle.lists.specs.Laws.Meeting.{Gathered, gathered-start, gathered-more, gathered-stop, gathered-end}
@@ -15,48 +15,45 @@ use Rattle.lists.specs.Laws.Values.{turn-read}
 use Rattle.std.proofs.lemmas.Bool.{not_from_true}
 use Rattle.std.proofs.lemmas.Bool.{not_from_false}
 use Rattle.lists.proofs.meeting.meet_lists.Goals as goal
-use Rattle.lists.proofs.meeting.meet_lists.Goals.{After-start_of, Start}
+use Rattle.lists.proofs.meeting.meet_lists.Goals.{After-start_of}
 
 -- a turn's matrix
 module _ (c : goal.After-start_of) where
-  abbrev start : goal.Start
-  start = c
-
-  turn : Turn start.args.half start.args.a.now c.loop-place.place
+  turn : Turn c.args.half c.args.a.now c.loop-place.place
       c.start_of.result
   turn =
-      turn-of start.requires.0 c.matrices_in-count.ensures c.loop-place.place
+      turn-of c.requires.0 c.matrices_in-count.ensures c.loop-place.place
       c.loop-place-test.true c.start_of.ensures
 
 pub loop-place-init : goal.loop-place-init
 unfolding meet_lists
 loop-place-init c =
-    let start = c in
-    let b : List Matrix = list_in start.args.half start.args.b.now in
-    let a : List Matrix = list_in start.args.half start.args.a.now in
-    gathered-start (met_with b) a (emptied-holds start.requires.2)
-    (ap (λ (l : List Matrix). gather l (pairs_met a b)) (sym (emptied-list start.requires.2)))
+    let c = c in
+    let b : List Matrix = list_in c.args.half c.args.b.now in
+    let a : List Matrix = list_in c.args.half c.args.a.now in
+    gathered-start (met_with b) a (emptied-holds c.requires.2)
+    (ap (λ (l : List Matrix). gather l (pairs_met a b)) (sym (emptied-list c.requires.2)))
 
 pub matrix_from-requires : goal.matrix_from-requires
-matrix_from-requires c = ((start (goal.at.matrix_from-requires c).After-start_of).requires.0.space.narrow, (turn (goal.at.matrix_from-requires c).After-start_of).there)
+matrix_from-requires c = (c.requires.0.space.narrow, (turn (goal.at.matrix_from-requires c).After-start_of).there)
 
 pub meet_each-requires : goal.meet_each-requires
 meet_each-requires c =
     let at = c in
-    ((start (goal.at.meet_each-requires c).After-start_of).requires.1, at.loop-place.invariant.holds)
+    (at.requires.1, at.loop-place.invariant.holds)
 
 pub shape_of-out-then-not-meet_each : goal.shape_of-out-then-not-meet_each
 shape_of-out-then-not-meet_each c =
     let call = c in
     let at = call in
     call.meet_each.ensures.sized ∙ at.loop-place.invariant.sized
-    ∙ length-set (start (goal.at.shape_of-out-then-not-meet_each c).After-start_of).args.out.now 0 0
+    ∙ length-set at.args.out.now 0 0
 
 pub returns-then-not-meet_each : goal.returns-then-not-meet_each
 returns-then-not-meet_each c =
     let call = c in
     let at = call in
-    became-from (length-set (start (goal.at.returns-then-not-meet_each c).After-start_of).args.out.now 0 0)
+    became-from (length-set at.args.out.now 0 0)
     (gathered-stop at.loop-place.invariant (turn (goal.at.returns-then-not-meet_each c).After-start_of).inside _
     (turn-read (turn (goal.at.returns-then-not-meet_each c).After-start_of) call.matrix_from.ensures)
     (failed refl (not_from_false _ c.if-not-meet_each.true)) call.meet_each.ensures)
@@ -71,12 +68,12 @@ loop-place-preserved c =
 
 pub shape_of-out : goal.shape_of-out
 shape_of-out c =
-    let start = c in
-    c.loop-place.invariant.sized ∙ length-set start.args.out.now 0 0
+    let c = c in
+    c.loop-place.invariant.sized ∙ length-set c.args.out.now 0 0
 
 pub returns : goal.returns
 returns c =
-    let start = c in
-    became-from (length-set start.args.out.now 0 0)
+    let c = c in
+    became-from (length-set c.args.out.now 0 0)
     (gathered-end c.loop-place.invariant
-    (turns-end start.requires.0 c.matrices_in-count.ensures _ c.loop-place-test.false))
+    (turns-end c.requires.0 c.matrices_in-count.ensures _ c.loop-place-test.false))

@@ -6,7 +6,7 @@ use Prim.Native.Nat.{◌-◌}
 use lib.ListN.{length-set}
 use Rattle.definitions.specs.Matrices.{Matrix}
 use Rattle.definitions.specs.MatrixLists.{gather, pairs_met, meet_lists}
-use Rattle.definitions.specs.Laws.Lists.Tests.{held, failed}
+use Rattle.definitions.proofs.Laws.Lists.Tests.{held, failed}
 use Rattle.lists.specs.Held.{list_in}
 use Rattle.lists.specs.Laws.Held.{Turn, turn-of, turns-end, became-from, emptied-holds, emptied-list}
 use Rattle.lists.specs.Laws.Meeting.{Gathered, gathered-start, gathered-more, gathered-stop, gathered-end}

@@ -11,49 +11,43 @@ use Rattle.lists.specs.Held.{list_in}
 use Rattle.lists.specs.Meeting.{meets_by}
 use Rattle.lists.specs.Laws.Held.{columns-length, Turn, turn-of, turns-end}
 use Rattle.lists.proofs.meeting.meets_one.Goals as goal
-use Rattle.lists.proofs.meeting.meets_one.Goals.{After-meets, After-start_of, Start}
+use Rattle.lists.proofs.meeting.meets_one.Goals.{After-meets, After-start_of}
 
 pub loop-place-init : goal.loop-place-init
 loop-place-init c = missed-start _ _
 
 -- a turn's matrix
 module _ (c : goal.After-start_of) where
-  abbrev start : goal.Start
-  start = c
-
-  turn : Turn start.args.half start.args.list.now c.loop-place.place c.start_of.result
+  turn : Turn c.args.half c.args.list.now c.loop-place.place c.start_of.result
   turn =
-      turn-of start.requires c.matrices_in-count.ensures c.loop-place.place
+      turn-of c.requires c.matrices_in-count.ensures c.loop-place.place
       c.loop-place-test.true c.start_of.ensures
 
 pub matrix_from-other-requires : goal.matrix_from-other-requires
-matrix_from-other-requires c = ((start (goal.at.matrix_from-other-requires c).After-start_of).requires.space.narrow, (turn (goal.at.matrix_from-other-requires c).After-start_of).there)
+matrix_from-other-requires c = (c.requires.space.narrow, (turn (goal.at.matrix_from-other-requires c).After-start_of).there)
 
 pub meets-requires : goal.meets-requires
-meets-requires c = omega (arith, c.width_of_lem.ensures.0)
+meets-requires c = omega (arith, c.width_of.ensures.0)
 
 -- its test
 module _ (c : goal.After-meets) where
-  abbrev at : goal.After-start_of
-  at = c
-
-  tested : meets_by (matrix_in (start c.before.before.before).args.half (start c.before.before.before).args.m.columns)
-      (get_or (list_in (start c.before.before.before).args.half (start c.before.before.before).args.list.now) at.loop-place.place [])
+  tested : meets_by (matrix_in c.args.half c.args.m.columns)
+      (get_or (list_in c.args.half c.args.list.now) c.loop-place.place [])
       ≡ c.meets.result
   tested =
-      ap (meets_by (matrix_in (start c.before.before.before).args.half (start c.before.before.before).args.m.columns)) (turn c.before.before.before).its
-      ∙ sym (met-test (start c.before.before.before).args.m.columns _ (columns-length _ _ _ (turn c.before.before.before).there)
-      c.matrix_from-other.ensures c.width_of_lem.ensures.0 c.meets.ensures)
+      ap (meets_by (matrix_in c.args.half c.args.m.columns)) (turn c.before.before.before).its
+      ∙ sym (met-test c.args.m.columns _ (columns-length _ _ _ (turn c.before.before.before).there)
+      c.matrix_from-other.ensures c.width_of.ensures.0 c.meets.ensures)
 
 pub returns-then-meets : goal.returns-then-meets
 returns-then-meets c =
     let met = c in
-    missed-found [] (at (goal.at.returns-then-meets c).After-meets).loop-place.invariant (turn (at (goal.at.returns-then-meets c).After-meets)).inside (tested (goal.at.returns-then-meets c).After-meets ∙ c.if-meets.true)
+    missed-found [] met.loop-place.invariant (turn (goal.at.returns-then-meets c).After-start_of).inside (tested (goal.at.returns-then-meets c).After-meets ∙ c.if-meets.true)
 
 pub loop-place-preserved : goal.loop-place-preserved
 loop-place-preserved c =
     let met = c in
-    missed_more [] (at (goal.at.loop-place-preserved c).After-meets).loop-place.invariant (turn (at (goal.at.loop-place-preserved c).After-meets)).inside (tested (goal.at.loop-place-preserved c).After-meets ∙ c.if-meets.false)
+    missed_more [] met.loop-place.invariant (turn (goal.at.loop-place-preserved c).After-start_of).inside (tested (goal.at.loop-place-preserved c).After-meets ∙ c.if-meets.false)
 
 pub returns : goal.returns
 returns c =

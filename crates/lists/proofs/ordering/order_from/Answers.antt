@@ -14,7 +14,7 @@ pub loop-c-init : goal.loop-c-init
 loop-c-init c =
     let start = c in
     let sized : length start.args.m.columns ≡ 7 = search rules in
-    (c.width_of_lem.ensures.0, compared-start _ _ _ _ (omega arith) start.requires.1)
+    (c.width_of-width.ensures.0, compared-start _ _ _ _ (omega arith) start.requires.1)
 
 -- a turn is at a column
 inside : (c : goal.In-loop-c)

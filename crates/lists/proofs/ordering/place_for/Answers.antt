@@ -9,24 +9,21 @@ use Rattle.lists.specs.Laws.Held.{Turn, turn-of, turns-end, list_length}
 use Rattle.lists.specs.Laws.Ordering.{AfterFirst, place-start, place-more, place_here, place_known}
 use Rattle.lists.specs.Laws.Ordering.{place_end}
 use Rattle.lists.proofs.ordering.place_for.Goals as goal
-use Rattle.lists.proofs.ordering.place_for.Goals.{After-start_of, Start}
+use Rattle.lists.proofs.ordering.place_for.Goals.{After-start_of}
 
 pub loop-place-init : goal.loop-place-init
 loop-place-init c = place-start _ _
 
 -- a turn's matrix
 module _ (c : goal.After-start_of) where
-  abbrev start : goal.Start
-  start = c
-
-  turn : Turn start.args.half start.args.list.now c.loop-place.place
+  turn : Turn c.args.half c.args.list.now c.loop-place.place
       c.start_of.result
   turn =
-      turn-of start.requires c.matrices_in-count.ensures c.loop-place.place
+      turn-of c.requires c.matrices_in-count.ensures c.loop-place.place
       c.loop-place-test.true c.start_of.ensures
 
 pub order_from-requires : goal.order_from-requires
-order_from-requires c = ((start (goal.at.order_from-requires c).After-start_of).requires.space.narrow, (turn (goal.at.order_from-requires c).After-start_of).there)
+order_from-requires c = (c.requires.space.narrow, (turn (goal.at.order_from-requires c).After-start_of).there)
 
 pub returns-in-Before : goal.returns-in-Before
 returns-in-Before c =

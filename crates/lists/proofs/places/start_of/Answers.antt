@@ -4,7 +4,7 @@ use native.Mathlib.Nat.{mul-le-mul}
 use native.Mathlib.Omega.{arith}
 use Rattle.definitions.specs.Matrices.{most_columns}
 use Rattle.definitions.specs.MatrixLists.{most_matrices}
-use Rattle.definitions.specs.Laws.Matrices.Sizes.{words-few}
+use Rattle.definitions.proofs.Laws.Matrices.Sizes.{words-few}
 use Rattle.lists.proofs.places.start_of.Goals as goal
 use Rattle.lists.proofs.places.start_of.Goals.{After-matrix_size}
 

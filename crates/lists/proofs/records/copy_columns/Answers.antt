@@ -11,7 +11,7 @@ use borrow.Author.Rules.{rules}
 use Rattle.lists.proofs.records.copy_columns.Goals as goal
 
 pub loop-c-init : goal.loop-c-init
-loop-c-init c = (c.width_of_lem.ensures.0, omega arith, put-start _ _ _)
+loop-c-init c = (c.width_of-width.ensures.0, omega arith, put-start _ _ _)
 
 pub loop-c-preserved : goal.loop-c-preserved
 loop-c-preserved c =

@@ -8,33 +8,30 @@ use Rattle.lists.specs.Laws.Held.{room_at}
 use Rattle.lists.specs.Laws.Records.{Written, cleared-sized, written_start, written-more, written-room}
 use Rattle.lists.specs.Laws.Records.{written-sized, written-end}
 use Rattle.lists.proofs.records.put_list.Goals as goal
-use Rattle.lists.proofs.records.put_list.Goals.{After-start_of, Start}
+use Rattle.lists.proofs.records.put_list.Goals.{After-start_of}
 
 pub bounds-out-0 : goal.bounds-out-0
 bounds-out-0 c =
-    let start = c in
-    omega (arith, cleared-sized start.args.half start.requires.1)
+    let c = c in
+    omega (arith, cleared-sized c.args.half c.requires.1)
 
 pub loop-place-init : goal.loop-place-init
 loop-place-init c =
-    let start = c in
-    written_start _ _ start.requires.1 (c.matrices_in-count.ensures ∙ sym (list_length _ _))
+    let c = c in
+    written_start _ _ c.requires.1 (c.matrices_in-count.ensures ∙ sym (list_length _ _))
 
 -- a turn's matrix
 module _ (c : goal.After-start_of) where
-  abbrev start : goal.Start
-  start = c
-
-  turn : Turn start.args.half start.args.list.now c.loop-place.place
+  turn : Turn c.args.half c.args.list.now c.loop-place.place
       c.start_of.result
   turn =
-      turn-of start.requires.0 c.matrices_in-count.ensures c.loop-place.place
+      turn-of c.requires.0 c.matrices_in-count.ensures c.loop-place.place
       c.loop-place-test.true c.start_of.ensures
 
 pub copy_columns-requires : goal.copy_columns-requires
 copy_columns-requires c =
     let at = c in
-    let r = (start (goal.at.copy_columns-requires c).After-start_of).requires.0 in
+    let r = at.requires.0 in
     let few = list-few r in
     let inside = (turn (goal.at.copy_columns-requires c).After-start_of).inside in
     let held = at.loop-place.invariant in (
@@ -48,20 +45,20 @@ pub loop-place-preserved : goal.loop-place-preserved
 loop-place-preserved c =
     let call = c in
     let at = call in
-    let a = (start (goal.at.loop-place-preserved c).After-start_of).args in
-    let r = (start (goal.at.loop-place-preserved c).After-start_of).requires.0 in
+    let a = at.args in
+    let r = at.requires.0 in
     written-more r.space.narrow at.loop-place.invariant (list-few r) _ (turn (goal.at.loop-place-preserved c).After-start_of).inside (turn (goal.at.loop-place-preserved c).After-start_of).its
     (columns-length a.half a.list.now _ (turn (goal.at.loop-place-preserved c).After-start_of).there) at.start_of.ensures
     call.copy_columns.ensures
 
 pub shape_of-out : goal.shape_of-out
 shape_of-out c =
-    let start = c in
-    written-sized start.requires.0.space.narrow c.loop-place.invariant (list-few start.requires.0)
-    ∙ sym (cleared-sized start.args.half start.requires.1)
+    let c = c in
+    written-sized c.requires.0.space.narrow c.loop-place.invariant (list-few c.requires.0)
+    ∙ sym (cleared-sized c.args.half c.requires.1)
 
 pub returns : goal.returns
 returns c =
-    let start = c in
-    written-end start.requires.0.space.narrow c.loop-place.invariant
-    (turns-end start.requires.0 c.matrices_in-count.ensures _ c.loop-place-test.false)
+    let c = c in
+    written-end c.requires.0.space.narrow c.loop-place.invariant
+    (turns-end c.requires.0 c.matrices_in-count.ensures _ c.loop-place-test.false)

@@ -13,7 +13,7 @@ use borrow.Author.Rules.{rules}
 use Rattle.lists.proofs.shifting.shift_columns.Goals as goal
 
 pub loop-c-init : goal.loop-c-init
-loop-c-init c = (c.width_of_lem.ensures.0, omega (arith, c.width_of_lem.ensures.0), put-start _ _ _)
+loop-c-init c = (c.width_of-width.ensures.0, omega (arith, c.width_of-width.ensures.0), put-start _ _ _)
 
 pub loop-c-preserved : goal.loop-c-preserved
 loop-c-preserved c =

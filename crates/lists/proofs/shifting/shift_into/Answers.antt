@@ -9,7 +9,7 @@ use Rattle.lists.specs.Laws.Held.{Turn, turn-of, turns-end, list_length, list-fe
 use Rattle.lists.specs.Laws.Held.{room_at, room-set, became-from}
 use Rattle.lists.specs.Laws.Shifting.{Mapped, mapped-start, mapped-more, mapped_end, shifted-length}
 use Rattle.lists.proofs.shifting.shift_into.Goals as goal
-use Rattle.lists.proofs.shifting.shift_into.Goals.{After-start_of, Start}
+use Rattle.lists.proofs.shifting.shift_into.Goals.{After-start_of}
 
 pub loop-place-init : goal.loop-place-init
 loop-place-init c =
@@ -17,22 +17,19 @@ loop-place-init c =
 
 -- a turn's matrix
 module _ (c : goal.After-start_of) where
-  abbrev start : goal.Start
-  start = c
-
-  turn : Turn start.args.half start.args.list.now c.loop-place.place
+  turn : Turn c.args.half c.args.list.now c.loop-place.place
       c.start_of.result
   turn =
-      turn-of start.requires.0 c.matrices_in-count.ensures c.loop-place.place
+      turn-of c.requires.0 c.matrices_in-count.ensures c.loop-place.place
       c.loop-place-test.true c.start_of.ensures
 
 pub shift_columns-requires : goal.shift_columns-requires
 shift_columns-requires c =
     let at = c in
-    let few = list-few (start (goal.at.shift_columns-requires c).After-start_of).requires.0 in (
-      (start (goal.at.shift_columns-requires c).After-start_of).requires.0.space.narrow,
+    let few = list-few at.requires.0 in (
+      at.requires.0.space.narrow,
       (turn (goal.at.shift_columns-requires c).After-start_of).there,
-      room_at (room-set (start (goal.at.shift_columns-requires c).After-start_of).requires.1 0 _) at.loop-place.out
+      room_at (room-set at.requires.1 0 _) at.loop-place.out
           at.loop-place.invariant.sized _
           (omega (arith, few, (turn (goal.at.shift_columns-requires c).After-start_of).inside)) at.start_of.ensures,
     )
@@ -41,8 +38,8 @@ pub loop-place-preserved : goal.loop-place-preserved
 loop-place-preserved c =
     let call = c in
     let at = call in
-    let a = (start (goal.at.loop-place-preserved c).After-start_of).args in
-    mapped-more (room-set (start (goal.at.loop-place-preserved c).After-start_of).requires.1 0 _) (list-few (start (goal.at.loop-place-preserved c).After-start_of).requires.0) at.loop-place.invariant
+    let a = at.args in
+    mapped-more (room-set at.requires.1 0 _) (list-few at.requires.0) at.loop-place.invariant
     (turn (goal.at.loop-place-preserved c).After-start_of).inside at.start_of.ensures
     (shifted-length a.all (columns_at a.half a.list.now at.start_of.result)
     (columns-length a.half a.list.now _ (turn (goal.at.loop-place-preserved c).After-start_of).there) (omega arith))
@@ -50,12 +47,12 @@ loop-place-preserved c =
 
 pub shape_of-out : goal.shape_of-out
 shape_of-out c =
-    let start = c in
-    c.loop-place.invariant.sized ∙ length-set start.args.out.now 0 _
+    let c = c in
+    c.loop-place.invariant.sized ∙ length-set c.args.out.now 0 _
 
 pub returns : goal.returns
 returns c =
-    let start = c in
-    became-from (length-set start.args.out.now 0 _)
-    (mapped_end (room-set start.requires.1 0 _) (list-few start.requires.0) c.loop-place.invariant
-    (turns-end start.requires.0 c.matrices_in-count.ensures _ c.loop-place-test.false))
+    let c = c in
+    became-from (length-set c.args.out.now 0 _)
+    (mapped_end (room-set c.requires.1 0 _) (list-few c.requires.0) c.loop-place.invariant
+    (turns-end c.requires.0 c.matrices_in-count.ensures _ c.loop-place-test.false))

@@ -48,7 +48,7 @@ bounds-words-word c =
     let turn = c in omega (arith, word-within turn.requires.0 (own (goal.at.bounds-words-word c).In-loop-word))
 
 abbrev started : goal.After-wide-phone → goal.Start
-started c = entry c
+started c = c
 
 first : (c : goal.After-wide-phone)
     → c.wide-phone.result ≡ phones_in (spelled (started c).args.words.now) c.loop-word.word ! 0

@@ -5,8 +5,8 @@ use Prim.Native.Nat.{ℕ, suc, ◌-◌, min}
 use native.Mathlib.Omega.{arith}
 use lib.ListN.{length, take, length-take}
 use lib.Seq.{get_or-take}
-use Rattle.definitions.specs.Laws.Lists.Same.{Alike, same-lengths, alike-start, alike-more, alike-stop}
-use Rattle.definitions.specs.Laws.Lists.Same.{alike_end}
+use Rattle.definitions.proofs.Laws.Lists.Same.{Alike, same-lengths, alike-start, alike-more, alike-stop}
+use Rattle.definitions.proofs.Laws.Lists.Same.{alike_end}
 use borrow.Author.Rules.{rules}
 use Rattle.matrix.proofs.words.is_numbered.Goals as goal
 

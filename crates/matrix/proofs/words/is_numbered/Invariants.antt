@@ -5,8 +5,8 @@ use Prim.Native.Nat.{ℕ, suc, ◌-◌, min}
 use native.Mathlib.Omega.{arith}
 use lib.ListN.{length, take, length-take}
 use lib.Seq.{get_or-take}
-use Rattle.definitions.specs.Laws.Lists.Same.{Alike, same-lengths, alike-start, alike-more, alike-stop}
-use Rattle.definitions.specs.Laws.Lists.Same.{alike_end}
+use Rattle.definitions.proofs.Laws.Lists.Same.{Alike, same-lengths, alike-start, alike-more, alike-stop}
+use Rattle.definitions.proofs.Laws.Lists.Same.{alike_end}
 use Rattle.matrix.proofs.words.is_numbered.Given as goal
 
 abbrev pub invariant-loop-i : goal.invariant-loop-i

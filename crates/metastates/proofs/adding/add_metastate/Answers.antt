@@ -4,7 +4,7 @@ use mathlib.Core.List.{List, ◌∷◌, ◌++◌}
 use Prim.Native.Nat.{ℕ, ◌+◌, ◌-◌, ◌*◌, ◌≤◌}
 use native.Mathlib.Omega.{arith}
 use lib.ListN.{length, take, drop}
-use Rattle.definitions.specs.Laws.Matrices.Sizes.{words-few}
+use Rattle.definitions.proofs.Laws.Matrices.Sizes.{words-few}
 use Rattle.lines.specs.Laws.Putting.{part_length, part-put}
 use Rattle.matrix.specs.Laws.Words.{overwritten-all}
 use Rattle.index.specs.Laws.CutRecords.{cut-within}

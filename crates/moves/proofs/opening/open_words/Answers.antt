@@ -49,7 +49,7 @@ returns-in-Stop c =
 
 pub overflow_add-word : goal.overflow_add-word
 overflow_add-word c =
-    let turn = turned (told (goal.at.overflow_add-word c).In-Next) in
+    let turn = (told (goal.at.overflow_add-word c).In-Next) in
     let few = (opening-word (begun (goal.at.overflow_add-word c).In-loop-word).requires turn.loop-word.invariant turn.loop-word-test.true).high in
     let most = (begun (goal.at.overflow_add-word c).In-loop-word).requires.followable.lexicon.few in
     let is = c.wide-in-loop-word.ensures in
@@ -57,7 +57,7 @@ overflow_add-word c =
 
 pub offset_bounds-index-wide-in-loop-word : goal.offset_bounds-index-wide-in-loop-word
 offset_bounds-index-wide-in-loop-word c =
-    let turn = turned (told (goal.at.offset_bounds-index-wide-in-loop-word c).In-Next) in
+    let turn = (told (goal.at.offset_bounds-index-wide-in-loop-word c).In-Next) in
     let few = (opening-word (begun (goal.at.offset_bounds-index-wide-in-loop-word c).In-loop-word).requires turn.loop-word.invariant turn.loop-word-test.true).high in
     let most = (begun (goal.at.offset_bounds-index-wide-in-loop-word c).In-loop-word).requires.followable.lexicon.few in
     let is = c.wide-in-loop-word.ensures in
@@ -65,13 +65,13 @@ offset_bounds-index-wide-in-loop-word c =
 
 pub bounds-index-wide-in-loop-word : goal.bounds-index-wide-in-loop-word
 bounds-index-wide-in-loop-word c =
-    let turn = turned (told (goal.at.bounds-index-wide-in-loop-word c).In-Next) in
+    let turn = (told (goal.at.bounds-index-wide-in-loop-word c).In-Next) in
     let link = opening-link (begun (goal.at.bounds-index-wide-in-loop-word c).In-loop-word).requires turn.loop-word.invariant turn.loop-word-test.true in
     omega (arith, link, c.wide-in-loop-word.ensures)
 
 pub loop-word-smaller : goal.loop-word-smaller
 loop-word-smaller c =
-    let turn = turned (told (goal.at.loop-word-smaller c).In-Next) in
+    let turn = (told (goal.at.loop-word-smaller c).In-Next) in
     let index = (begun (goal.at.loop-word-smaller c).In-loop-word).args.index.now in
     opening-less (begun (goal.at.loop-word-smaller c).In-loop-word).requires turn.loop-word.invariant turn.loop-word-test.true
     (ap (λ (n : ℕ). index ! (64 + n - 1)) c.wide-in-loop-word.ensures)

@@ -1,6 +1,6 @@
 -- `judging::within_counts` meets its contract, letter by letter.
 use Rattle.definitions.specs.NetworkText.{within_counts}
-use Rattle.definitions.specs.Laws.Lists.Tests.{held, failed}
+use Rattle.definitions.proofs.Laws.Lists.Tests.{held, failed}
 use Rattle.nettext.specs.Entries.{entry_line}
 use Rattle.std.proofs.lemmas.Bool.{not_from_true}
 use Rattle.std.proofs.lemmas.Bool.{not_from_false}

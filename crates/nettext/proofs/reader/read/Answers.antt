@@ -1,5 +1,5 @@
 -- `reader::read` meets its contract: the arcs are cleared before reading, and again where it refuses.
-use Rattle.definitions.specs.Laws.Lists.Lists.{clear-itself}
+use Rattle.definitions.proofs.Laws.Lists.Lists.{clear-itself}
 use Rattle.nettext.specs.Laws.Answering.{accepted-returns, refused-returns}
 use Rattle.nettext.proofs.reader.read.Goals as goal
 

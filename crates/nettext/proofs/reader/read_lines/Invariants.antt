@@ -2,7 +2,7 @@
 use Prim.Native.Nat.{◌-◌, ◌/◌}
 use native.Mathlib.Omega.{arith}
 use lib.ListN.{length}
-use Rattle.definitions.specs.Laws.Lists.Tests.{held, failed}
+use Rattle.definitions.proofs.Laws.Lists.Tests.{held, failed}
 use Rattle.lines.specs.Laws.Judging.{next-bytes}
 use Rattle.nettext.specs.Laws.Reading.{Turn, first-turn, turn-ready, turn-endable, turn-next}
 use Rattle.nettext.specs.Laws.Reading.{torn-returns, stop-returns, end_returns}

@@ -1,5 +1,5 @@
 -- `taking::finish` meets its contract, by whether lines are missing.
-use Rattle.definitions.specs.Laws.Lists.Tests.{held, failed}
+use Rattle.definitions.proofs.Laws.Lists.Tests.{held, failed}
 use Rattle.nettext.specs.Laws.Taking.{finish-early, finish-fine}
 use Rattle.std.proofs.lemmas.Bool.{not_from_true}
 use Rattle.std.proofs.lemmas.Bool.{not_from_false}

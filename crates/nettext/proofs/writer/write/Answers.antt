@@ -5,7 +5,7 @@ use mathlib.Core.Bool.{true}
 use native.Mathlib.Omega.{arith}
 use lib.ListN.{length}
 use Rattle.definitions.specs.NetworkText.{network_known}
-use Rattle.definitions.specs.Laws.Lists.Tests.{held, failed}
+use Rattle.definitions.proofs.Laws.Lists.Tests.{held, failed}
 use Rattle.arcs.specs.Laws.KnownArcs.{known-taken}
 use Rattle.nettext.specs.Laws.Writing.{lent-ready, counts-written, write-foreign, write-short, write_done}
 use Rattle.std.proofs.lemmas.Bool.{not_from_true}
@@ -59,7 +59,7 @@ write_arcs-requires c =
     let counted = first in
     let a = counted.args in
     lent-ready a.counts a.arcs.now (known (goal.at.write_arcs-requires c).Else-not-network_known) counted.wide-count.ensures
-    first.write.new.1.0 (omega arith)
+    first.write.new.bytes.0 (omega arith)
 
 -- a row has five numbers
 five : (c : goal.After-counts_row) → length c.counts_row.result.numbers ≡ 5
@@ -80,7 +80,7 @@ returns-clause-answer c = (let lines = c in
     row.counts_row.result (omega arith) clear.ensures (five (goal.at.returns-clause-answer c).After-counts_row) row.counts_row.ensures
     text.ensures in
     write_done a.counts a.arcs.now size (known (goal.at.returns-clause-answer c).Else-not-network_known) counted.wide-count.ensures (omega arith)
-    text.new.1.0 lines.write_arcs.new.1.0 line lines.write_arcs.ensures).0
+    text.new.1.0 lines.write_arcs.new.text.0 line lines.write_arcs.ensures).0
 
 pub returns-clause-leaves : goal.returns-clause-leaves
 returns-clause-leaves c = (let lines = c in
@@ -97,4 +97,4 @@ returns-clause-leaves c = (let lines = c in
     row.counts_row.result (omega arith) clear.ensures (five (goal.at.returns-clause-leaves c).After-counts_row) row.counts_row.ensures
     text.ensures in
     write_done a.counts a.arcs.now size (known (goal.at.returns-clause-leaves c).Else-not-network_known) counted.wide-count.ensures (omega arith)
-    text.new.1.0 lines.write_arcs.new.1.0 line lines.write_arcs.ensures).1
+    text.new.1.0 lines.write_arcs.new.text.0 line lines.write_arcs.ensures).1

@@ -6,7 +6,7 @@ use Prim.Native.Nat.{ℕ, ◌+◌, ◌-◌, ◌*◌, ◌/◌}
 use native.Mathlib.Omega.{arith}
 use lib.ListN.{length, take, drop}
 use Rattle.definitions.specs.Arcs.{arc_size}
-use Rattle.definitions.specs.Laws.Networks.KnownNetworks.{arcs-length}
+use Rattle.definitions.proofs.Laws.Networks.KnownNetworks.{arcs-length}
 use Rattle.lines.specs.Laws.Filling.{Filled, filled-start, filled-end}
 use Rattle.writing.specs.Laws.WrittenLines.{part-put}
 use Rattle.arcs.specs.Whole.{all_arcs}

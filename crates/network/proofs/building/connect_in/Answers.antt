@@ -12,26 +12,23 @@ use Rattle.network.specs.Workspace.{Ready}
 use Rattle.network.specs.Laws.Building.{connected-as, finished-returns, stopped-returns, refused-returns}
 use borrow.Author.Rules.{rules}
 use Rattle.network.proofs.building.connect_in.Goals as goal
-use Rattle.network.proofs.building.connect_in.Goals.{After-combination_size, Start}
+use Rattle.network.proofs.building.connect_in.Goals.{After-combination_size}
 
 -- the size that was computed is that of a record
 module _ (c : goal.After-combination_size) where
-  abbrev start : goal.Start
-  start = c
-
-  sized : c.combination_size.result ≡ combination_size start.args.header.half
+  sized : c.combination_size.result ≡ combination_size c.args.header.half
   sized = c.combination_size.ensures
 
-  used-few : c.combination_size.result * start.args.count ≤ length start.args.combinations.now
-  used-few = cut-used sized start.args.count start.requires.0
+  used-few : c.combination_size.result * c.args.count ≤ length c.args.combinations.now
+  used-few = cut-used sized c.args.count c.requires.0
 
   abbrev outcome : (size : ℕ) → Outcome Built
   outcome c =
-      let a = start.args in
+      let a = c.args in
       connected_in a.header a.nodes.now (take (size * a.count) a.combinations.now) a.metastates.now
       a.arcs.now a.limit
 
-  same_outcome : outcome c.combination_size.result ≡ outcome (combination_size start.args.header.half)
+  same_outcome : outcome c.combination_size.result ≡ outcome (combination_size c.args.header.half)
   same_outcome = ap outcome c
 
 pub overflow_mul-used : goal.overflow_mul-used
@@ -42,14 +39,14 @@ slice_bounds-connect-end c = used-few (goal.at.slice_bounds-connect-end c).After
 
 pub slice_bounds-connect-end-2 : goal.slice_bounds-connect-end-2
 slice_bounds-connect-end-2 c =
-    sym (length-take-le _ (start (goal.at.slice_bounds-connect-end-2 c).After-combination_size).args.combinations.now (used-few (goal.at.slice_bounds-connect-end-2 c).After-combination_size))
+    sym (length-take-le _ c.args.combinations.now (used-few (goal.at.slice_bounds-connect-end-2 c).After-combination_size))
 
 pub connect-answer-requires : goal.connect-answer-requires
 connect-answer-requires c =
     let known = c in
-    let a = (start (goal.at.connect-answer-requires c).After-combination_size).args in
-    subst (λ (n : ℕ). Ready a.header a.nodes.now (take (n * a.count) a.combinations-1.now) a.ends.now
-    a.metastates-1.now a.arcs-1.now) (sym (sized (goal.at.connect-answer-requires c).After-combination_size)) (start (goal.at.connect-answer-requires c).After-combination_size).requires.1
+    let a = known.args in
+    subst (λ (n : ℕ). Ready a.header a.nodes.now (take (n * a.count) a.combinations.now) a.ends.now
+    a.metastates.now a.arcs.now) (sym (sized (goal.at.connect-answer-requires c).After-combination_size)) known.requires.1
 
 pub returns-in-Finished : goal.returns-in-Finished
 returns-in-Finished c =

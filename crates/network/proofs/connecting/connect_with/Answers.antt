@@ -5,12 +5,12 @@ use Rattle.network.proofs.connecting.connect_with.Goals as goal
 use Rattle.network.proofs.connecting.connect_with.Goals.{After-fill_index, After-start-arg4}
 
 abbrev entry : goal.After-start-arg4 → goal.start-step
-entry c = c
+entry c = (c)
 
 -- the index was filled, so the build may start
 ready : (c : goal.After-fill_index)
     → Startable c.args.header c.args.nodes.now c.args.combinations.now
-    c.fill_index.new.1.1.1.0 c.args.metastates.now c.args.arcs.now
+    c.fill_index.new.combinations.1.1.0 c.args.metastates.now c.args.arcs.now
     c.args.chains.now
 ready c = let (given, work) = c.requires in startable given work c.fill_index.ensures
 
@@ -20,7 +20,7 @@ fill_index-requires c =
     fillable given work
 
 pub start-step-requires : goal.start-step-requires
-start-step-requires c = ready (goal.at.start-step-requires c).After-fill_index
+start-step-requires c = ready (c)
 
 pub take_turns-requires : goal.take_turns-requires
 take_turns-requires c =

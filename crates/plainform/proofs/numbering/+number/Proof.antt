@@ -7,7 +7,7 @@ use borrow.Author.Rules.{rules}
 use borrow.Fn.Kinds.{In}
 use borrow.Fn.PlainCycle.{Measures, is, falls, and}
 use Rattle.definitions.specs.PlainForm.{Tree, size_of}
-use Rattle.definitions.specs.Spelling.TreeShapes.{some-node}
+use Rattle.definitions.proofs.Spelling.TreeShapes.{some-node}
 use Rattle.tables.proofs.records.leaf_node.Reads as leaf-node-reads
 use Rattle.tables.proofs.records.node_at.Reads as node-at-reads
 use Rattle.tables.proofs.records.put_node.Reads as put-node-reads

@@ -62,8 +62,8 @@ collect_all-used-requires c =
 
 record Many (c : goal.After-collect_all-used) : Type 0 where
   few : c.collect_all-used.result ≤ most_nodes
-  taken : length (take c.collect_all-used.result c.collect_all-used.new.1.1.1.1.0) ≡ c.collect_all-used.result
-  sized : length c.collect_all-used.new.1.1.1.1.0 ≡ most_nodes
+  taken : length (take c.collect_all-used.result c.collect_all-used.new.nodes.1.1.1.0) ≡ c.collect_all-used.result
+  sized : length c.collect_all-used.new.nodes.1.1.1.0 ≡ most_nodes
 
 many : (c : goal.After-collect_all-used) → Many c
 many c =
@@ -92,16 +92,16 @@ number_all-requires c =
 
 -- the roots that were put
 record Roots (c : goal.After-number_all) : Type 0 where
-  sized : length c.number_all.new.1.1.1.1.1.1.0 ≡ root_room
+  sized : length c.number_all.new.nodes.1.1.1.1.1.0 ≡ root_room
   few :
-      (counted c).wide-phones.result * (counted c).wide.result
-      ≤ length c.number_all.new.1.1.1.1.1.1.0
+      (c).wide-phones.result * (c).wide.result
+      ≤ length c.number_all.new.nodes.1.1.1.1.1.0
 
 roots-put : (c : goal.After-number_all) → Roots c
 roots-put c =
-    let w = counted c in
+    let w = c in
     let narrow = roots-narrow w.args.header (tables c.before.before.before.before.before.before.before) w.requires in
-    let all = c.number_all.auto.1.1.1.1.1.1.0 in
+    let all = c.number_all.auto.nodes.1.1.1.1.1.0 in
     record { sized = all; few = omega (arith, all, roots-many c.before.before.before.before.before.before.before, narrow) }
 
 pub overflow_cast-plain : goal.overflow_cast-plain
@@ -115,13 +115,13 @@ slice_bounds-put_book-end-2 c = sym (length-take-le _ _ (roots-put (goal.at.slic
 
 pub slice_bounds-put_book-end-3 : goal.slice_bounds-put_book-end-3
 slice_bounds-put_book-end-3 c =
-    sym (length-take-le _ _ (cut (counted c)).plains)
+    sym (length-take-le _ _ (cut (c)).plains)
 
 pub put_book-requires : goal.put_book-requires
 put_book-requires c =
     let numbered = c in
-    let starts = numbered.number_all.new.1.1.1.1.1.1.0 in
-    let w = counted numbered in
+    let starts = numbered.number_all.new.nodes.1.1.1.1.1.0 in
+    let w = numbered in
     let m = many (goal.at.put_book-requires c).After-collect_all-used in
     let r = roots-put (goal.at.put_book-requires c).After-number_all in (
       (cut (goal.at.put_book-requires c).After-wide).lent.stated.in-range.states_range.low,
@@ -134,7 +134,7 @@ pub returns : goal.returns
 returns c =
     let put = c in
     let numbered = put in
-    let w = counted numbered in
+    let w = numbered in
     let done = numbered.number_all.ensures in
     let same =
     plain-written (cut (goal.at.returns c).After-wide).lent refl numbered.collect_all-used.ensures _ _ _

@@ -8,7 +8,7 @@ use lib.ListN.{length}
 use Rattle.definitions.specs.Lists.{cleared}
 use Rattle.definitions.specs.Tables.{Tables}
 use Rattle.definitions.specs.ForeignTables.{tables_known}
-use Rattle.definitions.specs.Laws.Lists.Tests.{held, failed}
+use Rattle.definitions.proofs.Laws.Lists.Tests.{held, failed}
 use Rattle.tables.specs.Lending.{lent_tables}
 use Rattle.plainform.specs.Laws.Writing.{write-foreign, write-short, write_done}
 use Rattle.std.proofs.lemmas.Bool.{not_from_true}
@@ -42,8 +42,8 @@ put_plain-count-requires c = known (goal.at.put_plain-count-requires c).Else-not
 
 -- the text that lines were put into is as long as it was
 sized : (c : goal.After-put_plain-count)
-    → length c.put_plain-count.new.1.1.1.1.1.0 ≡ length c.args.text.now
-sized c = c.put_plain-count.auto.1.1.1.1.1.0 ∙ c.clear_bytes.auto.0
+    → length c.put_plain-count.new.nodes.1.1.1.1.0 ≡ length c.args.text.now
+sized c = c.put_plain-count.auto.nodes.1.1.1.1.0 ∙ c.clear_bytes.auto.bytes
 
 pub returns-then-text-count-clause-answer : goal.returns-then-text-count-clause-answer
 returns-then-text-count-clause-answer c = let cleared-again = (c in

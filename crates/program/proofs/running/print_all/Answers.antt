@@ -1,6 +1,6 @@
 -- `running::print_all` meets its contract, by the length of the input.
 use mathlib.Core.Path.{sym}
-use Rattle.definitions.specs.Laws.Networks.Program.{program-long, program-short}
+use Rattle.definitions.proofs.Laws.Networks.Program.{program-long, program-short}
 use Rattle.program.specs.Laws.Printing.{prints-same}
 use Rattle.program.proofs.running.print_all.Goals as goal
 

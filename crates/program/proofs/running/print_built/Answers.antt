@@ -14,7 +14,7 @@ use Rattle.program.proofs.running.print_built.Goals as goal
 use Rattle.program.proofs.running.print_built.Goals.{After-build_book-answer}
 
 abbrev words : goal.After-build_book-answer → List ℕ
-words c = c.build_book-answer.new.1.1.1.1.1.1.1.0
+words c = c.build_book-answer.new.nodes.1.1.1.1.1.1.0
 
 -- the answer can be printed,
 printable : (c : goal.After-build_book-answer) (answer : Build) → c.build_book-answer.result ≡ answer

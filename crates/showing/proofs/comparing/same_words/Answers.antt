@@ -1,5 +1,5 @@
 -- `comparing::same_words` meets its contract.
-use Rattle.definitions.specs.Laws.Lists.Same.{same-lengths, alike-start, alike-more, alike-stop, alike_end}
+use Rattle.definitions.proofs.Laws.Lists.Same.{same-lengths, alike-start, alike-more, alike-stop, alike_end}
 use Rattle.showing.proofs.comparing.same_words.Goals as goal
 
 pub returns-then-left-right : goal.returns-then-left-right

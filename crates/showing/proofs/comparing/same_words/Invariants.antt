@@ -1,6 +1,6 @@
 -- `comparing::same_words` meets its contract. The loop's invariant: the words before `i` are the same.
 use Rattle.std.proofs.Common.{◌-◌, length}
-use Rattle.definitions.specs.Laws.Lists.Same.{Alike}
+use Rattle.definitions.proofs.Laws.Lists.Same.{Alike}
 use Rattle.showing.proofs.comparing.same_words.Given as goal
 
 abbrev pub invariant-loop-i : goal.invariant-loop-i

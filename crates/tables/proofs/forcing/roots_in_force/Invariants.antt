@@ -6,8 +6,8 @@ use lib.Dec.{T}
 use Rattle.definitions.specs.declared.Header.{Header}
 use Rattle.definitions.specs.BookLines.{root_count}
 use Rattle.definitions.specs.ForeignTables.{header_known}
-use Rattle.definitions.specs.Laws.Books.Books.{roots_few}
-use Rattle.definitions.specs.Laws.Books.AcceptedKnown.{header-ranges}
+use Rattle.definitions.proofs.Laws.Books.Books.{roots_few}
+use Rattle.definitions.proofs.Laws.Books.AcceptedKnown.{header-ranges}
 use Rattle.tables.specs.Laws.Forcing.{Forcing, forcing-start, forcing-more, forcing-end}
 use Rattle.tables.proofs.forcing.roots_in_force.Given as goal
 

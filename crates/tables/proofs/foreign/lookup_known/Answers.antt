@@ -1,5 +1,5 @@
 -- `foreign::lookup_known` meets its contract: each answer by the first test that fails.
-use Rattle.definitions.specs.Laws.Lists.Tests.{held, failed}
+use Rattle.definitions.proofs.Laws.Lists.Tests.{held, failed}
 use Rattle.tables.specs.Laws.LookupOrder.{lookup-order}
 use Rattle.std.proofs.lemmas.Bool.{not_from_true}
 use Rattle.std.proofs.lemmas.Bool.{not_from_false}

@@ -2,8 +2,8 @@
 use mathlib.Core.Path.{sym}
 use native.Mathlib.Omega.{arith}
 use lib.Seq.{length-take-le}
-use Rattle.definitions.specs.Laws.Books.Books.{roots_few}
-use Rattle.definitions.specs.Laws.Books.AcceptedKnown.{header-ranges}
+use Rattle.definitions.proofs.Laws.Books.Books.{roots_few}
+use Rattle.definitions.proofs.Laws.Books.AcceptedKnown.{header-ranges}
 use Rattle.tables.specs.Laws.TableTests.{root-count, roots-taken}
 use Rattle.tables.specs.Laws.NamingTables.{once-counted}
 use Prim.Native.Nat.{◌≤◌}

@@ -2,7 +2,7 @@
 use mathlib.Core.Path.{◌≡◌}
 use mathlib.Core.Bool.{true}
 use Rattle.definitions.specs.ForeignTables.{header_known, node_table_known}
-use Rattle.definitions.specs.Laws.Lists.Tests.{held, failed}
+use Rattle.definitions.proofs.Laws.Lists.Tests.{held, failed}
 use Rattle.std.proofs.lemmas.Bool.{not_from_true}
 use Rattle.std.proofs.lemmas.Bool.{not_from_false}
 use Rattle.tables.proofs.foreign.records_known.Goals as goal

@@ -7,9 +7,9 @@ use Rattle.definitions.specs.BookLines.{root_count}
 use Rattle.definitions.specs.Tables.{tables_contents}
 use Rattle.definitions.specs.ForeignTables.{header_known, node_table_known, class_table_known, plain_table_known}
 use Rattle.definitions.specs.ForeignTables.{root_table_known, named_once, tables_known}
-use Rattle.definitions.specs.Laws.Lists.Tests.{T-three, held, failed}
-use Rattle.definitions.specs.Laws.Books.AcceptedKnown.{holds-padded}
-use Rattle.definitions.specs.Laws.Books.KnownBooks.{root-table-parts}
+use Rattle.definitions.proofs.Laws.Lists.Tests.{T-three, held, failed}
+use Rattle.definitions.proofs.Laws.Books.AcceptedKnown.{holds-padded}
+use Rattle.definitions.proofs.Laws.Books.KnownBooks.{root-table-parts}
 use Rattle.std.proofs.lemmas.Bool.{not_from_true}
 use Rattle.std.proofs.lemmas.Bool.{not_from_false}
 use Rattle.tables.proofs.foreign.tables_known.Goals as goal

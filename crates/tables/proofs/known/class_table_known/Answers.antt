@@ -1,7 +1,7 @@
 -- `known::class_table_known` meets its contract.
 use Rattle.definitions.specs.ForeignTables.{class_table_known}
-use Rattle.definitions.specs.Laws.Lists.Tests.{held, failed}
-use Rattle.definitions.specs.Laws.Books.AcceptedKnown.{header-ranges}
+use Rattle.definitions.proofs.Laws.Lists.Tests.{held, failed}
+use Rattle.definitions.proofs.Laws.Books.AcceptedKnown.{header-ranges}
 use Rattle.tables.specs.Laws.TableTests.{holds-taken}
 use Rattle.std.proofs.lemmas.Bool.{not_from_true}
 use Rattle.std.proofs.lemmas.Bool.{not_from_false}

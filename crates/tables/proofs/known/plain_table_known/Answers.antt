@@ -1,7 +1,7 @@
 -- `known::plain_table_known` meets its contract.
 use mathlib.Core.Path.{◌∙◌}
 use Rattle.definitions.specs.ForeignTables.{plain_table_known}
-use Rattle.definitions.specs.Laws.Lists.Tests.{held, failed}
+use Rattle.definitions.proofs.Laws.Lists.Tests.{held, failed}
 use Rattle.tables.specs.Laws.TableTests.{holds-taken}
 use Rattle.tables.specs.Laws.PhoneTests.{plains-left}
 use Rattle.std.proofs.lemmas.Bool.{not_from_true}

@@ -3,7 +3,7 @@ use Prim.Native.Nat.{◌-◌}
 use lib.ListN.{length}
 use borrow.Author.Tests.{eq-eqb, ne_eqb}
 use Rattle.definitions.specs.ForeignTables.{plain_known, plains_known}
-use Rattle.definitions.specs.Laws.Lists.Tests.{held, failed}
+use Rattle.definitions.proofs.Laws.Lists.Tests.{held, failed}
 use Rattle.lines.specs.Laws.Passing.{Passed, passed-more, passed-stop, passed-end}
 use Rattle.tables.proofs.known.plains_known.Given as goal
 

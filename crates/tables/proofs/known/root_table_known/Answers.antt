@@ -3,9 +3,9 @@ use mathlib.Core.Path.{sym, ◌∙◌}
 use native.Mathlib.Omega.{arith}
 use Rattle.definitions.specs.BookLines.{root_count}
 use Rattle.definitions.specs.ForeignTables.{root_table_known}
-use Rattle.definitions.specs.Laws.Lists.Tests.{held, failed}
-use Rattle.definitions.specs.Laws.Books.Books.{roots_few}
-use Rattle.definitions.specs.Laws.Books.AcceptedKnown.{header-ranges}
+use Rattle.definitions.proofs.Laws.Lists.Tests.{held, failed}
+use Rattle.definitions.proofs.Laws.Books.Books.{roots_few}
+use Rattle.definitions.proofs.Laws.Books.AcceptedKnown.{header-ranges}
 use Rattle.tables.specs.Laws.TableTests.{holds-taken, root-count}
 use Rattle.tables.specs.Laws.PhoneTests.{roots-left}
 use Rattle.std.proofs.lemmas.Bool.{not_from_true}

@@ -2,7 +2,7 @@
 use Prim.Native.Nat.{◌+◌, ◌-◌, ◌*◌, ◌≤◌, ◌<◌}
 use native.Mathlib.Omega.{arith}
 use lib.ListN.{length}
-use Rattle.definitions.specs.Laws.Lists.Tests.{held, failed}
+use Rattle.definitions.proofs.Laws.Lists.Tests.{held, failed}
 use Rattle.tables.specs.Laws.PhoneTests.{RootsPassed, roots-start, roots-inside, roots-more, roots-stop}
 use Rattle.tables.specs.Laws.PhoneTests.{roots-end}
 use Rattle.std.proofs.lemmas.Bool.{not_from_true}

@@ -1,8 +1,8 @@
 -- `nodes::leaf_known` meets its contract: each answer by the first part of the test that fails.
 use native.Mathlib.Omega.{arith}
 use lib.Dec.{eqb→eq}
-use Rattle.definitions.specs.Laws.Lists.Tests.{same_tests, eq→eqb}
-use Rattle.definitions.specs.Laws.Books.KnownRecords.{leaf-exactly}
+use Rattle.definitions.proofs.Laws.Lists.Tests.{same_tests, eq→eqb}
+use Rattle.definitions.proofs.Laws.Books.KnownRecords.{leaf-exactly}
 use Rattle.tables.specs.Laws.RecordTests.{refused}
 use borrow.Author.Rules.{rules}
 use Rattle.tables.proofs.nodes.leaf_known.Goals as goal

@@ -1,6 +1,6 @@
 -- `nodes::question_known` meets its contract: each answer by the first part of the test that fails.
 use native.Mathlib.Omega.{arith}
-use Rattle.definitions.specs.Laws.Books.KnownRecords.{question-exactly}
+use Rattle.definitions.proofs.Laws.Books.KnownRecords.{question-exactly}
 use Rattle.tables.specs.Laws.RecordTests.{refused, last-below}
 use borrow.Author.Rules.{rules}
 use Rattle.tables.proofs.nodes.question_known.Goals as goal

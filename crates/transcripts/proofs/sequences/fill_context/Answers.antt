@@ -3,7 +3,7 @@
 use mathlib.Core.Path.{◌≡◌, ◌∙◌}
 use Prim.Native.Nat.{◌-◌}
 use lib.ListN.{length}
-use Rattle.definitions.specs.Laws.Trees.Contexts.{context_at, silent-context-length}
+use Rattle.definitions.proofs.Laws.Trees.Contexts.{context_at, silent-context-length}
 use Rattle.lines.specs.Laws.Filling.{Filled, filled-start, filled_more, filled-end}
 use borrow.Author.Rules.{rules}
 use Rattle.transcripts.proofs.sequences.fill_context.Goals as goal

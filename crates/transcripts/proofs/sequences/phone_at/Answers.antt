@@ -1,6 +1,6 @@
 -- `sequences::phone_at` meets its contract: before the sequence, within it, after it.
 use mathlib.Core.Path.{sym}
-use Rattle.definitions.specs.Laws.Trees.Contexts.{context-before, context-within, context-after}
+use Rattle.definitions.proofs.Laws.Trees.Contexts.{context-before, context-within, context-after}
 use borrow.Author.Rules.{rules}
 use Rattle.transcripts.proofs.sequences.phone_at.Goals as goal
 

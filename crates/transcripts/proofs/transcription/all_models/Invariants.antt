@@ -5,8 +5,8 @@ use Prim.Native.Nat.{ℕ, ◌+◌, ◌-◌, ◌*◌, ◌≤◌}
 use native.Mathlib.Omega.{arith}
 use lib.ListN.{length}
 use Rattle.definitions.specs.Tables.{Book}
-use Rattle.definitions.specs.Laws.Trees.Contexts.{context_at}
-use Rattle.definitions.specs.Laws.Trees.Utterances.{utterance-few, utterance-phones}
+use Rattle.definitions.proofs.Laws.Trees.Contexts.{context_at}
+use Rattle.definitions.proofs.Laws.Trees.Utterances.{utterance-few, utterance-phones}
 use Rattle.tables.specs.Usable.{book_with}
 use Rattle.transcripts.specs.Laws.Models.{room, placed-more, placed_end}
 use Rattle.transcripts.specs.Laws.Questions.{PlacesSoFar, places-start, place_few, sum-few, sum-next, sum-end}

@@ -8,7 +8,7 @@ use lib.Seq.{length-take-le}
 use lib.ListN.{length, take}
 use Rattle.definitions.specs.Lookup.{is_context}
 use Rattle.definitions.specs.Transcription.{questions_at}
-use Rattle.definitions.specs.Laws.Trees.Contexts.{context_at}
+use Rattle.definitions.proofs.Laws.Trees.Contexts.{context_at}
 use Rattle.tables.specs.Usable.{book_with, Fit}
 use Rattle.transcripts.specs.Answers.{state_models}
 use Rattle.transcripts.specs.Laws.Models.{context-fits, window-inside, window-taken}
@@ -24,7 +24,7 @@ half-small c = omega (arith, (fit c.before.before.before.before.before.before).r
 
 -- the front of the window, filled with the context
 abbrev filled : goal.After-fill_context → List ℕ
-filled c = c.fill_context.last.1.1.1.0
+filled c = c.fill_context.last.half.1.1.0
 
 inside : (c : goal.After-fill_context) (rest : List ℕ)
     → 2 * c.wide-half.result + 1 ≤ length (filled c ++ rest)

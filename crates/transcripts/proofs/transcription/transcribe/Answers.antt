@@ -9,7 +9,7 @@ use lib.ListN.{length}
 use Rattle.definitions.specs.Tables.{Tables}
 use Rattle.definitions.specs.ForeignTables.{tables_known}
 use Rattle.definitions.specs.Transcription.{is_utterance}
-use Rattle.definitions.specs.Laws.Lists.Tests.{held, failed}
+use Rattle.definitions.proofs.Laws.Lists.Tests.{held, failed}
 use Rattle.tables.specs.Lending.{lent_tables}
 use Rattle.tables.specs.Usable.{book_with}
 use Rattle.tables.specs.Laws.KnownTables.{tables-fit, forced-book, known-forceable}
@@ -21,7 +21,7 @@ use Rattle.transcripts.proofs.transcription.transcribe.Goals as goal
 use Rattle.transcripts.proofs.transcription.transcribe.Goals.{After-tables_known, After-wide-states, Else-not-is_utterance, Else-not-tables_known, Else-room-sequence, Start}
 
 abbrev buffer : goal.After-tables_known → List ℕ
-buffer c = c.clear_words.new.0
+buffer c = c.clear_words.new.words
 
 abbrev tables : goal.Start → Tables
 tables c =
@@ -36,7 +36,7 @@ known-fact : (c : goal.Else-not-tables_known) → T (tables_known c.args.header 
 known-fact c = rw (known c) tt
 
 spoken : (c : goal.Else-not-is_utterance)
-    → is_utterance (entry c).args.header.phones (entry c).args.sequence.now ≡ true
+    → is_utterance (c).args.header.phones (c).args.sequence.now ≡ true
 spoken c = held c.is_utterance.ensures (not_from_true _ c.if-not-is_utterance.false)
 
 some : (c : goal.After-wide-states) → 0 < c.wide-states.result
@@ -44,7 +44,7 @@ some c = omega (arith, some_state _ _ (known c.before.before.before), c.wide-sta
 
 -- the models have room
 room : (c : goal.Else-room-sequence)
-    → length (entry c).args.sequence.now * c.wide-states.result
+    → length (c).args.sequence.now * c.wide-states.result
     ≤ length (buffer c.before.before.before.before.before)
 room c = has_room _ _ _ (some c.before) c.if-room-sequence.false
 
@@ -87,10 +87,10 @@ nonzero_div-room c = some (goal.at.nonzero_div-room c).After-wide-states
 
 pub returns-then-room-sequence-clause-answer : goal.returns-then-room-sequence-clause-answer
 returns-then-room-sequence-clause-answer c = (let u = c in
-    let a = (entry u).args in
+    let a = (u).args in
     let words = u.clear_words in
     let n : ℕ = length words.last.0 in
-    ends-short a.header (tables (entry u)) a.sequence.now (length a.models-1.now)
+    ends-short a.header (tables (u)) a.sequence.now (length a.models-1.now)
     c.no_models-then-room-sequence.result words.last.0 (known (goal.at.returns-then-room-sequence-clause-answer c).Else-not-tables_known) (spoken (goal.at.returns-then-room-sequence-clause-answer c).Else-not-is_utterance) _ n
     c.wide-states.ensures words.kept.0 _ refl
     (no_room (length a.sequence.now) n _ (some (goal.at.returns-then-room-sequence-clause-answer c).After-wide-states) c.if-room-sequence.true)
@@ -98,10 +98,10 @@ returns-then-room-sequence-clause-answer c = (let u = c in
 
 pub returns-then-room-sequence-clause-leaves : goal.returns-then-room-sequence-clause-leaves
 returns-then-room-sequence-clause-leaves c = (let u = c in
-    let a = (entry u).args in
+    let a = (u).args in
     let words = u.clear_words in
     let n : ℕ = length words.last.0 in
-    ends-short a.header (tables (entry u)) a.sequence.now (length a.models-1.now)
+    ends-short a.header (tables (u)) a.sequence.now (length a.models-1.now)
     c.no_models-then-room-sequence.result words.last.0 (known (goal.at.returns-then-room-sequence-clause-leaves c).Else-not-tables_known) (spoken (goal.at.returns-then-room-sequence-clause-leaves c).Else-not-is_utterance) _ n
     c.wide-states.ensures words.kept.0 _ refl
     (no_room (length a.sequence.now) n _ (some (goal.at.returns-then-room-sequence-clause-leaves c).After-wide-states) c.if-room-sequence.true)
@@ -115,7 +115,7 @@ pub all_models-questions-requires : goal.all_models-questions-requires
 all_models-questions-requires c =
     let left = c in
     let u = left in
-    let a = (entry u).args in
+    let a = (u).args in
     let fits = subst (λ (n : ℕ). length a.sequence.now * n ≤ length (buffer (goal.at.all_models-questions-requires c).After-tables_known))
     left.wide-states.ensures (room (goal.at.all_models-questions-requires c).Else-room-sequence) in (
       tables-fit _ _ _ _ _ (known-fact (goal.at.all_models-questions-requires c).Else-not-tables_known) _ c.roots_in_force.ensures,
@@ -134,11 +134,11 @@ pub returns-clause-answer : goal.returns-clause-answer
 unfolding book_with
 returns-clause-answer c = (let left = c in
     let u = left in
-    let a = (entry u).args in
+    let a = (u).args in
     let words = u.clear_words in
     let all = c.all_models-questions in
     let force = c.roots_in_force in
-    ends-given a.header (tables (entry u)) a.sequence.now (length a.models-1.now) _
+    ends-given a.header (tables (u)) a.sequence.now (length a.models-1.now) _
     all.new.1.1.1.1.1.0 (known (goal.at.returns-clause-answer c).Else-not-tables_known) (spoken (goal.at.returns-clause-answer c).Else-not-is_utterance) _ (length words.last.0)
     left.wide-states.ensures words.kept.0 _
     (forced-book _ _ _ _ _ (known-fact (goal.at.returns-clause-answer c).Else-not-tables_known) _ force.ensures)
@@ -148,11 +148,11 @@ pub returns-clause-leaves : goal.returns-clause-leaves
 unfolding book_with
 returns-clause-leaves c = (let left = c in
     let u = left in
-    let a = (entry u).args in
+    let a = (u).args in
     let words = u.clear_words in
     let all = c.all_models-questions in
     let force = c.roots_in_force in
-    ends-given a.header (tables (entry u)) a.sequence.now (length a.models-1.now) _
+    ends-given a.header (tables (u)) a.sequence.now (length a.models-1.now) _
     all.new.1.1.1.1.1.0 (known (goal.at.returns-clause-leaves c).Else-not-tables_known) (spoken (goal.at.returns-clause-leaves c).Else-not-is_utterance) _ (length words.last.0)
     left.wide-states.ensures words.kept.0 _
     (forced-book _ _ _ _ _ (known-fact (goal.at.returns-clause-leaves c).Else-not-tables_known) _ force.ensures)

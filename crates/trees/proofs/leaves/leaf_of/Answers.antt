@@ -6,7 +6,7 @@ use Rattle.definitions.specs.BookReading.{node_size}
 use Rattle.definitions.specs.Tables.{node_records}
 use Rattle.definitions.specs.ForeignTables.{holds_only}
 use Rattle.definitions.specs.Lookup.{lookup_known}
-use Rattle.definitions.specs.Laws.Lists.Tests.{held, failed}
+use Rattle.definitions.proofs.Laws.Lists.Tests.{held, failed}
 use Rattle.trees.specs.Laws.Answering.{lookup-foreign, lookup-range, lookup-leaf, lookup-fits}
 use Rattle.std.proofs.lemmas.Bool.{not_from_true}
 use Rattle.std.proofs.lemmas.Bool.{not_from_false}

@@ -5,7 +5,7 @@ use Prim.Native.Nat.{◌+◌, ◌≤◌, ◌<◌}
 use native.Mathlib.Omega.{arith}
 use borrow.Author.Tests.{lt-ltb, le-ltb}
 use Rattle.definitions.specs.ForeignTables.{question_known, leaf_known}
-use Rattle.definitions.specs.Laws.Lists.Tests.{held, failed}
+use Rattle.definitions.proofs.Laws.Lists.Tests.{held, failed}
 use Rattle.trees.specs.Stages.{judged_stage}
 use Rattle.std.proofs.lemmas.Bool.{not_from_true}
 use Rattle.std.proofs.lemmas.Bool.{not_from_false}
@@ -16,10 +16,10 @@ known : (c : goal.Else-not-record_known) → let a = c.args in
     (question_known a.header a.at a.node || leaf_known a.node) ≡ true
 known c = held c.record_known.ensures (not_from_true _ c.if-not-record_known.false)
 
-more : (c : goal.Then-wide) → let a = (entry c).args in a.at + 1 < a.header.nodes
+more : (c : goal.Then-wide) → let a = (c).args in a.at + 1 < a.header.nodes
 more c = omega (arith, c.if-wide.true, c.wide-2.ensures, c.wide.ensures)
 
-last : (c : goal.Else-wide) → let a = (entry c).args in a.header.nodes ≤ a.at + 1
+last : (c : goal.Else-wide) → let a = (c).args in a.header.nodes ≤ a.at + 1
 last c = omega (arith, c.if-wide.false, c.wide-2.ensures, c.wide.ensures)
 
 pub returns-then-not-record_known : goal.returns-then-not-record_known

@@ -4,7 +4,7 @@ use mathlib.Core.Path.{◌≡◌, sym, ◌∙◌}
 use Prim.Native.Nat.{◌-◌}
 use native.Mathlib.Omega.{arith}
 use Rattle.definitions.specs.Tables.{node_records}
-use Rattle.definitions.specs.Laws.Books.Tables.{node-records-length}
+use Rattle.definitions.proofs.Laws.Books.Tables.{node-records-length}
 use Rattle.tables.specs.Laws.KnownTables.{record-listed}
 use Rattle.trees.specs.Stages.{record_at}
 use Rattle.trees.specs.Laws.Walking.{Walking, start-walking, goes_on, stops}
@@ -13,10 +13,10 @@ use Rattle.trees.proofs.walking.walk.Goals as goal
 use Rattle.trees.proofs.walking.walk.Goals.{After-node_at-record}
 
 own : (c : goal.After-node_at-record)
-    → let a = (entry c).args in
+    → let a = (c).args in
     c.node_at-record.result ≡ record_at (node_records a.header a.nodes.now) c.loop-questions.node
 own c =
-    let a = (entry c).args in
+    let a = (c).args in
     c.node_at-record.ensures ∙ sym (record-listed a.header a.nodes.now _ c.loop-questions.invariant.listed)
 
 pub loop-questions-init : goal.loop-questions-init
@@ -34,7 +34,7 @@ returns-then-record-ne1 c =
 pub loop-questions-preserved : goal.loop-questions-preserved
 loop-questions-preserved c =
     let read = c in
-    goes_on _ _ _ _ _ read.node_at-record.result (own (goal.at.loop-questions-preserved c).After-node_at-record) c.if-record-ne1.false (entry read).requires.0
+    goes_on _ _ _ _ _ read.node_at-record.result (own (goal.at.loop-questions-preserved c).After-node_at-record) c.if-record-ne1.false (read).requires.0
     c.child_of-node.result c.child_of-node.ensures _ _ read.loop-questions.invariant
 
 pub returns : goal.returns

@@ -4,7 +4,7 @@ use mathlib.Core.Path.{◌≡◌, sym, ◌∙◌}
 use Prim.Native.Nat.{◌-◌}
 use native.Mathlib.Omega.{arith}
 use Rattle.definitions.specs.Tables.{node_records}
-use Rattle.definitions.specs.Laws.Books.Tables.{node-records-length}
+use Rattle.definitions.proofs.Laws.Books.Tables.{node-records-length}
 use Rattle.tables.specs.Laws.KnownTables.{record-listed}
 use Rattle.trees.specs.Stages.{record_at}
 use Rattle.trees.specs.Laws.Walking.{Walking, start-walking, goes_on, stops}

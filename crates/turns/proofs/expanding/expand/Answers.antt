@@ -48,7 +48,7 @@ overflow_add-next c =
 
 pub overflow_mul-wide : goal.overflow_mul-wide
 overflow_mul-wide c =
-    let s = (start_of (matrix-of (adding-of c))).requires in
+    let s = (start_of ((c))).requires in
     omega (arith, c.wide.ensures, narrow s.between.searchable.connectable.usable)
 
 pub follow_on-requires : goal.follow_on-requires

@@ -58,7 +58,7 @@ returns c =
     let state = wide in
     let ends = state in
     let phone = ends in
-    let start = start_of wide in
+    let start = wide in
     plain-final (subject (goal.at.returns c).Start) start.requires phone.phone_of.ensures ends.if-phone_of-ne1.false
     ends.ends_here.ensures (not_from_true _ state.if-not-ends_here.false) (wide.wide.ensures ∙ state.last_state.ensures)
     phone.own_arcs-own.ensures c.with_arc.ensures

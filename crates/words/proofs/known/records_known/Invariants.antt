@@ -4,7 +4,7 @@ use Prim.Native.Nat.{ℕ, ◌-◌, ◌/◌}
 use lib.ListN.{length}
 use Rattle.definitions.specs.Lists.{every, records}
 use Rattle.definitions.specs.WordBooks.{word_size, word_known}
-use Rattle.definitions.specs.Laws.Lists.Tests.{held, failed}
+use Rattle.definitions.proofs.Laws.Lists.Tests.{held, failed}
 use Rattle.lines.specs.Laws.Passing.{Passed, passed_start, passed-more, passed-stop, passed-end}
 use Rattle.words.specs.Laws.KnownWords.{row_sized, row_listed, row-known, rows_end}
 use Rattle.words.proofs.known.records_known.Given as goal

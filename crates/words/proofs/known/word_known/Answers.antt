@@ -1,6 +1,6 @@
 -- `known::word_known` meets its contract, by the record's length, its phones and what follows them.
 use mathlib.Core.Path.{◌∙◌}
-use Rattle.definitions.specs.Laws.Lists.Tests.{held, failed}
+use Rattle.definitions.proofs.Laws.Lists.Tests.{held, failed}
 use Rattle.words.specs.Laws.KnownWords.{word-empty, word-long, word-misspoken, word-judged}
 use Rattle.std.proofs.lemmas.Bool.{not_from_true}
 use Rattle.std.proofs.lemmas.Bool.{not_from_false}

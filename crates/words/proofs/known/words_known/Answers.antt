@@ -1,6 +1,6 @@
 -- `known::words_known` meets its contract, by the count, what stands beyond the records, and the records.
 use mathlib.Core.Path.{◌∙◌}
-use Rattle.definitions.specs.Laws.Lists.Tests.{held, failed}
+use Rattle.definitions.proofs.Laws.Lists.Tests.{held, failed}
 use Rattle.tables.specs.Laws.TableTests.{holds-taken}
 use Rattle.words.specs.Laws.KnownWords.{words-none, words-many, words-unheld, words-judged}
 use Rattle.std.proofs.lemmas.Bool.{not_from_true}

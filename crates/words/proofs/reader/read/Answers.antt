@@ -1,5 +1,5 @@
 -- `reader::read` meets its contract: the table is cleared before reading, and again where it refuses.
-use Rattle.definitions.specs.Laws.Lists.Lists.{clear-itself}
+use Rattle.definitions.proofs.Laws.Lists.Lists.{clear-itself}
 use Rattle.words.specs.Laws.Answering.{accepted-returns, refused-returns}
 use Rattle.words.proofs.reader.read.Goals as goal
 

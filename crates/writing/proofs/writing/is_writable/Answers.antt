@@ -18,18 +18,18 @@ use Rattle.writing.proofs.writing.is_writable.Goals.{At-loop-i, In-loop-i}
 abbrev row_at : goal.At-loop-i → Row
 row_at c = c.args.row
 
-many : (c : goal.At-loop-i) → length (take (row_at c).used (row_at c).numbers-1) ≡ (row_at c).used
+many : (c : goal.At-loop-i) → length (take (row_at c).used (row_at c).numbers) ≡ (row_at c).used
 many c =
-    let five : length (row_at c).numbers-1 ≡ 5 = search rules in
-    length-take-le (row_at c).used (row_at c).numbers-1 (omega arith)
+    let five : length (row_at c).numbers ≡ 5 = search rules in
+    length-take-le (row_at c).used (row_at c).numbers (omega arith)
 
 -- in a turn: the number that it asks for
 number_at : (c : goal.In-loop-i)
-    → take (row_at c.before).used (row_at c.before).numbers-1 ! c.loop-i.i
-    ≡ (row_at c.before).numbers-1 ! c.loop-i.i
+    → take (row_at c.before).used (row_at c.before).numbers ! c.loop-i.i
+    ≡ (row_at c.before).numbers ! c.loop-i.i
 number_at c =
     let row = row_at c.before in
-    get_or-take row.used row.numbers-1 c.loop-i.i 0 c.loop-i-test.true
+    get_or-take row.used row.numbers c.loop-i.i 0 c.loop-i-test.true
 
 pub returns-then-used-gt5 : goal.returns-then-used-gt5
 returns-then-used-gt5 c = writable-many c.args.row c.if-used-gt5.true

@@ -6,7 +6,7 @@ use Prim.Native.Nat.{ℕ}
 use native.Mathlib.Omega.{arith}
 use lib.ListN.{length, length-set}
 use borrow.Author.Tests.{lt-leb, le-leb}
-use Rattle.definitions.specs.Laws.Lists.Tests.{held, failed}
+use Rattle.definitions.proofs.Laws.Lists.Tests.{held, failed}
 use Rattle.writing.specs.Writing.{writable}
 use Rattle.writing.specs.Laws.WrittenLines.{middle-length, put-length, line-put}
 use Rattle.std.proofs.lemmas.Bool.{not_from_true}
@@ -39,26 +39,26 @@ write_fields-requires c =
     (fit (goal.at.write_fields-requires c).Else-not-is_writable, middle-length start.args.bytes.now start.args.row.letter (omega arith))
 
 -- what was lent came back as long as it was, and so has the whole its length
-thirty : (c : goal.After-slice_known-2-1) → length c.write_fields.new.1.0 ≡ 30
+thirty : (c : goal.After-slice_known-2-1) → length c.write_fields.new.bytes ≡ 30
 thirty c =
     let a = c.args in
-    c.write_fields.auto.1.0 ∙ middle-length a.bytes.now a.row.letter (omega arith)
+    c.write_fields.auto.bytes ∙ middle-length a.bytes.now a.row.letter (omega arith)
 
 pub bounds-bytes-31 : goal.bounds-bytes-31
 bounds-bytes-31 c =
     let a = c.args in
-    let part : List ℕ = c.write_fields.new.1.0 in
+    let part : List ℕ = c.write_fields.new.bytes in
     omega (arith, put-length a.bytes.now part a.row.letter (omega arith) (thirty (goal.at.bounds-bytes-31 c).After-slice_known-2-1))
 
 pub shape_of-bytes : goal.shape_of-bytes
 shape_of-bytes c =
     let a = c.args in
-    let part : List ℕ = c.write_fields.new.1.0 in
+    let part : List ℕ = c.write_fields.new.bytes in
     rw length-set (put-length a.bytes.now part a.row.letter (omega arith) (thirty (goal.at.shape_of-bytes c).After-slice_known-2-1))
 
 pub returns : goal.returns
 returns c =
     let a = c.args in
     let part = c.write_fields in
-    let line = line-put a.row a.bytes.now part.new.1.0 (omega arith) (thirty (goal.at.returns c).After-slice_known-2-1) part.ensures in
+    let line = line-put a.row a.bytes.now part.new.bytes (omega arith) (thirty (goal.at.returns c).After-slice_known-2-1) part.ensures in
     record { answer = rw (le-leb 32 (length a.bytes.now) (omega arith), fit (goal.at.returns c).Else-not-is_writable); leaves = line }

@@ -23,7 +23,7 @@ loop-field-preserved c =
     let five : length start.args.row.numbers ≡ 5 = search rules in
     let size : length text ≡ 30 = row-length start.args.row start.requires.0 five in
     let part = c.write_field in
-    let put = part-put 6 at.field text start.args.bytes.now at.bytes part.new.1.1.0 in
+    let put = part-put 6 at.field text start.args.bytes.now at.bytes part.new.bytes in
     record {
       within = omega arith;
       sized = search rules;
