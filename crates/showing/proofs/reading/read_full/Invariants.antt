@@ -1,5 +1,5 @@
 -- `reading::read_full` fills the buffer from its start, and ends: each turn reads a byte at least.
-use Rattle.std.proofs.Common.{◌≡◌, ◌-◌, ◌≤◌, length}
+use Rattle.std.proofs.Common.{◌-◌, ◌≤◌, length}
 use Rattle.showing.proofs.reading.read_full.Given as goal
 
 abbrev pub invariant-loop-got : goal.invariant-loop-got
