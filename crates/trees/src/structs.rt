@@ -1,6 +1,5 @@
 // The leaf that a context reaches from a root, and the questions met on the way, over a lent slice of node structs: 18,
-// then 13. The functions that hold the slice are proved by hand, so they only take a record at a turn; what a turn does
-// with it stands in `stages`.
+// then 13. The functions that hold the slice only take a record at a turn; what a turn does with it stands in `stages`.
 ghost use Rattle.std.specs.Prelude.{◌≡◌, ◌<◌, length};
 ghost use Rattle.definitions.specs.Lookup.{leaf_lookup};
 ghost use Rattle.definitions.specs.Said.{said_of};

@@ -6,7 +6,7 @@ use mathlib.Core.List.{List, [], ◌∷◌, map, append-nil, append_assoc}
 use Rattle.std.proofs.Math.ListN.{length, length-append}
 use borrow.Author.Tests.{lt-ltb, ltb-true, ltb-false}
 use Rattle.definitions.specs.declared.Fault.TheVariants.{Tangle}
-use Rattle.definitions.specs.Faults.{Outcome, answered, refused, refuse, and_then}
+use Rattle.definitions.specs.Faults.{Outcome, answered, refuse, and_then}
 use Rattle.definitions.specs.Arcs.{Arc}
 use Rattle.definitions.specs.Tables.{Book}
 use Rattle.definitions.specs.Combinations.{Combination}

@@ -70,6 +70,7 @@ module _ (width : ℕ) where
   hull-takes : (sofar : Matrix) (l : List Matrix) → length sofar ≡ width → AllWide width l
       → (x : Matrix) → IsIn x l → Inside x (hull_from sofar l)
   unfolding hull_from
+  hull-takes sofar [] e f x i c p t = elim i [ ]
   hull-takes sofar (y ∷ l) e f x (inl q) c p t =
       let sized : length y ≡ width = f y (inl refl) in
       hull-keeps (join sofar y) l (joined-wide sofar y e sized) (λ z i. f z (inr i)) c p

@@ -1,5 +1,5 @@
 -- Laws about the states of metastates: they are few, and which is a metastate's last.
-use Rattle.std.specs.Prelude.{◌≡◌, ℕ, ◌+◌, ◌-◌, ◌*◌, ◌≤◌, T}
+use Rattle.std.specs.Prelude.{◌≡◌, ℕ, ◌+◌, ◌*◌, ◌≤◌, T}
 use Rattle.std.proofs.Math.Nat.{add-mul}
 use Rattle.std.proofs.Common.{mul-le-mul, arith}
 use Rattle.definitions.specs.declared.Header.{Header}

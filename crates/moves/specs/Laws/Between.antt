@@ -8,7 +8,7 @@ use Rattle.definitions.specs.declared.Fault.{Fault}
 use Rattle.definitions.specs.Faults.{Outcome}
 use Rattle.definitions.specs.Lists.{up_from, concat_map}
 use Rattle.definitions.specs.Growing.{Grown}
-use Rattle.definitions.specs.Joining.{◌⊚◌, Step, step, opening, between, outside, steps, Joined, Move, move_by}
+use Rattle.definitions.specs.Joining.{◌⊚◌, step, opening, between, outside, steps, Joined, Move, move_by}
 use Rattle.definitions.specs.Joining.{moves_along}
 use Rattle.growing.specs.declared.Sizes.{Sizes}
 use Rattle.growing.specs.declared.Step as growing

@@ -4,7 +4,7 @@ use Rattle.std.proofs.Common.{sym, ap, ◌∙◌, append-nil, add-one, arith, le
 use Rattle.std.proofs.Math.ListN.{length-set}
 use Rattle.definitions.specs.declared.Header.{Header}
 use Rattle.definitions.specs.declared.Node.{Node}
-use Rattle.definitions.specs.Lists.{◌!◌, concat_map, place_of}
+use Rattle.definitions.specs.Lists.{if◌then◌else◌, ◌!◌, at_least_one, concat_map, place_of}
 use Rattle.definitions.specs.BookReading.{node_size}
 use Rattle.definitions.specs.Tables.{node_of}
 use Rattle.definitions.specs.BookLines.{no_root}
@@ -50,7 +50,7 @@ collected-none sets used = record { sized = refl; few = omega arith; holds = ref
 uses-parts : (seen k l : List ℕ) → first_uses seen (k ++ l) ≡ first_uses (first_uses seen k) l
 unfolding first_uses
 uses-parts seen [] l = refl
-uses-parts seen (x ∷ k) l = uses-parts _ k l
+uses-parts seen (x ∷ k) l = uses-parts (if at_least_one (eqb x) seen then seen else seen ++ (x ∷ [])) k l
 
 collected-more : {a b c k l : List ℕ} {used count more : ℕ} → Collected a used k count b
     → Collected b count l more c → Collected a used (k ++ l) more c

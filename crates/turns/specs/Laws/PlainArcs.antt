@@ -1,6 +1,6 @@
 -- Laws about the arcs that a turn adds first: a metastate's own, and the arc to FINAL where it may end; and
 -- that they are at most three.
-use Rattle.std.specs.Prelude.{◌≡◌, refl, false, not, ℕ, ◌+◌, ◌≤◌, ◌<◌, length, drop}
+use Rattle.std.specs.Prelude.{◌≡◌, refl, false, not, ℕ, ◌≤◌, ◌<◌, length, drop}
 use Rattle.std.proofs.Common.{sym, ◌∙◌, arith, length-append, length-drop, eq-eqb, ne_eqb}
 use Rattle.std.proofs.Math.Path.{subst}
 use mathlib.Core.List.{List, [], ◌∷◌, ◌++◌, append-nil}

@@ -1,10 +1,7 @@
 -- `known::arcs_known` meets its contract. The loop's invariant: the arcs before `i` are known and in order, and
 -- `last` is the last source.
-use Prim.Native.Nat.{◌-◌, ◌/◌}
-use lib.ListN.{length}
-use Rattle.definitions.specs.Arcs.{arc_size}
 use Rattle.definitions.proofs.Laws.Lists.Tests.{held, failed}
-use Rattle.arcs.specs.Laws.KnownArcs.{lent-sized, Tested, tested-start, tested-more, tested-foreign}
+use Rattle.arcs.specs.Laws.KnownArcs.{lent-sized, tested-start, tested-more, tested-foreign}
 use Rattle.arcs.specs.Laws.KnownArcs.{tested-descends, tested-end}
 use Rattle.std.proofs.lemmas.Bool.{not_from_true}
 use Rattle.std.proofs.lemmas.Bool.{not_from_false}

@@ -3,9 +3,7 @@
 use Prim.Native.Nat.{◌-◌, ◌/◌}
 use lib.ListN.{length}
 use Rattle.definitions.specs.Arcs.{arc_size}
-use Rattle.definitions.proofs.Laws.Lists.Tests.{held, failed}
-use Rattle.arcs.specs.Laws.KnownArcs.{lent-sized, Tested, tested-start, tested-more, tested-foreign}
-use Rattle.arcs.specs.Laws.KnownArcs.{tested-descends, tested-end}
+use Rattle.arcs.specs.Laws.KnownArcs.{Tested}
 use Rattle.arcs.proofs.known.arcs_known.Given as goal
 
 abbrev pub invariant-loop-i : goal.invariant-loop-i

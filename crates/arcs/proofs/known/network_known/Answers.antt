@@ -28,5 +28,5 @@ returns c =
     let counted = words-held in
     let passed = counted in
     c.arcs_known.ensures ∙ network-judged _ _ counted.wide-used.ensures
-    (held words-held.holds_only.ensures words-held.if-not-holds_only.false)
+    (held words-held.holds_only.ensures (not_from_true _ words-held.if-not-holds_only.false))
     (held passed.counts_known.ensures (not_from_true _ passed.if-not-counts_known.false))

@@ -1,8 +1,7 @@
 -- `leaving::arcs_below` meets its contract. The loop's invariant: the arcs of smaller sources end from `low` to
 -- `high`.
 use Prim.Native.Nat.{◌-◌}
-use native.Mathlib.Omega.{arith}
-use Rattle.arcs.specs.Laws.Leaving.{Bracketed, bracket-from, bracket-up, bracket-down, bracket-end}
+use Rattle.arcs.specs.Laws.Leaving.{Bracketed}
 use Rattle.arcs.proofs.leaving.arcs_below.Given as goal
 
 abbrev pub invariant-loop-low : goal.invariant-loop-low

@@ -3,6 +3,7 @@ use mathlib.Core.Path.{refl, sym, ◌∙◌}
 use Prim.Native.Nat.{◌+◌, ◌≤◌}
 use native.Mathlib.Omega.{arith}
 use lib.ListN.{length}
+use Rattle.definitions.specs.Leaving.{leaving}
 use Rattle.arcs.specs.Laws.Said.{standing-told}
 use Rattle.arcs.specs.Laws.Leaving.{handed-part, handed-nothing, part-within}
 use Rattle.arcs.proofs.leaving.leaving.Goals as goal
@@ -25,49 +26,37 @@ pub slice_bounds-result-end : goal.slice_bounds-result-end
 slice_bounds-result-end c = found (goal.at.slice_bounds-result-end c).In-Part
 
 pub returns-in-Part-clause-fault : goal.returns-in-Part-clause-fault
-returns-in-Part-clause-fault c = (let part = c in
-    handed-part _ c.args.arcs.ref_ptr _
-    (sym part.in-Part.is ∙ standing-told _ part.part_leaving-standing.ensures)).0
+returns-in-Part-clause-fault c = (handed-part c.args.arcs.now c.args.arcs.ref_ptr (leaving c.args.counts c.args.arcs.now c.args.state)
+    (sym c.in-Part.is ∙ standing-told _ c.part_leaving-standing.ensures)).0
 
 pub returns-in-Part-clause-line : goal.returns-in-Part-clause-line
-returns-in-Part-clause-line c = (let part = c in
-    handed-part _ c.args.arcs.ref_ptr _
-    (sym part.in-Part.is ∙ standing-told _ part.part_leaving-standing.ensures)).1
+returns-in-Part-clause-line c = (handed-part c.args.arcs.now c.args.arcs.ref_ptr (leaving c.args.counts c.args.arcs.now c.args.state)
+    (sym c.in-Part.is ∙ standing-told _ c.part_leaving-standing.ensures)).1.0
 
 pub returns-in-Part-clause-address : goal.returns-in-Part-clause-address
-returns-in-Part-clause-address c = (let part = c in
-    handed-part _ c.args.arcs.ref_ptr _
-    (sym part.in-Part.is ∙ standing-told _ part.part_leaving-standing.ensures)).2
+returns-in-Part-clause-address c = (handed-part c.args.arcs.now c.args.arcs.ref_ptr (leaving c.args.counts c.args.arcs.now c.args.state)
+    (sym c.in-Part.is ∙ standing-told _ c.part_leaving-standing.ensures)).1.1.0
 
 pub returns-in-Part-clause-part : goal.returns-in-Part-clause-part
-returns-in-Part-clause-part c = (let part = c in
-    handed-part _ c.args.arcs.ref_ptr _
-    (sym part.in-Part.is ∙ standing-told _ part.part_leaving-standing.ensures)).3
+returns-in-Part-clause-part c = (handed-part c.args.arcs.now c.args.arcs.ref_ptr (leaving c.args.counts c.args.arcs.now c.args.state)
+    (sym c.in-Part.is ∙ standing-told _ c.part_leaving-standing.ensures)).1.1.1
 
 pub returns-in-Refused-clause-fault : goal.returns-in-Refused-clause-fault
-returns-in-Refused-clause-fault c = (let refused = c in
-    let known = refused in
-    handed-nothing _ known.args.arcs.ref_ptr _
-    (sym refused.in-Refused.is ∙ standing-told _ known.part_leaving-standing.ensures)
+returns-in-Refused-clause-fault c = (handed-nothing c.args.arcs.now c.args.arcs.ref_ptr (leaving c.args.counts c.args.arcs.now c.args.state)
+    (sym c.in-Refused.is ∙ standing-told _ c.part_leaving-standing.ensures)
     c.number.ensures refl).0
 
 pub returns-in-Refused-clause-line : goal.returns-in-Refused-clause-line
-returns-in-Refused-clause-line c = (let refused = c in
-    let known = refused in
-    handed-nothing _ known.args.arcs.ref_ptr _
-    (sym refused.in-Refused.is ∙ standing-told _ known.part_leaving-standing.ensures)
-    c.number.ensures refl).1
+returns-in-Refused-clause-line c = (handed-nothing c.args.arcs.now c.args.arcs.ref_ptr (leaving c.args.counts c.args.arcs.now c.args.state)
+    (sym c.in-Refused.is ∙ standing-told _ c.part_leaving-standing.ensures)
+    c.number.ensures refl).1.0
 
 pub returns-in-Refused-clause-address : goal.returns-in-Refused-clause-address
-returns-in-Refused-clause-address c = (let refused = c in
-    let known = refused in
-    handed-nothing _ known.args.arcs.ref_ptr _
-    (sym refused.in-Refused.is ∙ standing-told _ known.part_leaving-standing.ensures)
-    c.number.ensures refl).2
+returns-in-Refused-clause-address c = (handed-nothing c.args.arcs.now c.args.arcs.ref_ptr (leaving c.args.counts c.args.arcs.now c.args.state)
+    (sym c.in-Refused.is ∙ standing-told _ c.part_leaving-standing.ensures)
+    c.number.ensures refl).1.1.0
 
 pub returns-in-Refused-clause-part : goal.returns-in-Refused-clause-part
-returns-in-Refused-clause-part c = (let refused = c in
-    let known = refused in
-    handed-nothing _ known.args.arcs.ref_ptr _
-    (sym refused.in-Refused.is ∙ standing-told _ known.part_leaving-standing.ensures)
-    c.number.ensures refl).3
+returns-in-Refused-clause-part c = (handed-nothing c.args.arcs.now c.args.arcs.ref_ptr (leaving c.args.counts c.args.arcs.now c.args.state)
+    (sym c.in-Refused.is ∙ standing-told _ c.part_leaving-standing.ensures)
+    c.number.ensures refl).1.1.1

@@ -1,9 +1,6 @@
 -- `starting::counted_on` meets its contract. The loop's invariant: they are at least `at`.
-use Prim.Native.Nat.{◌-◌, ◌/◌}
 use native.Mathlib.Omega.{arith}
-use lib.ListN.{length}
-use Rattle.definitions.specs.Arcs.{arc_size}
-use Rattle.arcs.specs.Laws.Leaving.{Bracketed, bracket-from, bracket-up, bracket-down, bracket-end}
+use Rattle.arcs.specs.Laws.Leaving.{bracket-from, bracket-up, bracket-down, bracket-end}
 use borrow.Author.Rules.{rules}
 use Rattle.arcs.proofs.starting.counted_on.Goals as goal
 

@@ -1,8 +1,6 @@
 -- `starting::fill_starts` meets its contract. The loop's invariant: the places of the states before `state` are filled.
-use Prim.Native.Nat.{◌-◌}
-use lib.ListN.{length}
 use Rattle.arcs.specs.Laws.Leaving.{below_all}
-use Rattle.arcs.specs.Laws.Starting.{Filling, filling-start, filling-more, filling-done}
+use Rattle.arcs.specs.Laws.Starting.{filling-start, filling-more, filling-done}
 use borrow.Author.Rules.{rules}
 use Rattle.arcs.proofs.starting.fill_starts.Goals as goal
 

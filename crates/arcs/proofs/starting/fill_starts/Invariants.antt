@@ -1,8 +1,7 @@
 -- `starting::fill_starts` meets its contract. The loop's invariant: the places of the states before `state` are filled.
 use Prim.Native.Nat.{◌-◌}
 use lib.ListN.{length}
-use Rattle.arcs.specs.Laws.Leaving.{below_all}
-use Rattle.arcs.specs.Laws.Starting.{Filling, filling-start, filling-more, filling-done}
+use Rattle.arcs.specs.Laws.Starting.{Filling}
 use Rattle.arcs.proofs.starting.fill_starts.Given as goal
 
 abbrev pub invariant-loop-state : goal.invariant-loop-state

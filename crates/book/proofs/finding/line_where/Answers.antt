@@ -23,7 +23,7 @@ answered c =
     let bytes = next-bytes start.args.text.now c.loop-i.i in
     sym (c.is_sought.ensures
     ∙ ap (sought_in start.args.sought) (c.entry_of-entry.ensures
-    ∙ ap (λ (p : Parsed). book_line (line_in p.row-1)) parse.ensures ∙ ap book_taken bytes))
+    ∙ ap (λ (p : Parsed). book_line (line_in p.row)) parse.ensures ∙ ap book_taken bytes))
 
 pub loop-i-init : goal.loop-i-init
 loop-i-init c = (passed_none _ _, omega arith)

@@ -17,7 +17,7 @@ next-number : (c : goal.After-counts-in-loop-i-1) → c.loop-i.i + 1 < 184467440
 next-number c =
     let turn = c in
     let start = turn in
-    omega (arith, turn.loop-i-test.true, start.good)
+    omega (arith, turn.loop-i-test.true, start.well_formed)
 
 pub returns-then-not-whole_lines-clause-answer : goal.returns-then-not-whole_lines-clause-answer
 returns-then-not-whole_lines-clause-answer c = (torn-returns _ _ _ _ _ (failed c.whole_lines.ensures (not_from_false _ c.if-not-whole_lines.true))).0
@@ -42,17 +42,15 @@ overflow_add-result c = record { fits = next-number (goal.at.overflow_add-result
 
 pub returns-in-Stop-clause-answer : goal.returns-in-Stop-clause-answer
 returns-in-Stop-clause-answer c = (let call = c in
-    let taken = call.take_line-step.ensures in
     let at = call.loop-i in
-    stop-returns at.inv _ _ _ _ _ _ _ (next-bytes _ at.i) call.loop-i-test.true taken.0
-    c.in-Stop.is taken.1.0 taken.1.1.0 taken.1.1.1.0 taken.1.1.1.1.0).0
+    stop-returns at.invariant _ _ _ _ _ _ _ (next-bytes _ at.i) call.loop-i-test.true call.take_line-step.ensures.step
+    c.in-Stop.is call.take_line-step.ensures.nodes call.take_line-step.ensures.classes call.take_line-step.ensures.roots call.take_line-step.ensures.plains).0
 
 pub returns-in-Stop-clause-tables : goal.returns-in-Stop-clause-tables
 returns-in-Stop-clause-tables c = (let call = c in
-    let taken = call.take_line-step.ensures in
     let at = call.loop-i in
-    stop-returns at.inv _ _ _ _ _ _ _ (next-bytes _ at.i) call.loop-i-test.true taken.0
-    c.in-Stop.is taken.1.0 taken.1.1.0 taken.1.1.1.0 taken.1.1.1.1.0).1
+    stop-returns at.invariant _ _ _ _ _ _ _ (next-bytes _ at.i) call.loop-i-test.true call.take_line-step.ensures.step
+    c.in-Stop.is call.take_line-step.ensures.nodes call.take_line-step.ensures.classes call.take_line-step.ensures.roots call.take_line-step.ensures.plains).1
 
 pub overflow_add-i : goal.overflow_add-i
 overflow_add-i c = record { fits = next-number (goal.at.overflow_add-i c).After-counts-in-loop-i-1 }
@@ -60,11 +58,10 @@ overflow_add-i c = record { fits = next-number (goal.at.overflow_add-i c).After-
 pub loop-i-preserved : goal.loop-i-preserved
 loop-i-preserved c =
     let call = c in
-    let taken = call.take_line-step.ensures in
     let at = call.loop-i in
-    turn-next at.inv _ _ _ _ _ _ _ _ (next-bytes _ at.i) call.loop-i-test.true taken.0
-    c.in-Next.is taken.1.0 taken.1.1.0 taken.1.1.1.0 taken.1.1.1.1.0
-    taken.1.1.1.1.1
+    turn-next at.invariant _ _ _ _ _ _ _ _ (next-bytes _ at.i) call.loop-i-test.true call.take_line-step.ensures.step
+    c.in-Next.is call.take_line-step.ensures.nodes call.take_line-step.ensures.classes call.take_line-step.ensures.roots call.take_line-step.ensures.plains
+    call.take_line-step.ensures.counts
 
 pub finish-requires : goal.finish-requires
 finish-requires c = turn-endable c.loop-i.invariant (omega arith)

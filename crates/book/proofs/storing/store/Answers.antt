@@ -60,182 +60,43 @@ bounds-roots-at c =
     let said = c in
     rw c.root_place-at.ensures.place (room_for (goal.at.bounds-roots-at c).After-slice_known-5-1 _ said.in-R.is)
 
-pub returns-in-H-clause-nodes : goal.returns-in-H-clause-nodes
+pub returns-in-H : goal.returns-in-H
 unfolding entry_line nodes_after classes_after roots_after plains_after counts_after names_in named_all header_in
-returns-in-H-clause-nodes c = (let said = c.in-H.is in
-    rw said (refl, (refl, (c.put_no_roots.ensures, (refl, refl))))).0
+returns-in-H c =
+    let said = c.in-H.is in
+    rw said (record { nodes = refl; classes = refl; roots = c.put_no_roots.ensures; plains = refl; counts = refl })
 
-pub returns-in-H-clause-classes : goal.returns-in-H-clause-classes
+pub returns-in-Q : goal.returns-in-Q
 unfolding entry_line nodes_after classes_after roots_after plains_after counts_after names_in named_all header_in
-returns-in-H-clause-classes c = (let said = c.in-H.is in
-    rw said (refl, (refl, (c.put_no_roots.ensures, (refl, refl))))).1
+returns-in-Q c =
+    let said = c.in-Q.is in
+    rw said (record { nodes = refl; classes = c.put_member.ensures; roots = refl; plains = refl; counts = refl })
 
-pub returns-in-H-clause-roots : goal.returns-in-H-clause-roots
+pub returns-in-N : goal.returns-in-N
 unfolding entry_line nodes_after classes_after roots_after plains_after counts_after names_in named_all header_in
-returns-in-H-clause-roots c = (let said = c.in-H.is in
-    rw said (refl, (refl, (c.put_no_roots.ensures, (refl, refl))))).2
-
-pub returns-in-H-clause-plains : goal.returns-in-H-clause-plains
-unfolding entry_line nodes_after classes_after roots_after plains_after counts_after names_in named_all header_in
-returns-in-H-clause-plains c = (let said = c.in-H.is in
-    rw said (refl, (refl, (c.put_no_roots.ensures, (refl, refl))))).3
-
-pub returns-in-H-clause-counts : goal.returns-in-H-clause-counts
-unfolding entry_line nodes_after classes_after roots_after plains_after counts_after names_in named_all header_in
-returns-in-H-clause-counts c = (let said = c.in-H.is in
-    rw said (refl, (refl, (c.put_no_roots.ensures, (refl, refl))))).4
-
-pub returns-in-Q-clause-nodes : goal.returns-in-Q-clause-nodes
-unfolding entry_line nodes_after classes_after roots_after plains_after counts_after names_in named_all header_in
-returns-in-Q-clause-nodes c = (let said = c.in-Q.is in
-    rw said (refl, (c.put_member.ensures, (refl, (refl, refl))))).0
-
-pub returns-in-Q-clause-classes : goal.returns-in-Q-clause-classes
-unfolding entry_line nodes_after classes_after roots_after plains_after counts_after names_in named_all header_in
-returns-in-Q-clause-classes c = (let said = c.in-Q.is in
-    rw said (refl, (c.put_member.ensures, (refl, (refl, refl))))).1
-
-pub returns-in-Q-clause-roots : goal.returns-in-Q-clause-roots
-unfolding entry_line nodes_after classes_after roots_after plains_after counts_after names_in named_all header_in
-returns-in-Q-clause-roots c = (let said = c.in-Q.is in
-    rw said (refl, (c.put_member.ensures, (refl, (refl, refl))))).2
-
-pub returns-in-Q-clause-plains : goal.returns-in-Q-clause-plains
-unfolding entry_line nodes_after classes_after roots_after plains_after counts_after names_in named_all header_in
-returns-in-Q-clause-plains c = (let said = c.in-Q.is in
-    rw said (refl, (c.put_member.ensures, (refl, (refl, refl))))).3
-
-pub returns-in-Q-clause-counts : goal.returns-in-Q-clause-counts
-unfolding entry_line nodes_after classes_after roots_after plains_after counts_after names_in named_all header_in
-returns-in-Q-clause-counts c = (let said = c.in-Q.is in
-    rw said (refl, (c.put_member.ensures, (refl, (refl, refl))))).4
-
-pub returns-in-N-clause-nodes : goal.returns-in-N-clause-nodes
-unfolding entry_line nodes_after classes_after roots_after plains_after counts_after names_in named_all header_in
-returns-in-N-clause-nodes c = (let first = c in
+returns-in-N c =
+    let first = c in
     let put = first in
     let words = rw put.question_node.ensures at put.put_node.ensures in
-    let said = put.entry-in-N-1.given in
-    let no_node : ℕ = said.0.1.1.1.1.0 in
+    let said = put.in-N.is in
+    let no_node : ℕ = put.in-N.no in
     let named = ap (λ (l : List ℕ). named_again l no_node) first.name_node.ensures in
-    rw said.1 (words, (refl, (refl, (refl, c.name_node-in-N.ensures ∙ named))))).0
+    rw said (record { nodes = words; classes = refl; roots = refl; plains = refl; counts = c.name_node-in-N.ensures ∙ named })
 
-pub returns-in-N-clause-classes : goal.returns-in-N-clause-classes
+pub returns-in-L : goal.returns-in-L
 unfolding entry_line nodes_after classes_after roots_after plains_after counts_after names_in named_all header_in
-returns-in-N-clause-classes c = (let first = c in
-    let put = first in
-    let words = rw put.question_node.ensures at put.put_node.ensures in
-    let said = put.entry-in-N-1.given in
-    let no_node : ℕ = said.0.1.1.1.1.0 in
-    let named = ap (λ (l : List ℕ). named_again l no_node) first.name_node.ensures in
-    rw said.1 (words, (refl, (refl, (refl, c.name_node-in-N.ensures ∙ named))))).1
-
-pub returns-in-N-clause-roots : goal.returns-in-N-clause-roots
-unfolding entry_line nodes_after classes_after roots_after plains_after counts_after names_in named_all header_in
-returns-in-N-clause-roots c = (let first = c in
-    let put = first in
-    let words = rw put.question_node.ensures at put.put_node.ensures in
-    let said = put.entry-in-N-1.given in
-    let no_node : ℕ = said.0.1.1.1.1.0 in
-    let named = ap (λ (l : List ℕ). named_again l no_node) first.name_node.ensures in
-    rw said.1 (words, (refl, (refl, (refl, c.name_node-in-N.ensures ∙ named))))).2
-
-pub returns-in-N-clause-plains : goal.returns-in-N-clause-plains
-unfolding entry_line nodes_after classes_after roots_after plains_after counts_after names_in named_all header_in
-returns-in-N-clause-plains c = (let first = c in
-    let put = first in
-    let words = rw put.question_node.ensures at put.put_node.ensures in
-    let said = put.entry-in-N-1.given in
-    let no_node : ℕ = said.0.1.1.1.1.0 in
-    let named = ap (λ (l : List ℕ). named_again l no_node) first.name_node.ensures in
-    rw said.1 (words, (refl, (refl, (refl, c.name_node-in-N.ensures ∙ named))))).3
-
-pub returns-in-N-clause-counts : goal.returns-in-N-clause-counts
-unfolding entry_line nodes_after classes_after roots_after plains_after counts_after names_in named_all header_in
-returns-in-N-clause-counts c = (let first = c in
-    let put = first in
-    let words = rw put.question_node.ensures at put.put_node.ensures in
-    let said = put.entry-in-N-1.given in
-    let no_node : ℕ = said.0.1.1.1.1.0 in
-    let named = ap (λ (l : List ℕ). named_again l no_node) first.name_node.ensures in
-    rw said.1 (words, (refl, (refl, (refl, c.name_node-in-N.ensures ∙ named))))).4
-
-pub returns-in-L-clause-nodes : goal.returns-in-L-clause-nodes
-unfolding entry_line nodes_after classes_after roots_after plains_after counts_after names_in named_all header_in
-returns-in-L-clause-nodes c = (let put = c in
+returns-in-L c =
+    let put = c in
     let words = rw put.leaf_node.ensures at put.put_node-in-L.ensures in
-    rw put.in-L.is (words, (refl, (refl, (refl, refl))))).0
+    rw put.in-L.is (record { nodes = words; classes = refl; roots = refl; plains = refl; counts = refl })
 
-pub returns-in-L-clause-classes : goal.returns-in-L-clause-classes
+pub returns-in-B : goal.returns-in-B
 unfolding entry_line nodes_after classes_after roots_after plains_after counts_after names_in named_all header_in
-returns-in-L-clause-classes c = (let put = c in
-    let words = rw put.leaf_node.ensures at put.put_node-in-L.ensures in
-    rw put.in-L.is (words, (refl, (refl, (refl, refl))))).1
+returns-in-B c = rw (c.in-B.is, c.from_zero-at.ensures) (record { nodes = refl; classes = refl; roots = refl; plains = refl; counts = refl })
 
-pub returns-in-L-clause-roots : goal.returns-in-L-clause-roots
+pub returns-in-R : goal.returns-in-R
 unfolding entry_line nodes_after classes_after roots_after plains_after counts_after names_in named_all header_in
-returns-in-L-clause-roots c = (let put = c in
-    let words = rw put.leaf_node.ensures at put.put_node-in-L.ensures in
-    rw put.in-L.is (words, (refl, (refl, (refl, refl))))).2
-
-pub returns-in-L-clause-plains : goal.returns-in-L-clause-plains
-unfolding entry_line nodes_after classes_after roots_after plains_after counts_after names_in named_all header_in
-returns-in-L-clause-plains c = (let put = c in
-    let words = rw put.leaf_node.ensures at put.put_node-in-L.ensures in
-    rw put.in-L.is (words, (refl, (refl, (refl, refl))))).3
-
-pub returns-in-L-clause-counts : goal.returns-in-L-clause-counts
-unfolding entry_line nodes_after classes_after roots_after plains_after counts_after names_in named_all header_in
-returns-in-L-clause-counts c = (let put = c in
-    let words = rw put.leaf_node.ensures at put.put_node-in-L.ensures in
-    rw put.in-L.is (words, (refl, (refl, (refl, refl))))).4
-
-pub returns-in-B-clause-nodes : goal.returns-in-B-clause-nodes
-unfolding entry_line nodes_after classes_after roots_after plains_after counts_after names_in named_all header_in
-returns-in-B-clause-nodes c = (rw (c.in-B.is, c.from_zero-at.ensures) (refl, (refl, (refl, (refl, refl))))).0
-
-pub returns-in-B-clause-classes : goal.returns-in-B-clause-classes
-unfolding entry_line nodes_after classes_after roots_after plains_after counts_after names_in named_all header_in
-returns-in-B-clause-classes c = (rw (c.in-B.is, c.from_zero-at.ensures) (refl, (refl, (refl, (refl, refl))))).1
-
-pub returns-in-B-clause-roots : goal.returns-in-B-clause-roots
-unfolding entry_line nodes_after classes_after roots_after plains_after counts_after names_in named_all header_in
-returns-in-B-clause-roots c = (rw (c.in-B.is, c.from_zero-at.ensures) (refl, (refl, (refl, (refl, refl))))).2
-
-pub returns-in-B-clause-plains : goal.returns-in-B-clause-plains
-unfolding entry_line nodes_after classes_after roots_after plains_after counts_after names_in named_all header_in
-returns-in-B-clause-plains c = (rw (c.in-B.is, c.from_zero-at.ensures) (refl, (refl, (refl, (refl, refl))))).3
-
-pub returns-in-B-clause-counts : goal.returns-in-B-clause-counts
-unfolding entry_line nodes_after classes_after roots_after plains_after counts_after names_in named_all header_in
-returns-in-B-clause-counts c = (rw (c.in-B.is, c.from_zero-at.ensures) (refl, (refl, (refl, (refl, refl))))).4
-
-pub returns-in-R-clause-nodes : goal.returns-in-R-clause-nodes
-unfolding entry_line nodes_after classes_after roots_after plains_after counts_after names_in named_all header_in
-returns-in-R-clause-nodes c = (let placed = c in
+returns-in-R c =
+    let placed = c in
     let said = placed.in-R.is in
-    rw (said, placed.root_place-at.ensures.place) (refl, (refl, (refl, (refl, c.name_node-in-R.ensures))))).0
-
-pub returns-in-R-clause-classes : goal.returns-in-R-clause-classes
-unfolding entry_line nodes_after classes_after roots_after plains_after counts_after names_in named_all header_in
-returns-in-R-clause-classes c = (let placed = c in
-    let said = placed.in-R.is in
-    rw (said, placed.root_place-at.ensures.place) (refl, (refl, (refl, (refl, c.name_node-in-R.ensures))))).1
-
-pub returns-in-R-clause-roots : goal.returns-in-R-clause-roots
-unfolding entry_line nodes_after classes_after roots_after plains_after counts_after names_in named_all header_in
-returns-in-R-clause-roots c = (let placed = c in
-    let said = placed.in-R.is in
-    rw (said, placed.root_place-at.ensures.place) (refl, (refl, (refl, (refl, c.name_node-in-R.ensures))))).2
-
-pub returns-in-R-clause-plains : goal.returns-in-R-clause-plains
-unfolding entry_line nodes_after classes_after roots_after plains_after counts_after names_in named_all header_in
-returns-in-R-clause-plains c = (let placed = c in
-    let said = placed.in-R.is in
-    rw (said, placed.root_place-at.ensures.place) (refl, (refl, (refl, (refl, c.name_node-in-R.ensures))))).3
-
-pub returns-in-R-clause-counts : goal.returns-in-R-clause-counts
-unfolding entry_line nodes_after classes_after roots_after plains_after counts_after names_in named_all header_in
-returns-in-R-clause-counts c = (let placed = c in
-    let said = placed.in-R.is in
-    rw (said, placed.root_place-at.ensures.place) (refl, (refl, (refl, (refl, c.name_node-in-R.ensures))))).4
+    rw (said, placed.root_place-at.ensures.place) (record { nodes = refl; classes = refl; roots = refl; plains = refl; counts = c.name_node-in-R.ensures })

@@ -1,12 +1,9 @@
 -- `leaving::may_leave_out` meets its contract. The loop's invariant: it is left to the phones after `phone`.
-use mathlib.Core.Path.{◌≡◌, ◌∙◌, sym}
-use Prim.Native.Nat.{◌-◌}
+use mathlib.Core.Path.{◌∙◌, sym}
 use native.Mathlib.Nat.{div-le_self}
 use native.Mathlib.Omega.{arith}
-use Rattle.definitions.specs.BookReading.{left_out}
-use Rattle.definitions.specs.PhoneSets.{has}
 use Rattle.definitions.proofs.Laws.Lists.Tests.{held, failed}
-use Rattle.booklines.specs.Laws.LeavingOut.{all_after, nothing-between, comes-before, starts-within, ends-within}
+use Rattle.booklines.specs.Laws.LeavingOut.{nothing-between, comes-before, starts-within, ends-within}
 use Rattle.booklines.specs.Laws.LeavingOut.{whole-phones, next-stays, next-left, none_after}
 use Rattle.std.proofs.lemmas.Bool.{not_from_true}
 use Rattle.std.proofs.lemmas.Bool.{not_from_false}

@@ -23,7 +23,7 @@ loop-i-preserved c =
     let at = turn.loop-i in
     let a = turn.args in
     let done = c.put_boundary-next in
-    left-more at.invariant (boundaries-next at.i a.plains.now (omega arith)) done.auto.1.1.0
+    left-more at.invariant (boundaries-next at.i a.plains.now (omega arith)) done.auto.text
     done.ensures
 
 pub returns : goal.returns

@@ -29,7 +29,7 @@ loop-phone-preserved c =
     let a = turn.args in
     let done = c.put_member-next in
     left-more at.invariant (members-next a.class a.set at.phone a.phones (omega arith))
-    done.auto.1.1.1.0 done.ensures
+    done.auto.text done.ensures
 
 pub returns : goal.returns
 returns c =

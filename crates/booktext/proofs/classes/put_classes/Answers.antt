@@ -26,7 +26,7 @@ loop-i-preserved c =
     let a = turn.args in
     let done = c.put_class-next in
     left-more at.invariant (classes-next a.phones at.i a.sets.now (omega arith))
-    done.auto.1.1.1.0 done.ensures
+    done.auto.text done.ensures
 
 pub returns : goal.returns
 returns c =

@@ -25,7 +25,7 @@ loop-node-preserved c =
     let a = turn.args in
     let done = c.put_node-next in
     left-more at.invariant (nodes-next a.nodes at.node a.words.now (omega arith))
-    done.auto.1.1.0 done.ensures
+    done.auto.text done.ensures
 
 pub returns : goal.returns
 returns c =

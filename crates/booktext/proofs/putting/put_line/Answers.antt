@@ -14,4 +14,4 @@ returns c =
     let done = c in
     let start = done in
     let a = start.args in
-    line-put a.row a.text.now a.count start.requires.0 (omega arith) done.write.ensures
+    line-put a.row a.text.now a.count start.requires.0 (omega arith) (done.write.ensures.answer, done.write.ensures.leaves)

@@ -29,7 +29,7 @@ loop-i-preserved c =
     let a = turn.args in
     let done = c.put_root-next in
     left-more at.invariant (roots-next a.states at.i a.roots.now (omega arith))
-    done.auto.1.1.1.0 done.ensures
+    done.auto.text done.ensures
 
 pub returns : goal.returns
 returns c =

@@ -6,14 +6,9 @@ use Rattle.network.specs.Answers.{lent_space}
 use Rattle.builder.specs.Laws.Building.{accepted-returns, refused-returns}
 use borrow.Author.Rules.{rules}
 use Rattle.builder.proofs.building.build_book.Goals as goal
-use Rattle.builder.proofs.building.build_book.Goals.{After-read-reading, Start}
+use Rattle.builder.proofs.building.build_book.Goals.{Start}
 
--- where the code began, and what it was lent
-abbrev start : goal.After-read-reading → goal.Start
-start c =
-    let sliced = c in
-    sliced
-
+-- what the code was lent
 abbrev lent : goal.Start → Lent
 lent c =
     let a = c.args in
@@ -27,55 +22,55 @@ returns-in-Accepted-clause-answer c = (let left = c in
     let built = left in
     let accepted = built in
     let read = accepted in
-    let s = start (goal.at.returns-in-Accepted-clause-answer c).After-read-reading in
+    let s = read in
     accepted-returns (lent (goal.at.returns-in-Accepted-clause-answer c).Start) (space (goal.at.returns-in-Accepted-clause-answer c).Start) s.args.limit s.args.text.now
     read.read-reading.ensures.answer read.read-reading.ensures.tables _ accepted.in-Accepted.is _ _ _
     (search rules) (search rules) (search rules) (search rules)
-    built.build_read.ensures.answer built.build_read.ensures.tables.0 built.build_read.ensures.tables.1).0
+    built.build_read.ensures.answer built.build_read.ensures.tables built.build_read.ensures.leaves).0
 
 pub returns-in-Accepted-clause-tables : goal.returns-in-Accepted-clause-tables
 returns-in-Accepted-clause-tables c = (let left = c in
     let built = left in
     let accepted = built in
     let read = accepted in
-    let s = start (goal.at.returns-in-Accepted-clause-tables c).After-read-reading in
+    let s = read in
     accepted-returns (lent (goal.at.returns-in-Accepted-clause-tables c).Start) (space (goal.at.returns-in-Accepted-clause-tables c).Start) s.args.limit s.args.text.now
     read.read-reading.ensures.answer read.read-reading.ensures.tables _ accepted.in-Accepted.is _ _ _
     (search rules) (search rules) (search rules) (search rules)
-    built.build_read.ensures.answer built.build_read.ensures.tables.0 built.build_read.ensures.tables.1).1
+    built.build_read.ensures.answer built.build_read.ensures.tables built.build_read.ensures.leaves).1
 
 pub returns-in-Accepted-clause-leaves : goal.returns-in-Accepted-clause-leaves
 returns-in-Accepted-clause-leaves c = (let left = c in
     let built = left in
     let accepted = built in
     let read = accepted in
-    let s = start (goal.at.returns-in-Accepted-clause-leaves c).After-read-reading in
+    let s = read in
     accepted-returns (lent (goal.at.returns-in-Accepted-clause-leaves c).Start) (space (goal.at.returns-in-Accepted-clause-leaves c).Start) s.args.limit s.args.text.now
     read.read-reading.ensures.answer read.read-reading.ensures.tables _ accepted.in-Accepted.is _ _ _
     (search rules) (search rules) (search rules) (search rules)
-    built.build_read.ensures.answer built.build_read.ensures.tables.0 built.build_read.ensures.tables.1).2
+    built.build_read.ensures.answer built.build_read.ensures.tables built.build_read.ensures.leaves).2
 
 pub returns-in-Accepted-clause-demand : goal.returns-in-Accepted-clause-demand
 returns-in-Accepted-clause-demand c = (let left = c in
     let built = left in
     let accepted = built in
     let read = accepted in
-    let s = start (goal.at.returns-in-Accepted-clause-demand c).After-read-reading in
+    let s = read in
     accepted-returns (lent (goal.at.returns-in-Accepted-clause-demand c).Start) (space (goal.at.returns-in-Accepted-clause-demand c).Start) s.args.limit s.args.text.now
     read.read-reading.ensures.answer read.read-reading.ensures.tables _ accepted.in-Accepted.is _ _ _
     (search rules) (search rules) (search rules) (search rules)
-    built.build_read.ensures.answer built.build_read.ensures.tables.0 built.build_read.ensures.tables.1).3
+    built.build_read.ensures.answer built.build_read.ensures.tables built.build_read.ensures.leaves).3
 
 pub returns-in-Accepted-clause-ending : goal.returns-in-Accepted-clause-ending
 returns-in-Accepted-clause-ending c = (let left = c in
     let built = left in
     let accepted = built in
     let read = accepted in
-    let s = start (goal.at.returns-in-Accepted-clause-ending c).After-read-reading in
+    let s = read in
     accepted-returns (lent (goal.at.returns-in-Accepted-clause-ending c).Start) (space (goal.at.returns-in-Accepted-clause-ending c).Start) s.args.limit s.args.text.now
     read.read-reading.ensures.answer read.read-reading.ensures.tables _ accepted.in-Accepted.is _ _ _
     (search rules) (search rules) (search rules) (search rules)
-    built.build_read.ensures.answer built.build_read.ensures.tables.0 built.build_read.ensures.tables.1).4
+    built.build_read.ensures.answer built.build_read.ensures.tables built.build_read.ensures.leaves).4
 
 pub returns-in-Refused-clause-answer : goal.returns-in-Refused-clause-answer
 returns-in-Refused-clause-answer c = (let third = c in
@@ -83,7 +78,7 @@ returns-in-Refused-clause-answer c = (let third = c in
     let first = second in
     let refused = first in
     let read = refused in
-    let s = start (goal.at.returns-in-Refused-clause-answer c).After-read-reading in
+    let s = read in
     refused-returns (lent (goal.at.returns-in-Refused-clause-answer c).Start) (space (goal.at.returns-in-Refused-clause-answer c).Start) s.args.limit s.args.text.now
     read.read-reading.ensures.answer read.read-reading.ensures.tables _ refused.in-Refused.is _ _ _
     first.clear_wide_words.ensures second.clear_wide_words-in-Refused.ensures third.clear_words.ensures).0
@@ -94,7 +89,7 @@ returns-in-Refused-clause-tables c = (let third = c in
     let first = second in
     let refused = first in
     let read = refused in
-    let s = start (goal.at.returns-in-Refused-clause-tables c).After-read-reading in
+    let s = read in
     refused-returns (lent (goal.at.returns-in-Refused-clause-tables c).Start) (space (goal.at.returns-in-Refused-clause-tables c).Start) s.args.limit s.args.text.now
     read.read-reading.ensures.answer read.read-reading.ensures.tables _ refused.in-Refused.is _ _ _
     first.clear_wide_words.ensures second.clear_wide_words-in-Refused.ensures third.clear_words.ensures).1
@@ -105,7 +100,7 @@ returns-in-Refused-clause-leaves c = (let third = c in
     let first = second in
     let refused = first in
     let read = refused in
-    let s = start (goal.at.returns-in-Refused-clause-leaves c).After-read-reading in
+    let s = read in
     refused-returns (lent (goal.at.returns-in-Refused-clause-leaves c).Start) (space (goal.at.returns-in-Refused-clause-leaves c).Start) s.args.limit s.args.text.now
     read.read-reading.ensures.answer read.read-reading.ensures.tables _ refused.in-Refused.is _ _ _
     first.clear_wide_words.ensures second.clear_wide_words-in-Refused.ensures third.clear_words.ensures).2
@@ -116,7 +111,7 @@ returns-in-Refused-clause-demand c = (let third = c in
     let first = second in
     let refused = first in
     let read = refused in
-    let s = start (goal.at.returns-in-Refused-clause-demand c).After-read-reading in
+    let s = read in
     refused-returns (lent (goal.at.returns-in-Refused-clause-demand c).Start) (space (goal.at.returns-in-Refused-clause-demand c).Start) s.args.limit s.args.text.now
     read.read-reading.ensures.answer read.read-reading.ensures.tables _ refused.in-Refused.is _ _ _
     first.clear_wide_words.ensures second.clear_wide_words-in-Refused.ensures third.clear_words.ensures).3
@@ -127,7 +122,7 @@ returns-in-Refused-clause-ending c = (let third = c in
     let first = second in
     let refused = first in
     let read = refused in
-    let s = start (goal.at.returns-in-Refused-clause-ending c).After-read-reading in
+    let s = read in
     refused-returns (lent (goal.at.returns-in-Refused-clause-ending c).Start) (space (goal.at.returns-in-Refused-clause-ending c).Start) s.args.limit s.args.text.now
     read.read-reading.ensures.answer read.read-reading.ensures.tables _ refused.in-Refused.is _ _ _
     first.clear_wide_words.ensures second.clear_wide_words-in-Refused.ensures third.clear_words.ensures).4

@@ -31,30 +31,25 @@ within : (c : goal.After-combination_size-size)
     → c.combination_size-size.result * c.args.count + c.combination_size-size.result
     ≤ length c.args.space.now
 within c =
-    let start = c in
-    added-within start.requires.0 start.args.choice c.combination_size-size.ensures (roomy c)
+    added-within c.requires.0 c.args.choice c.combination_size-size.ensures (roomy c)
 
 few : (c : goal.After-combination_size-size) → c.combination_size-size.result ≤ 11
 few c =
-    let start = c in
-    let half = start.args.half in
-    omega (arith, c.combination_size-size.ensures, words-few half (omega (arith, start.requires.1.narrow)))
+    let half = c.args.half in
+    omega (arith, c.combination_size-size.ensures, words-few half (omega (arith, c.requires.1.narrow)))
 
 pub returns-then-not-valid : goal.returns-then-not-valid
 returns-then-not-valid c =
-    let tested = c in
-    let start = tested in
-    let columns = start.args.choice.matrix.columns in
-    let width : width_of start.args.half ≡ 2 * tested.wide.result + 1 =
-    omega (arith, tested.wide.ensures) in
+    let columns = c.args.choice.matrix.columns in
+    let width : width_of c.args.half ≡ 2 * c.wide.result + 1 =
+    omega (arith, c.wide.ensures) in
     absurd (subst T
-    (ap (λ (k : ℕ). valid (take k columns)) width ∙ failed tested.valid.ensures (not_from_false _ c.if-not-valid.true))
-    start.requires.1.holds)
+    (ap (λ (k : ℕ). valid (take k columns)) width ∙ failed c.valid.ensures (not_from_false _ c.if-not-valid.true))
+    c.requires.1.holds)
 
 pub returns-then-room_in-count : goal.returns-then-room_in-count
 returns-then-room_in-count c =
-    let start = c in
-    added_none start.requires.0 start.args.choice (omega (arith, c.if-room_in-count.true, c.room_in.ensures))
+    added_none c.requires.0 c.args.choice (omega (arith, c.if-room_in-count.true, c.room_in.ensures))
 
 pub overflow_mul-at : goal.overflow_mul-at
 overflow_mul-at c = let inside = within (goal.at.overflow_mul-at c).After-combination_size-size in search rules
@@ -73,14 +68,12 @@ put_choice-requires c = simp (length-take, length-drop) (omega (arith, few (goal
 
 pub returns : goal.returns
 returns c =
-    let sized = c in
-    let start = sized in
-    let choice = start.args.choice in
-    let size : ℕ = sized.combination_size-size.result in
-    let at : ℕ = size * start.args.count in
+    let choice = c.args.choice in
+    let size : ℕ = c.combination_size-size.result in
+    let at : ℕ = size * c.args.count in
     let row : List ℕ = choice.phone ∷ (choice.leaves ++ choice.matrix.columns) in
-    let long : length (take (at + size - at) (drop at start.args.space.now)) ≡ size =
+    let long : length (take (at + size - at) (drop at c.args.space.now)) ≡ size =
     simp (length-take, length-drop) (omega (arith, within (goal.at.returns c).After-combination_size-size)) in
-    added-put start.requires.0 choice start.requires.1 (three (goal.at.returns c).Start) (seven (goal.at.returns c).Start) (roomy (goal.at.returns c).After-combination_size-size)
-    sized.combination_size-size.ensures
+    added-put c.requires.0 choice c.requires.1 (three (goal.at.returns c).Start) (seven (goal.at.returns c).Start) (roomy (goal.at.returns c).After-combination_size-size)
+    c.combination_size-size.ensures
     (c.put_choice.ensures ∙ ap (λ (k : ℕ). take k row) long)

@@ -11,6 +11,5 @@ whole_matrix-requires c = omega (arith, c.requires)
 
 pub returns : goal.returns
 returns c =
-    let start = c in
     c.whole_matrix.ensures
-    ∙ seven-there start.args.leaves.now (leaf_size * start.args.place + 1) (omega (arith, start.requires))
+    ∙ seven-there c.args.leaves.now (leaf_size * c.args.place + 1) (omega (arith, c.requires))

@@ -1,11 +1,10 @@
 -- `choosing::next_fit` meets its contract. The loop's invariant: the leaves before `place` do not fit.
 use mathlib.Core.Path.{◌≡◌, sym, ◌∙◌}
 use mathlib.Core.List.{List}
-use Prim.Native.Nat.{◌+◌, ◌-◌, ◌*◌, ◌<◌}
+use Prim.Native.Nat.{◌+◌, ◌*◌, ◌<◌}
 use native.Mathlib.Omega.{arith}
 use lib.ListN.{length, take}
 use Rattle.definitions.specs.Combinations.{Leaf}
-use Rattle.definitions.specs.Searching.{NoneFrom}
 use Rattle.definitions.proofs.Laws.Lists.Searching.{none-start, none-one, none_more, none_found, none-all}
 use Rattle.matrix.specs.Shapes.{width_of}
 use Rattle.matrix.specs.Laws.Meeting.{met-test}
@@ -32,17 +31,19 @@ pub meets-requires : goal.meets-requires
 meets-requires c = omega arith
 
 tested : (c : goal.After-meets)
-    → fits_at (take (width_of (c).args.half) (c).args.m.columns) (leaves_of c.before.before)
+    → fits_at (take (width_of c.args.half) c.args.m.columns) (leaves_in (width_of c.args.half) c.args.leaves.now)
     c.loop-place.place ≡ c.meets.result
 tested c =
-    let a = (c).args in
-    let pre = (c).requires in
-    let wide = (c).wide in
+    let a = c.args in
+    let pre = c.requires in
+    let wide = c.wide in
     let width : 2 * wide.result + 1 ≡ width_of a.half = omega (arith, wide.ensures) in
     let words = a.leaves.now in
+    let here : c.loop-place.place < length (leaves_in (width_of a.half) words) =
+    rw leaves-length c.loop-place-test.true in
     let own =
-    c.leaf_matrix.ensures ∙ leaf-columns (width_of a.half) words _ (inside c.before.before) pre.0 pre.1 in
-    sym (met-test a.m.columns _ (leaf-width (width_of a.half) words _ (inside c.before.before) pre.0) own width
+    c.leaf_matrix.ensures ∙ leaf-columns (width_of a.half) words _ here pre.0 pre.1 in
+    sym (met-test a.m.columns _ (leaf-width (width_of a.half) words _ here pre.0) own width
     c.meets.ensures)
 
 pub returns-then-meets : goal.returns-then-meets

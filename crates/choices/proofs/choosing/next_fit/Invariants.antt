@@ -1,17 +1,10 @@
 -- `choosing::next_fit` meets its contract. The loop's invariant: the leaves before `place` do not fit.
-use mathlib.Core.Path.{◌≡◌, sym, ◌∙◌}
-use mathlib.Core.List.{List}
-use Prim.Native.Nat.{◌+◌, ◌-◌, ◌*◌, ◌<◌}
-use native.Mathlib.Omega.{arith}
+use Prim.Native.Nat.{◌-◌}
 use lib.ListN.{length, take}
-use Rattle.definitions.specs.Combinations.{Leaf}
 use Rattle.definitions.specs.Searching.{NoneFrom}
-use Rattle.definitions.proofs.Laws.Lists.Searching.{none-start, none-one, none_more, none_found, none-all}
 use Rattle.matrix.specs.Shapes.{width_of}
-use Rattle.matrix.specs.Laws.Meeting.{met-test}
 use Rattle.leafsets.specs.Leaves.{leaves_in}
 use Rattle.choices.specs.Choices.{fits_at}
-use Rattle.choices.specs.Laws.LeafLists.{leaves-length, leaf-within, leaf-columns, leaf-width}
 use Rattle.choices.proofs.choosing.next_fit.Given as goal
 
 abbrev pub invariant-loop-place : goal.invariant-loop-place

@@ -2,11 +2,11 @@
 -- as they came.
 use mathlib.Core.Path.{◌≡◌, sym, ◌∙◌}
 use mathlib.Core.List.{List, ◌∷◌, ◌++◌}
-use Prim.Native.Nat.{ℕ, ◌-◌, ◌≤◌}
+use Prim.Native.Nat.{ℕ, ◌≤◌}
 use native.Mathlib.Omega.{arith}
 use lib.ListN.{length, take}
 use lib.Seq.{length-take-le, get_or-take}
-use Rattle.lines.specs.Laws.Filling.{Filled, filled-start, filled_more, filled-end}
+use Rattle.lines.specs.Laws.Filling.{filled-start, filled_more, filled-end}
 use Rattle.choices.specs.Laws.Adding.{row-length}
 use borrow.Author.Rules.{rules}
 use Rattle.choices.proofs.choosing.put_choice.Goals as goal
@@ -28,17 +28,15 @@ module _ (c : goal.Start) where
       omega (arith, c.requires, row-length a.phone a.leaves a.matrix.columns three seven)
 
   sized : length (take (length c.args.words.now) row) ≡ length c.args.words.now
-  sized = length-take-le (length c.args.words.now) row c
+  sized = length-take-le (length c.args.words.now) row few
 
 pub loop-i-preserved : goal.loop-i-preserved
 loop-i-preserved c =
-    let turn = c in
-    let start = turn in
     let inside = c.loop-i-test.true in
-    let words = start.args.words.now in
-    filled_more (sized (goal.at.loop-i-preserved c).Start) turn.loop-i.invariant inside
+    let words = c.args.words.now in
+    filled_more (sized (goal.at.loop-i-preserved c).Start) c.loop-i.invariant inside
     (c.word_of.ensures
-    ∙ sym (get_or-take (length words) (row (goal.at.loop-i-preserved c).Start) _ 0 (omega (arith, inside, turn.loop-i.invariant.sized))))
+    ∙ sym (get_or-take (length words) (row (goal.at.loop-i-preserved c).Start) _ 0 (omega (arith, inside, c.loop-i.invariant.sized))))
 
 pub returns : goal.returns
 returns c = filled-end (sized (goal.at.returns c).Start) c.loop-i.invariant c.loop-i-test.false

@@ -1,13 +1,9 @@
 -- `choosing::put_choice` meets its contract. The loop's invariant: the words before `i` are written, the rest are
 -- as they came.
-use mathlib.Core.Path.{◌≡◌, sym, ◌∙◌}
-use mathlib.Core.List.{List, ◌∷◌, ◌++◌}
-use Prim.Native.Nat.{ℕ, ◌-◌, ◌≤◌}
-use native.Mathlib.Omega.{arith}
+use mathlib.Core.List.{◌∷◌, ◌++◌}
+use Prim.Native.Nat.{◌-◌}
 use lib.ListN.{length, take}
-use lib.Seq.{length-take-le, get_or-take}
-use Rattle.lines.specs.Laws.Filling.{Filled, filled-start, filled_more, filled-end}
-use Rattle.choices.specs.Laws.Adding.{row-length}
+use Rattle.lines.specs.Laws.Filling.{Filled}
 use Rattle.choices.proofs.choosing.put_choice.Given as goal
 
 abbrev pub invariant-loop-i : goal.invariant-loop-i

@@ -29,21 +29,17 @@ leaf_matrix-requires c = within (goal.at.leaf_matrix-requires c).Start
 
 pub returns : goal.returns
 returns c =
-    let met = c in
-    let leaf = met in
-    let wide = leaf in
-    let start = wide in
-    let a = start.args in
-    let pre = start.requires in
+    let a = c.args in
+    let pre = c.requires in
     let words = a.leaves.now in
     let width = width_of a.half in
-    let columns : 2 * wide.wide.result + 1 ≡ width = omega (arith, wide.wide.ensures) in
+    let columns : 2 * c.wide.result + 1 ≡ width = omega (arith, c.wide.ensures) in
     let own =
-    leaf.leaf_matrix.ensures
+    c.leaf_matrix.ensures
     ∙ leaf-columns width words a.place pre.inside pre.chosen.narrow pre.is in
     let size = leaf-width width words a.place pre.inside pre.chosen.narrow in (
       refl,
       refl,
       ap (set a.choice.leaves a.choice.taken) (leaf-node width words a.place pre.inside),
-      met-whole a.choice.matrix.columns _ size own columns pre.fits met.meet-met.ensures.matrix,
+      met-whole a.choice.matrix.columns _ size own columns pre.fits c.meet-met.ensures.matrix,
     )

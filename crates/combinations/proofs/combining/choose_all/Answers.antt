@@ -17,10 +17,8 @@ slice_bounds-choose_phones-end c = sym (part_length 8192 c.if-size-le-SHORT_LIST
 
 pub choose_phones-requires : goal.choose_phones-requires
 choose_phones-requires c =
-    let test = c in
-    let wide = test in
-    let (fit, clear) = wide.requires in
-    (fit, clear, cleared-working 8192 test.if-size-le-SHORT_LIST.true (ap (leaf_size *◌) wide.wide-size.ensures))
+    let (fit, clear) = c.requires in
+    (fit, clear, cleared-working 8192 c.if-size-le-SHORT_LIST.true (ap (leaf_size *◌) c.wide-size.ensures))
 
 pub slice_bounds-table-end-2 : goal.slice_bounds-table-end-2
 slice_bounds-table-end-2 c = most (goal.at.slice_bounds-table-end-2 c).After-wide-size
@@ -30,6 +28,5 @@ slice_bounds-choose_phones-end-2 c = sym (part_length 32768 (most (goal.at.slice
 
 pub choose_phones-requires-2 : goal.choose_phones-requires-2
 choose_phones-requires-2 c =
-    let wide = c in
-    let (fit, clear) = wide.requires in
-    (fit, clear, cleared-working 32768 (most (goal.at.choose_phones-requires-2 c).After-wide-size) (ap (leaf_size *◌) wide.wide-size.ensures))
+    let (fit, clear) = c.requires in
+    (fit, clear, cleared-working 32768 (most (goal.at.choose_phones-requires-2 c).After-wide-size) (ap (leaf_size *◌) c.wide-size.ensures))

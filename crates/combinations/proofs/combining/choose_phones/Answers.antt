@@ -1,15 +1,13 @@
 -- `combining::choose_phones` meets its contract. The loop's invariant: the space has the combinations of the
 -- phones before `phone`, `ends` how many there were after each, and the lists are fit for the next phone.
 use mathlib.Core.Path.{◌≡◌, refl, sym, ap, ◌∙◌}
-use Prim.Native.Nat.{suc, ◌-◌, ◌≤◌}
+use Prim.Native.Nat.{◌≤◌}
 use native.Mathlib.Omega.{arith}
 use lib.ListN.{length}
-use Rattle.definitions.specs.Tables.{Book}
 use Rattle.definitions.specs.Ranges.{InRange}
 use Rattle.tables.specs.Usable.{book_with}
-use Rattle.leafsets.specs.Working.{Worked}
 use Rattle.choices.specs.Laws.Grown.{holding-none}
-use Rattle.combinations.specs.Laws.Phones.{PhonesAdded, added-start, added-holding, added-over, added-few}
+use Rattle.combinations.specs.Laws.Phones.{added-start, added-holding, added-over, added-few}
 use Rattle.combinations.specs.Laws.Phones.{added_more, added-end, noted-length}
 use Rattle.combinations.specs.Laws.Working.{worked-none, worked-more}
 use Rattle.combinations.proofs.combining.choose_phones.Goals as goal
@@ -22,20 +20,15 @@ ends_sized : (c : goal.At-loop-phone) → length c.loop-phone.ends ≡ length c.
 ends_sized c = noted-length c.loop-phone.invariant.0 ∙ sym (ap length c.requires.1.ends_clear)
 
 -- a phone of the book
-abbrev book : goal.Start → Book
-book c =
-    let a = c.args in
-    book_with a.header a.nodes.now a.classes.now a.roots.now
-
-within : (c : goal.In-loop-phone) → c.loop-phone.phone ≤ (book c.before.before.before.before.before.before.before.before.before.before.before.before).phones
+within : (c : goal.In-loop-phone)
+    → c.loop-phone.phone ≤ (book_with c.args.header c.args.nodes.now c.args.classes.now c.args.roots.now).phones
 unfolding book_with
 within c = c.loop-phone-test.true
 
 pub loop-phone-init : goal.loop-phone-init
 unfolding book_with
 loop-phone-init c =
-    let start = c in
-    let (fit, clear, working) = start.requires in
+    let (fit, clear, working) = c.requires in
     let r = fit.ranges in (
       added-start (record {
         none = holding-none _ _ clear.space_clear;
@@ -49,52 +42,43 @@ loop-phone-init c =
 pub choose_phone-adding-requires : goal.choose_phone-adding-requires
 unfolding book_with
 choose_phone-adding-requires c =
-    let turn = c in
-    let (added, worked) = turn.loop-phone.invariant in
-    let fit = turn.requires.0 in
-    (fit, record { low = added.low; high = turn.loop-phone-test.true }, worked.working, added-holding added)
+    let (added, worked) = c.loop-phone.invariant in
+    let fit = c.requires.0 in
+    (fit, record { low = added.low; high = c.loop-phone-test.true }, worked.working, added-holding added)
 
 pub shape_of-ends-in-Stop : goal.shape_of-ends-in-Stop
-shape_of-ends-in-Stop c = ends_sized ((c))
+shape_of-ends-in-Stop c = ends_sized (goal.at.shape_of-ends-in-Stop c).At-loop-phone
 
 pub returns-in-Stop : goal.returns-in-Stop
 unfolding book_with
 returns-in-Stop c =
-    let call = c in
-    let turn = call in
-    added-over turn.loop-phone.invariant.0 (within (goal.at.returns-in-Stop c).In-loop-phone) call.choose_phone-adding.ensures.space
+    added-over c.loop-phone.invariant.0 (within (goal.at.returns-in-Stop c).In-loop-phone) c.choose_phone-adding.ensures.space
     c.in-Stop.is
 
 pub overflow_cast-ends : goal.overflow_cast-ends
 unfolding book_with
 overflow_cast-ends c =
-    let call = c in
-    let turn = call in
-    let few = added-few turn.loop-phone.invariant.0 (within (goal.at.overflow_cast-ends c).In-loop-phone) call.choose_phone-adding.ensures.space
+    let few = added-few c.loop-phone.invariant.0 (within (goal.at.overflow_cast-ends c).In-loop-phone) c.choose_phone-adding.ensures.space
     c.in-Count.is in
     omega (arith, few)
 
 pub bounds-ends-wide : goal.bounds-ends-wide
 bounds-ends-wide c =
-    let turn = c in
     let most = (ranges (goal.at.bounds-ends-wide c).Start).phones_range.high in
-    let sized = noted-length turn.loop-phone.invariant.0 in
-    omega (arith, c.wide.ensures, turn.loop-phone-test.true, most, sized)
+    let sized = noted-length c.loop-phone.invariant.0 in
+    omega (arith, c.wide.ensures, c.loop-phone-test.true, most, sized)
 
 pub overflow_add-phone : goal.overflow_add-phone
 overflow_add-phone c =
-    let turn = c in
-    omega (arith, turn.loop-phone-test.true, (ranges (goal.at.overflow_add-phone c).Start).phones_range.high)
+    omega (arith, c.loop-phone-test.true, (ranges (goal.at.overflow_add-phone c).Start).phones_range.high)
 
 pub loop-phone-preserved : goal.loop-phone-preserved
 unfolding book_with
 loop-phone-preserved c =
-    let call = c in
-    let turn = call in
-    let (added, worked) = turn.loop-phone.invariant in
-    let (grown, lists) = call.choose_phone-adding.ensures in (
-      added_more added (within (goal.at.loop-phone-preserved c).In-loop-phone) grown c.in-Count.is c.wide.ensures refl,
-      worked-more worked lists,
+    let (added, worked) = c.loop-phone.invariant in
+    let both = c.choose_phone-adding.ensures in (
+      added_more added (within (goal.at.loop-phone-preserved c).In-loop-phone) both.space c.in-Count.is c.wide.ensures refl,
+      worked-more worked both.lists,
     )
 
 pub shape_of-ends : goal.shape_of-ends

@@ -1,9 +1,8 @@
 -- `repeating::alike` meets its contract. The loop's invariant: the columns before `c` are the same.
 use mathlib.Core.Path.{◌≡◌}
-use Prim.Native.Nat.{◌-◌}
 use native.Mathlib.Omega.{arith}
 use lib.ListN.{length}
-use Rattle.definitions.proofs.Laws.Lists.Same.{Alike, alike-start, alike-more, alike-stop, alike_end}
+use Rattle.definitions.proofs.Laws.Lists.Same.{alike-start, alike-more, alike-stop, alike_end}
 use borrow.Author.Rules.{rules}
 use Rattle.followers.proofs.repeating.alike.Goals as goal
 

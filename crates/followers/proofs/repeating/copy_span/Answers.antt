@@ -1,7 +1,6 @@
 -- `repeating::copy_span` meets its contract. The loop's invariant: `i` copies were appended.
-use Prim.Native.Nat.{◌-◌}
 use native.Mathlib.Omega.{arith}
-use Rattle.followers.specs.Laws.Copying.{Copied, copied_none, copied-sized, copied_more, copied_all}
+use Rattle.followers.specs.Laws.Copying.{copied_none, copied-sized, copied_more, copied_all}
 use Rattle.followers.proofs.repeating.copy_span.Goals as goal
 
 pub loop-i-init : goal.loop-i-init

@@ -2,16 +2,12 @@
 use Prim.Native.Nat.{◌≤◌}
 use native.Mathlib.Omega.{arith}
 use Rattle.index.specs.Laws.Followers.{narrow}
-use Rattle.followers.specs.Spans.{SlotWithin}
 use Rattle.followers.specs.Turns.{BetweenTurns}
 use Rattle.followers.specs.Laws.Repeating.{span-order, span-within}
 use Rattle.followers.specs.Laws.Turns.{place_few, arcs-fit}
 use Rattle.followers.specs.Laws.Repeating.{repeated-on, followed-few, followed-noted, followed-refused}
 use Rattle.followers.proofs.repeating.follow_on.Goals as goal
-use Rattle.followers.proofs.repeating.follow_on.Goals.{After-slot_for-slot, Start}
-
-abbrev entry : goal.After-slot_for-slot → goal.Start
-entry c = c
+use Rattle.followers.proofs.repeating.follow_on.Goals.{Start}
 
 between : (c : goal.Start)
     → BetweenTurns c.args.header c.args.nodes.now c.args.combinations.now c.args.index.now
@@ -22,22 +18,19 @@ between c = c.requires.expandable.between
 thin : (c : goal.Start) → c.args.header.half ≤ 3
 thin c = narrow (between c).searchable.connectable.usable
 
-slot-there : (c : goal.After-slot_for-slot) → SlotWithin (entry c).args.spans.now c.slot_for-slot.result
-slot-there c = c.slot_for-slot.ensures.0
-
 pub slot_for-slot-requires : goal.slot_for-slot-requires
 slot_for-slot-requires c =
     let start = c in (thin (goal.at.slot_for-slot-requires c).Start, (between (goal.at.slot_for-slot-requires c).Start).slots)
 
 pub last_state-from-requires : goal.last_state-from-requires
 last_state-from-requires c =
-    let start = entry (goal.at.last_state-from-requires c).After-slot_for-slot in
+    let start = c in
     ((between (goal.at.last_state-from-requires c).Start).searchable.connectable.usable.header-known, place_few start.requires.expandable)
 
 pub repeats-requires : goal.repeats-requires
 repeats-requires c =
     let slot = c in
-    (thin (entry (goal.at.repeats-requires c).After-slot_for-slot), slot-there (goal.at.repeats-requires c).After-slot_for-slot)
+    (thin (goal.at.repeats-requires c).Start, c.slot_for-slot.ensures.0)
 
 pub overflow_add-at-then-repeats : goal.overflow_add-at-then-repeats
 overflow_add-at-then-repeats c =
@@ -51,18 +44,18 @@ pub repeat-requires : goal.repeat-requires
 repeat-requires c =
     let test = c in
     let slot = test in
-    let s = (entry (goal.at.repeat-requires c).After-slot_for-slot).requires in
+    let s = c.requires in
     let (other, is, alike) = test.repeats.ensures test.if-repeats.true in
     record {
       held = s.expandable.between.underway.kept.arc-words;
       order =
           omega (
             arith,
-            span-order s _ (slot-there (goal.at.repeat-requires c).After-slot_for-slot) is alike,
+            span-order s _ c.slot_for-slot.ensures.0 is alike,
             c.wide.ensures,
             c.wide-then-repeats.ensures,
           );
-      within = omega (arith, span-within s _ (slot-there (goal.at.repeat-requires c).After-slot_for-slot) is alike, c.wide-then-repeats.ensures);
+      within = omega (arith, span-within s _ c.slot_for-slot.ensures.0 is alike, c.wide-then-repeats.ensures);
       fit = arcs-fit s.expandable;
     }
 
@@ -73,13 +66,13 @@ returns-then-repeats c =
     let test = second in
     let slot = test in
     let (other, is, alike) = test.repeats.ensures test.if-repeats.true in
-    repeated-on (entry (goal.at.returns-then-repeats c).After-slot_for-slot).requires _ (slot-there (goal.at.returns-then-repeats c).After-slot_for-slot) is alike second.wide.ensures
+    repeated-on c.requires _ c.slot_for-slot.ensures.0 is alike second.wide.ensures
     second.wide-then-repeats.ensures test.last_state-from.ensures
     copy.repeat.ensures
 
 pub follow-step-requires : goal.follow-step-requires
 follow-step-requires c =
-    let start = entry (goal.at.follow-step-requires c).After-slot_for-slot in
+    let start = c in
     record {
       searchable = (between (goal.at.follow-step-requires c).Start).searchable;
       underway = (between (goal.at.follow-step-requires c).Start).underway;
@@ -91,10 +84,10 @@ note_span-requires c =
     let arm = c in
     let call = arm in
     let slot = call in
-    let start = entry (goal.at.note_span-requires c).After-slot_for-slot in
+    let start = c in
     let last = call in
     record {
-      within = slot-there (goal.at.note_span-requires c).After-slot_for-slot;
+      within = c.slot_for-slot.ensures.0;
       place_few = place_few start.requires.expandable;
       first_few = omega (arith, arcs-fit start.requires.expandable);
       end_few =
@@ -108,7 +101,7 @@ returns-in-Next c =
     let call = arm in
     let slot = call in
     let at = call.last_state-from.ensures in
-    followed-noted (entry (goal.at.returns-in-Next c).After-slot_for-slot).requires at call.follow-step.ensures _ (slot-there (goal.at.returns-in-Next c).After-slot_for-slot) arm.in-Next.is
+    followed-noted c.requires at call.follow-step.ensures _ c.slot_for-slot.ensures.0 arm.in-Next.is
     noted.note_span.ensures
 
 pub returns-in-Stop : goal.returns-in-Stop
@@ -116,5 +109,5 @@ returns-in-Stop c =
     let arm = c in
     let call = arm in
     let at = call.last_state-from.ensures in
-    followed-refused (entry (goal.at.returns-in-Stop c).After-slot_for-slot).requires at call.follow-step.ensures
+    followed-refused c.requires at call.follow-step.ensures
     arm.in-Stop.is

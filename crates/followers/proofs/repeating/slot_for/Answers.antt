@@ -1,18 +1,13 @@
 -- `repeating::slot_for` meets its contract: every remainder is a slot. The loop's invariant says only that
 -- it ends.
-use Prim.Native.Nat.{ℕ, ◌+◌, ◌-◌, ◌*◌, ◌/◌, ◌%◌, ◌≤◌, ◌<◌}
+use Prim.Native.Nat.{ℕ, ◌+◌, ◌*◌, ◌/◌, ◌%◌, ◌≤◌, ◌<◌}
 use native.Mathlib.Nat.{mod-le}
 use native.Mathlib.Omega.{arith}
 use lib.ListN.{length}
 use Rattle.definitions.specs.Building.{most_metastates}
-use Rattle.followers.specs.Spans.{span_size}
 use Rattle.followers.specs.Laws.Repeating.{some-slots, slot-within}
 use Rattle.followers.proofs.repeating.slot_for.Goals as goal
-use Rattle.followers.proofs.repeating.slot_for.Goals.{At-loop-i, Start}
-
--- there is a slot
-slots : (c : goal.Start) → span_size ≤ length c.args.spans.now
-slots c = let (half, some) = c.requires in some
+use Rattle.followers.proofs.repeating.slot_for.Goals.{At-loop-i}
 
 -- the slot that a turn looks at
 abbrev tried : goal.At-loop-i → ℕ
@@ -20,7 +15,7 @@ tried c = c.key_of.result % (length c.args.spans.now / 3) + c.loop-i.i
 
 tried-within : (c : goal.At-loop-i)
     → 3 * (tried c % (length c.args.spans.now / 3)) + 3 ≤ length c.args.spans.now
-tried-within c = slot-within (tried c) (length c.args.spans.now) (slots c.before.before.before.before)
+tried-within c = slot-within (tried c) (length c.args.spans.now) c.requires.1
 
 tried-small : (c : goal.At-loop-i) → c.loop-i.i < 8
     → tried c % (length c.args.spans.now / 3) ≤ most_metastates
@@ -36,7 +31,7 @@ tried-small c h =
 
 pub nonzero_rem-own : goal.nonzero_rem-own
 nonzero_rem-own c =
-    let start = c in some-slots (length start.args.spans.now) (slots (goal.at.nonzero_rem-own c).Start)
+    let start = c in some-slots (length start.args.spans.now) c.requires.1
 
 pub overflow_add-slot : goal.overflow_add-slot
 overflow_add-slot c =
@@ -47,7 +42,7 @@ overflow_add-slot c =
 
 pub nonzero_rem-slot : goal.nonzero_rem-slot
 nonzero_rem-slot c =
-    let start = c in some-slots (length start.args.spans.now) (slots (goal.at.nonzero_rem-slot c).Start)
+    let start = c in some-slots (length start.args.spans.now) c.requires.1
 
 pub overflow_mul-slot : goal.overflow_mul-slot
 overflow_mul-slot c = record { fits = omega (arith, tried-small (goal.at.overflow_mul-slot c).At-loop-i c.loop-i-test.true) }
@@ -79,6 +74,6 @@ returns c =
     let head = c in
     let size = length head.args.spans.now in
     let own = head.key_of.result in (
-      slot-within own size (slots (goal.at.returns c).Start),
+      slot-within own size c.requires.1,
       omega (arith, mod-le own (size / 3), head.key_of.ensures.1),
     )

@@ -1,12 +1,6 @@
 -- `repeating::slot_for` meets its contract: every remainder is a slot. The loop's invariant says only that
 -- it ends.
-use Prim.Native.Nat.{ℕ, ◌+◌, ◌-◌, ◌*◌, ◌/◌, ◌%◌, ◌≤◌, ◌<◌}
-use native.Mathlib.Nat.{mod-le}
-use native.Mathlib.Omega.{arith}
-use lib.ListN.{length}
-use Rattle.definitions.specs.Building.{most_metastates}
-use Rattle.followers.specs.Spans.{span_size}
-use Rattle.followers.specs.Laws.Repeating.{some-slots, slot-within}
+use Prim.Native.Nat.{◌-◌, ◌≤◌}
 use Rattle.followers.proofs.repeating.slot_for.Given as goal
 
 abbrev pub invariant-loop-i : goal.invariant-loop-i

@@ -8,7 +8,7 @@ use Rattle.fulgwerz.proofs.building.fulgwerz_build_book.Goals as goal
 pub returns-clause-answer : goal.returns-clause-answer
 returns-clause-answer c = (let tables = c in
     let called = tables in
-    let left = called.build_book.ensures.tables in (
+    let left = (called.build_book.ensures.tables, (called.build_book.ensures.leaves, (called.build_book.ensures.demand, called.build_book.ensures.ending))) in (
       c.build_answer.ensures ∙ ap build_answer called.build_book.ensures.answer,
       (
         left.0,
@@ -25,7 +25,7 @@ returns-clause-answer c = (let tables = c in
 pub returns-clause-tables : goal.returns-clause-tables
 returns-clause-tables c = (let tables = c in
     let called = tables in
-    let left = called.build_book.ensures.tables in (
+    let left = (called.build_book.ensures.tables, (called.build_book.ensures.leaves, (called.build_book.ensures.demand, called.build_book.ensures.ending))) in (
       c.build_answer.ensures ∙ ap build_answer called.build_book.ensures.answer,
       (
         left.0,
@@ -42,7 +42,7 @@ returns-clause-tables c = (let tables = c in
 pub returns-clause-leaves : goal.returns-clause-leaves
 returns-clause-leaves c = (let tables = c in
     let called = tables in
-    let left = called.build_book.ensures.tables in (
+    let left = (called.build_book.ensures.tables, (called.build_book.ensures.leaves, (called.build_book.ensures.demand, called.build_book.ensures.ending))) in (
       c.build_answer.ensures ∙ ap build_answer called.build_book.ensures.answer,
       (
         left.0,
@@ -59,7 +59,7 @@ returns-clause-leaves c = (let tables = c in
 pub returns-clause-demand : goal.returns-clause-demand
 returns-clause-demand c = (let tables = c in
     let called = tables in
-    let left = called.build_book.ensures.tables in (
+    let left = (called.build_book.ensures.tables, (called.build_book.ensures.leaves, (called.build_book.ensures.demand, called.build_book.ensures.ending))) in (
       c.build_answer.ensures ∙ ap build_answer called.build_book.ensures.answer,
       (
         left.0,
@@ -76,7 +76,7 @@ returns-clause-demand c = (let tables = c in
 pub returns-clause-ending : goal.returns-clause-ending
 returns-clause-ending c = (let tables = c in
     let called = tables in
-    let left = called.build_book.ensures.tables in (
+    let left = (called.build_book.ensures.tables, (called.build_book.ensures.leaves, (called.build_book.ensures.demand, called.build_book.ensures.ending))) in (
       c.build_answer.ensures ∙ ap build_answer called.build_book.ensures.answer,
       (
         left.0,

@@ -1,8 +1,6 @@
 -- `indexing::mark_column` meets its contract. The loop's invariant: the phones below `phone` are marked.
 use mathlib.Core.Path.{refl}
-use Prim.Native.Nat.{◌-◌}
 use native.Mathlib.Omega.{arith}
-use Rattle.index.specs.Filling.{PhonesMarked}
 use Rattle.index.specs.Laws.Filling.{phones-first, phones-next, phones-last}
 use Rattle.index.proofs.indexing.mark_column.Goals as goal
 

@@ -1,7 +1,5 @@
 -- `indexing::note_ends` meets its contract. The loop's invariant: the ends before `i` were noted.
-use Prim.Native.Nat.{◌-◌}
 use native.Mathlib.Omega.{arith}
-use Rattle.index.specs.Filling.{Noted}
 use Rattle.index.specs.Laws.Filling.{noted-none, noted_more, noted-all}
 use Rattle.index.proofs.indexing.note_ends.Goals as goal
 

@@ -1,10 +1,7 @@
 -- `rows::next_marked` meets its contract. The loop's invariant: none before `number` has its bits set in
 -- all rows.
-use mathlib.Core.Path.{refl}
 use Prim.Native.Nat.{◌-◌}
-use native.Mathlib.Omega.{arith}
 use Rattle.index.specs.Rows.{NextMarked}
-use Rattle.index.specs.Laws.Rows.{marked_start, marked_next}
 use Rattle.index.proofs.rows.next_marked.Given as goal
 
 abbrev pub invariant-loop-number : goal.invariant-loop-number

@@ -28,7 +28,7 @@ returns-then-not-has_phone c =
     known.wide-n.ensures (failed tested.has_phone.ensures (not_from_false _ c.if-not-has_phone.true)))
 
 pub matrix_of-own-requires : goal.matrix_of-own-requires
-matrix_of-own-requires c κs = let tried = c.requires in is-listed _ _ tried.usable _ tried.listed
+matrix_of-own-requires c = let tried = c.requires in is-listed _ _ tried.usable _ tried.listed
 
 pub meets-requires : goal.meets-requires
 meets-requires c = omega arith

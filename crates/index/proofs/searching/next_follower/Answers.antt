@@ -1,36 +1,27 @@
 -- `searching::next_follower` meets its contract. The loop's invariant: none before `number` follows.
 use mathlib.Core.Path.{◌≡◌, sym, ◌∙◌}
-use Prim.Native.Nat.{◌-◌, ◌<◌}
+use Prim.Native.Nat.{ℕ}
+use mathlib.Core.List.{List}
+use Rattle.definitions.specs.declared.Header.{Header}
+use Rattle.index.specs.RecordWords.{count_in}
 use native.Mathlib.Omega.{arith}
 use lib.ListN.{length}
-use Rattle.definitions.specs.Searching.{NoneFrom}
 use Rattle.definitions.proofs.Laws.Lists.Searching.{none_more, none_found, none-all}
-use Rattle.matrix.specs.Shapes.{matrix_in}
 use Rattle.index.specs.Combinations.{combinations_in}
-use Rattle.index.specs.Following.{follows_at}
 use Rattle.index.specs.Laws.RecordWords.{combinations-length}
 use Rattle.index.specs.Laws.Rows.{admitting-near, marked-none}
 use Rattle.index.proofs.searching.next_follower.Goals as goal
-use Rattle.index.proofs.searching.next_follower.Goals.{After-count_of-count, In-loop-number}
 
 -- the count is that of the combinations
-counted : (c : goal.After-count_of-count)
-    → c.count_of-count.result
-    ≡ length (combinations_in c.args.header
-    c.args.combinations.now)
-counted c =
-    let a = c.args in
-    c.count_of-count.ensures ∙ sym (combinations-length a.header a.combinations.now)
-
-here : (c : goal.In-loop-number)
-    → c.loop-number.number
-    < length (combinations_in c.args.header c.args.combinations.now)
-here c = omega (arith, c.loop-number-test.true, counted c.before.before.before)
+counted : (header : Header) (combinations : List ℕ) {count : ℕ}
+    → count ≡ count_in header.half combinations
+    → count ≡ length (combinations_in header combinations)
+counted header combinations e = e ∙ sym (combinations-length header combinations)
 
 pub next_marked-number-requires : goal.next_marked-number-requires
 next_marked-number-requires c =
     let start = c in
-    let few = counted (goal.at.next_marked-number-requires c).After-count_of-count in
+    let few = counted c.args.header c.args.combinations.now c.count_of-count.ensures in
     record {
       near = admitting-near start.requires.admitting;
       within = omega (arith, few, start.requires.within);
@@ -39,13 +30,13 @@ next_marked-number-requires c =
 
 pub loop-number-init : goal.loop-number-init
 loop-number-init c =
-    marked-none c.requires.admitting (counted (goal.at.loop-number-init c).After-count_of-count)
+    marked-none c.requires.admitting (counted c.args.header c.args.combinations.now c.count_of-count.ensures)
     c.next_marked-number.ensures
 
 pub is_follower-requires : goal.is_follower-requires
 is_follower-requires c =
     let s = c.requires.seeking in
-    record { usable = s.usable; shaped = s.shaped; listed = here (goal.at.is_follower-requires c).In-loop-number }
+    record { usable = s.usable; shaped = s.shaped; listed = omega (arith, c.loop-number-test.true, counted c.args.header c.args.combinations.now c.count_of-count.ensures) }
 
 pub returns-then-is_follower : goal.returns-then-is_follower
 returns-then-is_follower c = none_found c.loop-number.invariant
@@ -56,7 +47,7 @@ after-next-requires c =
     let turn = c in
     record {
       seeking = turn.requires.seeking;
-      listed = here (goal.at.after-next-requires c).In-loop-number;
+      listed = omega (arith, c.loop-number-test.true, counted c.args.header c.args.combinations.now c.count_of-count.ensures);
       fails = sym c.is_follower.ensures ∙ c.if-is_follower.false;
     }
 
@@ -64,7 +55,7 @@ pub next_marked-number-requires-in-loop-number : goal.next_marked-number-require
 next_marked-number-requires-in-loop-number c =
     let head = c in
     let start = head in
-    let few = counted (goal.at.next_marked-number-requires-in-loop-number c).After-count_of-count in
+    let few = counted c.args.header c.args.combinations.now c.count_of-count.ensures in
     record {
       near = admitting-near start.requires.admitting;
       within = omega (arith, few, c.after-next.ensures.1.within);
@@ -80,9 +71,9 @@ pub loop-number-preserved : goal.loop-number-preserved
 loop-number-preserved c =
     let turn = c in
     none_more (none_more turn.loop-number.invariant c.after-next.ensures.1)
-    (marked-none turn.requires.admitting (counted (goal.at.loop-number-preserved c).After-count_of-count)
+    (marked-none turn.requires.admitting (counted c.args.header c.args.combinations.now c.count_of-count.ensures)
     c.next_marked-number-in-loop-number.ensures)
 
 pub returns : goal.returns
 returns c =
-    none-all c.loop-number.invariant (omega (arith, c.loop-number-test.false, counted (goal.at.returns c).After-count_of-count))
+    none-all c.loop-number.invariant (omega (arith, c.loop-number-test.false, counted c.args.header c.args.combinations.now c.count_of-count.ensures))

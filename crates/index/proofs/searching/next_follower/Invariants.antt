@@ -1,15 +1,10 @@
 -- `searching::next_follower` meets its contract. The loop's invariant: none before `number` follows.
-use mathlib.Core.Path.{◌≡◌, sym, ◌∙◌}
-use Prim.Native.Nat.{◌-◌, ◌<◌}
-use native.Mathlib.Omega.{arith}
+use Prim.Native.Nat.{◌-◌}
 use lib.ListN.{length}
 use Rattle.definitions.specs.Searching.{NoneFrom}
-use Rattle.definitions.proofs.Laws.Lists.Searching.{none_more, none_found, none-all}
 use Rattle.matrix.specs.Shapes.{matrix_in}
 use Rattle.index.specs.Combinations.{combinations_in}
 use Rattle.index.specs.Following.{follows_at}
-use Rattle.index.specs.Laws.RecordWords.{combinations-length}
-use Rattle.index.specs.Laws.Rows.{admitting-near, marked-none}
 use Rattle.index.proofs.searching.next_follower.Given as goal
 
 abbrev pub invariant-loop-number : goal.invariant-loop-number

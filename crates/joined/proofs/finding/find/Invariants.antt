@@ -1,12 +1,8 @@
 -- `finding::find` meets its contract. The loop's invariant: the state stands nowhere from `at` on, and `at` has its
 -- head.
-use mathlib.Core.Path.{ap, ◌∙◌}
-use native.Mathlib.Omega.{arith}
-use Rattle.growing.specs.Chains.{Coded, elements_in, head_of, heads_in}
-use Rattle.growing.specs.Laws.Finding.{Passed, find-start, find-here, find-end, link-within, find-less, find-next}
-use Rattle.growing.specs.Laws.Finding.{part-within, part-is, part-other}
+use Rattle.growing.specs.Chains.{elements_in}
+use Rattle.growing.specs.Laws.Finding.{Passed}
 use Rattle.joined.specs.States.{joined_of, joined_code}
-use Rattle.joined.specs.Laws.Rows.{joined-coded}
 use Rattle.joined.proofs.finding.find.Given as goal
 
 abbrev pub invariant-loop-at : goal.invariant-loop-at

@@ -7,12 +7,9 @@ add_joined-requires c = first-place c.requires
 
 pub add_joined-requires-2 : goal.add_joined-requires-2
 add_joined-requires-2 c =
-    let first = c in
-    second-place first.requires first.add_joined.ensures
+    second-place c.requires c.add_joined.ensures
 
 pub returns : goal.returns
 returns c =
-    let second = c in
-    let first = second in
-    both-begun first.requires first.add_joined.ensures
-    second.add_joined-2.ensures
+    both-begun c.requires c.add_joined.ensures
+    c.add_joined-2.ensures

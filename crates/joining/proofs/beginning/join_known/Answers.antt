@@ -8,12 +8,9 @@ use Rattle.joining.proofs.beginning.join_known.Goals as goal
 pub join_with-requires : goal.join_with-requires
 unfolding join_room
 join_with-requires c =
-    let test = c in
-    let start = test in
-    (start.requires, cleared-chains start.requires 8192 (omega (arith, test.if-state_room-lt-FEW.true, test.state_room.ensures)))
+    (c.requires, cleared-chains c.requires 8192 (omega (arith, c.if-state_room-lt-FEW.true, c.state_room.ensures)))
 
 pub join_with-requires-2 : goal.join_with-requires-2
 unfolding join_room
 join_with-requires-2 c =
-    let start = c in
-    (start.requires, cleared-chains start.requires 131072 (omega arith))
+    (c.requires, cleared-chains c.requires 131072 (omega arith))

@@ -1,14 +1,8 @@
 -- `expanding::expand` meets its contract. The loop's invariant: the arcs of the state before `at` are followed.
-use mathlib.Core.Path.{◌≡◌, ap, ◌∙◌}
-use Prim.Native.Nat.{ℕ, ◌-◌, ◌/◌}
-use native.Mathlib.Omega.{arith}
+use Prim.Native.Nat.{◌-◌, ◌/◌}
 use lib.ListN.{length}
 use Rattle.definitions.specs.Arcs.{arc_size}
-use Rattle.arcs.specs.Whole.{all_arcs}
-use Rattle.arcs.specs.Below.{below}
-use Rattle.joined.specs.Laws.Entering.{joined-few}
-use Rattle.joining.specs.Laws.Expanding.{Expanding, expand-row, sources-after, expanding-start, expanding-done}
-use Rattle.joining.specs.Laws.Expanding.{expanding-next, expanding-asks, expanding-more, expanding-stop}
+use Rattle.joining.specs.Laws.Expanding.{Expanding}
 use Rattle.joining.proofs.expanding.expand.Given as goal
 
 abbrev pub invariant-loop-at : goal.invariant-loop-at

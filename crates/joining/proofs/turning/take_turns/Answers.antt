@@ -1,8 +1,6 @@
 -- `turning::take_turns` meets its contract. The loop's invariant: the states before `turns` are expanded.
-use Prim.Native.Nat.{◌-◌}
 use native.Mathlib.Omega.{arith}
-use Rattle.joined.specs.States.{room_of}
-use Rattle.joining.specs.Laws.Turning.{Turning, turning-start, turning-done, turning-asks, turning-within}
+use Rattle.joining.specs.Laws.Turning.{turning-start, turning-done, turning-asks, turning-within}
 use Rattle.joining.specs.Laws.Turning.{turning-more, turning-stop}
 use Rattle.joining.proofs.turning.take_turns.Goals as goal
 
@@ -11,29 +9,22 @@ loop-turns-init c = turning-start c.requires
 
 pub expand-step-requires : goal.expand-step-requires
 expand-step-requires c =
-    let turn = c in
-    turning-asks turn.requires turn.loop-turns.invariant turn.loop-turns-test.true
+    turning-asks c.requires c.loop-turns.invariant c.loop-turns-test.true
 
 pub returns-in-Stop : goal.returns-in-Stop
 returns-in-Stop c =
-    let call = c in
-    let turn = call in
-    turning-stop turn.requires turn.loop-turns.invariant turn.loop-turns-test.true call.expand-step.ensures
+    turning-stop c.requires c.loop-turns.invariant c.loop-turns-test.true c.expand-step.ensures
     c.in-Stop.is
 
 pub loop-turns-smaller : goal.loop-turns-smaller
 loop-turns-smaller c =
-    let turn = c in
-    omega (arith, turning-within turn.requires turn.loop-turns.invariant turn.loop-turns-test.true)
+    omega (arith, turning-within c.requires c.loop-turns.invariant c.loop-turns-test.true)
 
 pub loop-turns-preserved : goal.loop-turns-preserved
 loop-turns-preserved c =
-    let call = c in
-    let turn = call in
-    turning-more turn.requires turn.loop-turns.invariant turn.loop-turns-test.true call.expand-step.ensures
+    turning-more c.requires c.loop-turns.invariant c.loop-turns-test.true c.expand-step.ensures
     c.in-Next.is
 
 pub returns : goal.returns
 returns c =
-    let start = c in
-    turning-done start.requires c.loop-turns.invariant c.loop-turns-test.false
+    turning-done c.requires c.loop-turns.invariant c.loop-turns-test.false

@@ -1,9 +1,7 @@
 -- `turning::take_turns` meets its contract. The loop's invariant: the states before `turns` are expanded.
 use Prim.Native.Nat.{◌-◌}
-use native.Mathlib.Omega.{arith}
 use Rattle.joined.specs.States.{room_of}
-use Rattle.joining.specs.Laws.Turning.{Turning, turning-start, turning-done, turning-asks, turning-within}
-use Rattle.joining.specs.Laws.Turning.{turning-more, turning-stop}
+use Rattle.joining.specs.Laws.Turning.{Turning}
 use Rattle.joining.proofs.turning.take_turns.Given as goal
 
 abbrev pub invariant-loop-turns : goal.invariant-loop-turns

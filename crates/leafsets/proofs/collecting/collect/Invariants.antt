@@ -1,12 +1,7 @@
 -- `collecting::collect` meets its contract. The loop's invariant: the records before `node` that were used are
 -- listed, `count` of them, and no longer used; those from `node` on are as they were.
-use mathlib.Core.Path.{◌∙◌}
-use mathlib.Core.Logic.{⊎_elim}
-use Prim.Native.Nat.{◌+◌, ◌-◌, ◌/◌, ◌<◌}
-use native.Mathlib.Omega.{arith}
-use lib.ListN.{length}
-use Rattle.leafsets.specs.Laws.CollectingLeaves.{Collected, collected-start, node-inside, place_inside}
-use Rattle.leafsets.specs.Laws.CollectingLeaves.{collected-more, collected-past, collected-end}
+use Prim.Native.Nat.{◌+◌, ◌-◌}
+use Rattle.leafsets.specs.Laws.CollectingLeaves.{Collected}
 use Rattle.leafsets.proofs.collecting.collect.Given as goal
 
 abbrev pub invariant-loop-node : goal.invariant-loop-node

@@ -12,11 +12,9 @@ use Rattle.leafsets.proofs.walking.put_leaf.Goals as goal
 
 pub returns : goal.returns
 returns c =
-    let put = c in
-    let start = put in
-    let a = start.args in
+    let a = c.args in
     let row : List ℕ = 1 ∷ a.m.columns in
     let columns : length a.m.columns ≡ 7 = search rules in
-    put.put_numbered.ensures
-    ∙ ap (λ (n : ℕ). overwritten a.table.now (leaf_size * n) row) put.wide.ensures
-    ∙ overwritten-there a.table.now (leaf_size * a.node) row (omega (arith, columns)) start.requires
+    c.put_numbered.ensures
+    ∙ ap (λ (n : ℕ). overwritten a.table.now (leaf_size * n) row) c.wide.ensures
+    ∙ overwritten-there a.table.now (leaf_size * a.node) row (omega (arith, columns)) c.requires

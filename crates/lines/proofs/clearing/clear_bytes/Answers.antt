@@ -1,8 +1,6 @@
 -- `clearing::clear_bytes` meets its contract. The loop's invariant: all before `i` is 0, the rest is as it
 -- came.
-use Prim.Native.Nat.{◌-◌}
-use lib.ListN.{length}
-use Rattle.lines.specs.Laws.Filling.{FilledWith, filled-start, with-more, with-end}
+use Rattle.lines.specs.Laws.Filling.{filled-start, with-more, with-end}
 use Rattle.lines.proofs.clearing.clear_bytes.Goals as goal
 
 pub loop-i-init : goal.loop-i-init

@@ -2,7 +2,7 @@
 -- came.
 use Prim.Native.Nat.{◌-◌}
 use lib.ListN.{length}
-use Rattle.lines.specs.Laws.Filling.{FilledWith, filled-start, with-more, with-end}
+use Rattle.lines.specs.Laws.Filling.{FilledWith}
 use Rattle.lines.proofs.clearing.clear_bytes.Given as goal
 
 abbrev pub invariant-loop-i : goal.invariant-loop-i

@@ -1,7 +1,7 @@
 -- `clearing::clear_wide_words` meets its contract. The loop's invariant: all before `i` is 0, the rest is as it came.
 use Prim.Native.Nat.{◌-◌}
 use lib.ListN.{length}
-use Rattle.lines.specs.Laws.Filling.{FilledWith, filled-start, with-more, with-end}
+use Rattle.lines.specs.Laws.Filling.{FilledWith}
 use Rattle.lines.proofs.clearing.clear_wide_words.Given as goal
 
 abbrev pub invariant-loop-i : goal.invariant-loop-i

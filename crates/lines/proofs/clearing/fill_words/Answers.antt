@@ -1,8 +1,6 @@
 -- `clearing::fill_words` meets its contract. The loop's invariant: all before `i` is the word, the rest is
 -- as it came.
-use Prim.Native.Nat.{◌-◌}
-use lib.ListN.{length}
-use Rattle.lines.specs.Laws.Filling.{FilledWith, filled-start, with-more, with-end}
+use Rattle.lines.specs.Laws.Filling.{filled-start, with-more, with-end}
 use Rattle.lines.proofs.clearing.fill_words.Goals as goal
 
 pub loop-i-init : goal.loop-i-init

@@ -1,9 +1,6 @@
 -- `fields::after_spaces` meets its contract. The loop's invariant: the bytes before `i` are spaces.
-use mathlib.Core.Path.{◌≡◌, refl, sym, ◌∙◌}
-use Prim.Native.Nat.{◌-◌, ◌≤◌}
+use mathlib.Core.Path.{refl, sym, ◌∙◌}
 use native.Mathlib.Omega.{arith}
-use lib.ListN.{length, drop}
-use Rattle.definitions.specs.Lines.{skip_spaces}
 use Rattle.lines.specs.Laws.Fields.{space-passed, space-stops, spaces-end}
 use Rattle.lines.proofs.fields.after_spaces.Goals as goal
 

@@ -1,10 +1,8 @@
 -- `fields::after_spaces` meets its contract. The loop's invariant: the bytes before `i` are spaces.
-use mathlib.Core.Path.{◌≡◌, refl, sym, ◌∙◌}
+use mathlib.Core.Path.{◌≡◌}
 use Prim.Native.Nat.{◌-◌, ◌≤◌}
-use native.Mathlib.Omega.{arith}
 use lib.ListN.{length, drop}
 use Rattle.definitions.specs.Lines.{skip_spaces}
-use Rattle.lines.specs.Laws.Fields.{space-passed, space-stops, spaces-end}
 use Rattle.lines.proofs.fields.after_spaces.Given as goal
 
 abbrev pub invariant-loop-i : goal.invariant-loop-i

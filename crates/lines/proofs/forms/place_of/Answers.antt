@@ -1,9 +1,7 @@
 -- `forms::place_of` meets its contract. The loop's invariant: the letter is not before `place`.
-use mathlib.Core.Path.{◌≡◌, ap, sym, ◌∙◌}
-use Prim.Native.Nat.{◌-◌, ◌≤◌}
+use mathlib.Core.Path.{ap, sym, ◌∙◌}
 use native.Mathlib.Omega.{arith}
 use Rattle.definitions.specs.Lines.{form_of}
-use Rattle.lines.specs.Places.{forms_between, form_count}
 use Rattle.lines.specs.Laws.Tables.{letter-found, letter-passed, letter-nowhere}
 use Rattle.lines.proofs.forms.place_of.Goals as goal
 
@@ -12,8 +10,11 @@ returns-then-form-letter c =
     let turn = c in
     let a = turn.args in
     let tables = turn.block_of-block.ensures.tables in
-    let inv = turn.loop-place.invariant in record { within = omega arith; found = letter-found _ _ _ turn.loop-place-test.true inv.0 c.if-form-letter.true ∙ sym inv.1
-          ∙ sym (ap (λ f. form_of f a.letter) tables) }
+    let inv = turn.loop-place.invariant in record {
+      within = omega arith;
+      found = letter-found _ _ _ turn.loop-place-test.true inv.0 c.if-form-letter.true ∙ sym inv.1
+          ∙ sym (ap (λ f. form_of f a.letter) tables);
+    }
 
 pub loop-place-preserved : goal.loop-place-preserved
 loop-place-preserved c =
@@ -25,5 +26,8 @@ pub returns : goal.returns
 returns c =
     let a = c.args in
     let tables = c.block_of-block.ensures.tables in
-    let inv = c.loop-place.invariant in record { within = omega arith; found = letter-nowhere _ _ _ c.loop-place-test.false ∙ sym inv.1
-          ∙ sym (ap (λ f. form_of f a.letter) tables) }
+    let inv = c.loop-place.invariant in record {
+      within = omega arith;
+      found = letter-nowhere _ _ _ c.loop-place-test.false ∙ sym inv.1
+          ∙ sym (ap (λ f. form_of f a.letter) tables);
+    }

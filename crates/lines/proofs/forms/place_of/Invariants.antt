@@ -1,10 +1,8 @@
 -- `forms::place_of` meets its contract. The loop's invariant: the letter is not before `place`.
-use mathlib.Core.Path.{◌≡◌, ap, sym, ◌∙◌}
+use mathlib.Core.Path.{◌≡◌}
 use Prim.Native.Nat.{◌-◌, ◌≤◌}
-use native.Mathlib.Omega.{arith}
 use Rattle.definitions.specs.Lines.{form_of}
 use Rattle.lines.specs.Places.{forms_between, form_count}
-use Rattle.lines.specs.Laws.Tables.{letter-found, letter-passed, letter-nowhere}
 use Rattle.lines.proofs.forms.place_of.Given as goal
 
 abbrev pub invariant-loop-place : goal.invariant-loop-place

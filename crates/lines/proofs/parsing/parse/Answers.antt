@@ -1,11 +1,10 @@
 -- `parsing::parse` meets its contract. The loop's invariant: `numbers` has the entries before `field`.
 use mathlib.Core.Path.{refl, ap, sym, ◌∙◌}
-use Prim.Native.Nat.{◌-◌}
 use native.Mathlib.Omega.{arith}
 use Rattle.lines.specs.Rows.{forms_of}
 use Rattle.lines.specs.Places.{form_at}
 use Rattle.lines.specs.Entries.{entry_in}
-use Rattle.lines.specs.Laws.Parsing.{Entries, Letter, entries-start, entry_found, entry-wrong}
+use Rattle.lines.specs.Laws.Parsing.{Letter, entries-start, entry_found, entry-wrong}
 use Rattle.lines.specs.Laws.Parsing.{entries-end, parsed-empty, parsed-unknown, parsed-wrong, parsed-row}
 use Rattle.lines.proofs.parsing.parse.Goals as goal
 use Rattle.lines.proofs.parsing.parse.Goals.{After-used_at-used}

@@ -1,11 +1,10 @@
 -- `ranges::in_fixed_ranges` meets its contract. The loop's invariant: numbers before `field` lie in their
 -- ranges.
 use mathlib.Core.Path.{ap, sym, ◌∙◌}
-use Prim.Native.Nat.{◌-◌}
 use native.Mathlib.Omega.{arith}
 use Rattle.definitions.proofs.Laws.Lists.Tests.{held, failed}
 use Rattle.lines.specs.Places.{form_at}
-use Rattle.lines.specs.Laws.Ranges.{Judging, judging-start, range-passed, range-left, ranges-end}
+use Rattle.lines.specs.Laws.Ranges.{judging-start, range-passed, range-left, ranges-end}
 use Rattle.lines.specs.Laws.Ranges.{row-unknown, row-short, row-full}
 use Rattle.std.proofs.lemmas.Bool.{not_from_true}
 use Rattle.std.proofs.lemmas.Bool.{not_from_false}

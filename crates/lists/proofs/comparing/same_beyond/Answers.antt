@@ -1,12 +1,12 @@
 -- `comparing::same_beyond` meets its contract. The loop's invariant: the matrices before `place` are the same.
-use mathlib.Core.Path.{◌≡◌, refl, sym, ◌∙◌}
-use Prim.Native.Nat.{ℕ, ◌-◌, ◌≤◌}
+use mathlib.Core.Path.{refl, sym, ◌∙◌}
+use Prim.Native.Nat.{ℕ, ◌≤◌}
 use native.Mathlib.Omega.{arith}
 use Rattle.definitions.proofs.Laws.Lists.Tests.{held, failed}
 use Rattle.matrix.specs.Shapes.{width_of}
 use Rattle.lists.specs.Laws.Held.{Turn, turn-of}
-use Rattle.lists.specs.Laws.Comparing.{AlikeLists, alike-lists-more, alike-lists-stop, alike-lists-end}
-use Rattle.lists.specs.Laws.Comparing.{list_beyond, beyond-length, beyond-start, beyond-differ}
+use Rattle.lists.specs.Laws.Comparing.{alike-lists-more, alike-lists-stop, alike-lists-end}
+use Rattle.lists.specs.Laws.Comparing.{beyond-length, beyond-start, beyond-differ}
 use Rattle.lists.specs.Laws.Comparing.{beyond-inside, beyond-test}
 use Rattle.std.proofs.lemmas.Bool.{not_from_true}
 use Rattle.std.proofs.lemmas.Bool.{not_from_false}
@@ -28,24 +28,21 @@ module _ (c : goal.After-start_of-from) where
 
   turn-b : Turn c.args.half c.args.b.now place c.start_of-from.result
   turn-b =
-      let told = c in
-      turn-of c.requires.1 (told.if-count-matrices_in.false ∙ told.matrices_in.ensures) place
+      turn-of c.requires.1 (c.if-count-matrices_in.false ∙ c.matrices_in.ensures) place
       c.loop-place-test.true c.start_of-from.ensures
 
 pub returns-then-count-matrices_in : goal.returns-then-count-matrices_in
 returns-then-count-matrices_in c =
-    let told = c in
-    let a = told.args in
+    let a = c.args in
     beyond-differ a.half a.first a.a.now a.b.now
-    (λ e. c.if-count-matrices_in.true (told.matrices_in-count.ensures ∙ e ∙ sym told.matrices_in.ensures))
+    (λ e. c.if-count-matrices_in.true (c.matrices_in-count.ensures ∙ e ∙ sym c.matrices_in.ensures))
 
 pub loop-place-init : goal.loop-place-init
 loop-place-init c =
-    let told = c in
-    let a = told.args in (
+    let a = c.args in (
       c.width_of-width.ensures.0,
       beyond-start a.half a.first a.a.now a.b.now
-          (sym told.matrices_in-count.ensures ∙ c.if-count-matrices_in.false ∙ told.matrices_in.ensures),
+          (sym c.matrices_in-count.ensures ∙ c.if-count-matrices_in.false ∙ c.matrices_in.ensures),
     )
 
 pub overflow_add-from : goal.overflow_add-from
@@ -64,28 +61,25 @@ same_words-requires c =
 
 pub returns-then-not-same_words : goal.returns-then-not-same_words
 returns-then-not-same_words c =
-    let at = c in
-    alike-lists-stop at.loop-place.invariant.1
+    alike-lists-stop c.loop-place.invariant.1
     (beyond-inside _ (first-within (goal.at.returns-then-not-same_words c).After-start_of-from) (turn-a (goal.at.returns-then-not-same_words c).After-start_of-from) (turn-b (goal.at.returns-then-not-same_words c).After-start_of-from))
-    (beyond-test _ (first-within (goal.at.returns-then-not-same_words c).After-start_of-from) (turn-a (goal.at.returns-then-not-same_words c).After-start_of-from) (turn-b (goal.at.returns-then-not-same_words c).After-start_of-from) at.loop-place.invariant.0
+    (beyond-test _ (first-within (goal.at.returns-then-not-same_words c).After-start_of-from) (turn-a (goal.at.returns-then-not-same_words c).After-start_of-from) (turn-b (goal.at.returns-then-not-same_words c).After-start_of-from) c.loop-place.invariant.0
     c.same_words.ensures
     ∙ failed refl (not_from_false _ c.if-not-same_words.true))
 
 pub loop-place-preserved : goal.loop-place-preserved
-loop-place-preserved c =
-    let at = c in (
-      at.loop-place.invariant.0,
-      alike-lists-more at.loop-place.invariant.1
-          (beyond-inside _ (first-within (goal.at.loop-place-preserved c).After-start_of-from) (turn-a (goal.at.loop-place-preserved c).After-start_of-from) (turn-b (goal.at.loop-place-preserved c).After-start_of-from))
-          (beyond-test _ (first-within (goal.at.loop-place-preserved c).After-start_of-from) (turn-a (goal.at.loop-place-preserved c).After-start_of-from) (turn-b (goal.at.loop-place-preserved c).After-start_of-from) at.loop-place.invariant.0
-          c.same_words.ensures
-          ∙ held refl (not_from_true _ c.if-not-same_words.false)),
-    )
+loop-place-preserved c = (
+  c.loop-place.invariant.0,
+  alike-lists-more c.loop-place.invariant.1
+      (beyond-inside _ (first-within (goal.at.loop-place-preserved c).After-start_of-from) (turn-a (goal.at.loop-place-preserved c).After-start_of-from) (turn-b (goal.at.loop-place-preserved c).After-start_of-from))
+      (beyond-test _ (first-within (goal.at.loop-place-preserved c).After-start_of-from) (turn-a (goal.at.loop-place-preserved c).After-start_of-from) (turn-b (goal.at.loop-place-preserved c).After-start_of-from) c.loop-place.invariant.0
+      c.same_words.ensures
+      ∙ held refl (not_from_true _ c.if-not-same_words.false)),
+)
 
 pub returns : goal.returns
 returns c =
-    let entry = c in
-    let a = entry.args in
+    let a = c.args in
     alike-lists-end c.loop-place.invariant.1
     (omega (
       arith,

@@ -1,6 +1,6 @@
 -- `comparing::same_words` meets its contract. The loop's invariant: the words before `i` are the same.
 use Prim.Native.Nat.{◌-◌}
-use Rattle.lists.specs.Laws.Comparing.{AlikeWords, words-start, words_more, words-stop, words-end}
+use Rattle.lists.specs.Laws.Comparing.{AlikeWords}
 use Rattle.lists.proofs.comparing.same_words.Given as goal
 
 abbrev pub invariant-loop-i : goal.invariant-loop-i

@@ -1,11 +1,10 @@
 -- `ending::ends_in` meets its contract. The loop's invariant: no path may end with the matrices before `place`.
 use mathlib.Core.Path.{◌≡◌, ap, sym, ◌∙◌}
 use mathlib.Core.List.{[]}
-use Prim.Native.Nat.{◌-◌}
 use lib.ListN.{get_or}
 use Rattle.definitions.specs.Matrices.{ends_here}
 use Rattle.definitions.specs.MatrixLists.{list_ends}
-use Rattle.lines.specs.Laws.Passing.{Missed, missed-start, missed_more, missed-found, missed-end}
+use Rattle.lines.specs.Laws.Passing.{missed-start, missed_more, missed-found, missed-end}
 use Rattle.lists.specs.Held.{list_in}
 use Rattle.lists.specs.Laws.Held.{Turn, turn-of, turns-end}
 use Rattle.lists.specs.Laws.Values.{turn-read}
@@ -31,20 +30,19 @@ module _ (c : goal.After-ends_here) where
       (get_or (list_in c.args.half c.args.list.now) c.loop-place.place [])
       ≡ c.ends_here.result
   tested =
-      ap (ends_here c.args.half) (turn-read (turn c.before.before) c.matrix_from.ensures)
+      ap (ends_here c.args.half) (turn-read (turn-of c.requires c.matrices_in-count.ensures c.loop-place.place
+      c.loop-place-test.true c.start_of.ensures) c.matrix_from.ensures)
       ∙ sym c.ends_here.ensures
 
 pub returns-then-ends_here : goal.returns-then-ends_here
 unfolding list_ends
 returns-then-ends_here c =
-    let told = c in
-    missed-found [] told.loop-place.invariant (turn (goal.at.returns-then-ends_here c).After-start_of).inside
+    missed-found [] c.loop-place.invariant (turn (goal.at.returns-then-ends_here c).After-start_of).inside
     (tested (goal.at.returns-then-ends_here c).After-ends_here ∙ c.if-ends_here.true)
 
 pub loop-place-preserved : goal.loop-place-preserved
 loop-place-preserved c =
-    let told = c in
-    missed_more [] told.loop-place.invariant (turn (goal.at.loop-place-preserved c).After-start_of).inside
+    missed_more [] c.loop-place.invariant (turn (goal.at.loop-place-preserved c).After-start_of).inside
     (tested (goal.at.loop-place-preserved c).After-ends_here ∙ c.if-ends_here.false)
 
 pub returns : goal.returns

@@ -1,14 +1,8 @@
 -- `ending::ends_in` meets its contract. The loop's invariant: no path may end with the matrices before `place`.
-use mathlib.Core.Path.{◌≡◌, ap, sym, ◌∙◌}
-use mathlib.Core.List.{[]}
 use Prim.Native.Nat.{◌-◌}
-use lib.ListN.{get_or}
 use Rattle.definitions.specs.Matrices.{ends_here}
-use Rattle.definitions.specs.MatrixLists.{list_ends}
-use Rattle.lines.specs.Laws.Passing.{Missed, missed-start, missed_more, missed-found, missed-end}
+use Rattle.lines.specs.Laws.Passing.{Missed}
 use Rattle.lists.specs.Held.{list_in}
-use Rattle.lists.specs.Laws.Held.{Turn, turn-of, turns-end}
-use Rattle.lists.specs.Laws.Values.{turn-read}
 use Rattle.lists.proofs.ending.ends_in.Given as goal
 
 abbrev pub invariant-loop-place : goal.invariant-loop-place

@@ -20,11 +20,9 @@ module _ (c : goal.After-valid) where
 
 pub returns-then-not-valid : goal.returns-then-not-valid
 returns-then-not-valid c =
-    let call = c in
-    added-invalid _ (failed (tested (goal.at.returns-then-not-valid c).After-valid) (not_from_false _ c.if-not-valid.true)) call.requires
+    added-invalid _ (failed (tested (goal.at.returns-then-not-valid c).After-valid) (not_from_false _ c.if-not-valid.true)) c.requires
 
 pub returns : goal.returns
 returns c =
-    let call = c in
     added-valid _ (held (tested (goal.at.returns c).After-valid) (not_from_true _ c.if-not-valid.false))
     c.insert.ensures

@@ -13,7 +13,6 @@ use Rattle.lists.proofs.inserting.insert_at.Goals.{After-start_of, Start}
 
 pub returns-then-count-eq8 : goal.returns-then-count-eq8
 returns-then-count-eq8 c =
-    let c = c in
     ninth _ _ c.requires.1 (sym c.matrices_in-count.ensures ∙ c.if-count-eq8.true)
 
 sized : (c : goal.Start) → length c.args.m.columns ≡ 7
@@ -32,32 +31,26 @@ module _ (c : goal.After-start_of) where
 
   fits : (c.start_of-from.result ≤ c.start_of.result)
       × (c.start_of.result + matrix_size c.args.half ≤ length c.args.list.now)
-  fits = gap-fits c.requires.0 _ _ within c c.start_of-from.ensures c.start_of.ensures
+  fits = gap-fits c.requires.0 _ _ within few c.start_of-from.ensures c.start_of.ensures
 
 pub open_gap-requires : goal.open_gap-requires
 open_gap-requires c = ((fits (goal.at.open_gap-requires c).After-start_of).0, omega (arith, (fits (goal.at.open_gap-requires c).After-start_of).1, c.matrix_size.ensures.0))
 
 pub put_columns-requires : goal.put_columns-requires
 put_columns-requires c =
-    let gap = c in
-    let call = gap in
-    let space = call.requires.0.space in (
+    let space = c.requires.0.space in (
       space.narrow,
-      omega (arith, fits (goal.at.put_columns-requires c).After-start_of, gap.open_gap.ensures.sized, wide_enough space),
+      omega (arith, fits (goal.at.put_columns-requires c).After-start_of, c.open_gap.ensures.sized, wide_enough space),
     )
 
 pub shape_of-list : goal.shape_of-list
 shape_of-list c =
-    let put = c in
-    length-set put.put_columns.new.words.0 0 _
-    ∙ put.put_columns.ensures.sized ∙ put.open_gap.ensures.sized
+    length-set c.put_columns.new.words 0 _
+    ∙ c.put_columns.ensures.sized ∙ c.open_gap.ensures.sized
 
 pub returns : goal.returns
 returns c =
-    let put = c in
-    let gap = put in
-    let call = gap in
-    inserted call.requires.0 _ _ (sized (goal.at.returns c).Start) (count_is (goal.at.returns c).After-start_of) (within (goal.at.returns c).After-start_of) (few (goal.at.returns c).After-start_of)
-    call.start_of-from.ensures call.start_of.ensures
-    (gap-as gap.matrix_size.ensures.0 gap.open_gap.ensures)
-    put.put_columns.ensures
+    inserted c.requires.0 _ _ (sized (goal.at.returns c).Start) (count_is (goal.at.returns c).After-start_of) (within (goal.at.returns c).After-start_of) (few (goal.at.returns c).After-start_of)
+    c.start_of-from.ensures c.start_of.ensures
+    (gap-as c.matrix_size.ensures.0 c.open_gap.ensures)
+    c.put_columns.ensures

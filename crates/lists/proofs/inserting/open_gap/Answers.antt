@@ -1,8 +1,6 @@
 -- `inserting::open_gap` meets its contract. The loop's invariant: the words from `i` on are moved.
 use mathlib.Core.Path.{◌≡◌, refl}
-use Prim.Native.Nat.{◌≤◌}
 use native.Mathlib.Omega.{arith}
-use Rattle.lists.specs.Inserting.{Opened}
 use Rattle.lists.specs.Laws.Inserting.{gap-start, gap_more}
 use borrow.Author.Rules.{rules}
 use Rattle.lists.proofs.inserting.open_gap.Goals as goal

@@ -1,9 +1,6 @@
 -- `inserting::open_gap` meets its contract. The loop's invariant: the words from `i` on are moved.
-use mathlib.Core.Path.{◌≡◌, refl}
 use Prim.Native.Nat.{◌≤◌}
-use native.Mathlib.Omega.{arith}
 use Rattle.lists.specs.Inserting.{Opened}
-use Rattle.lists.specs.Laws.Inserting.{gap-start, gap_more}
 use Rattle.lists.proofs.inserting.open_gap.Given as goal
 
 abbrev pub invariant-loop-i : goal.invariant-loop-i

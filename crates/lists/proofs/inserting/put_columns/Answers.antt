@@ -1,9 +1,6 @@
 -- `inserting::put_columns` meets its contract. The loop's invariant: the first `c` columns are written.
-use mathlib.Core.Path.{◌≡◌, refl}
-use Prim.Native.Nat.{◌-◌, ◌≤◌}
+use mathlib.Core.Path.{refl}
 use native.Mathlib.Omega.{arith}
-use Rattle.matrix.specs.Shapes.{width_of}
-use Rattle.lists.specs.Inserting.{Put}
 use Rattle.lists.specs.Laws.Inserting.{put-start, put-more, put_all}
 use borrow.Author.Rules.{rules}
 use Rattle.lists.proofs.inserting.put_columns.Goals as goal

@@ -1,14 +1,11 @@
 -- `joining::hull` meets its contract. The loop's invariant: the matrices before `place` are joined.
-use Prim.Native.Nat.{◌-◌}
-use Rattle.lists.specs.Held.{list_in}
 use Rattle.lists.specs.Laws.Held.{columns-length, Turn, turn-of, turns-end}
-use Rattle.lists.specs.Laws.Joining.{Joined, joined-start, joined-more, joined_end}
+use Rattle.lists.specs.Laws.Joining.{joined-start, joined-more, joined_end}
 use Rattle.lists.proofs.joining.hull.Goals as goal
 use Rattle.lists.proofs.joining.hull.Goals.{After-start_of}
 
 pub loop-place-init : goal.loop-place-init
 loop-place-init c =
-    let c = c in
     joined-start c.requires.space.narrow _
 
 -- a turn's matrix
@@ -24,8 +21,7 @@ join_from-sofar-requires c = (c.requires.space.narrow, (turn (goal.at.join_from-
 
 pub loop-place-preserved : goal.loop-place-preserved
 loop-place-preserved c =
-    let at = c in
-    joined-more at.loop-place.invariant _ (turn (goal.at.loop-place-preserved c).After-start_of).inside (turn (goal.at.loop-place-preserved c).After-start_of).its
+    joined-more c.loop-place.invariant _ (turn (goal.at.loop-place-preserved c).After-start_of).inside (turn (goal.at.loop-place-preserved c).After-start_of).its
     (columns-length _ _ _ (turn (goal.at.loop-place-preserved c).After-start_of).there) c.join_from-sofar.ensures
 
 pub returns : goal.returns

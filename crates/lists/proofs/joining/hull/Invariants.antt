@@ -1,8 +1,7 @@
 -- `joining::hull` meets its contract. The loop's invariant: the matrices before `place` are joined.
 use Prim.Native.Nat.{◌-◌}
 use Rattle.lists.specs.Held.{list_in}
-use Rattle.lists.specs.Laws.Held.{columns-length, Turn, turn-of, turns-end}
-use Rattle.lists.specs.Laws.Joining.{Joined, joined-start, joined-more, joined_end}
+use Rattle.lists.specs.Laws.Joining.{Joined}
 use Rattle.lists.proofs.joining.hull.Given as goal
 
 abbrev pub invariant-loop-place : goal.invariant-loop-place

@@ -1,14 +1,9 @@
 -- `joining::join_from` meets its contract. The loop's invariant: the first `c` columns are joined.
 use mathlib.Core.Path.{◌≡◌}
-use Prim.Native.Nat.{◌-◌, ◌≤◌}
 use native.Mathlib.Omega.{arith}
 use lib.ListN.{length}
-use Rattle.definitions.specs.Matrices.{most_columns, matrix_words}
+use Rattle.definitions.specs.Matrices.{most_columns}
 use Rattle.lines.specs.Laws.Filling.{filled-start}
-use Rattle.matrix.specs.Shapes.{width_of, matrix_in}
-use Rattle.matrix.specs.Laws.Words.{Columns}
-use Rattle.lists.specs.Held.{columns_at}
-use Rattle.lists.specs.Joining.{join}
 use Rattle.lists.specs.Laws.Joining.{joined_length, joined-column}
 use Rattle.lists.specs.Laws.Values.{made_more, made-end}
 use borrow.Author.Rules.{rules}
@@ -23,22 +18,19 @@ sized c = search rules
 
 pub loop-c-preserved : goal.loop-c-preserved
 loop-c-preserved c =
-    let turn = c in
-    let start = turn in
-    let a = start.args in (
-      turn.loop-c.invariant.0,
+    let a = c.args in (
+      c.loop-c.invariant.0,
       search rules,
-      made_more start.requires.0 _
-          (joined_length start.requires.0 a.m.columns (sized (goal.at.loop-c-preserved c).Start) a.words.now a.from start.requires.1)
-          turn.loop-c.invariant.2 (omega arith)
-          (joined-column start.requires.0 a.m.columns (sized (goal.at.loop-c-preserved c).Start) a.words.now a.from start.requires.1 _
+      made_more c.requires.0 _
+          (joined_length c.requires.0 a.m.columns (sized (goal.at.loop-c-preserved c).Start) a.words.now a.from c.requires.1)
+          c.loop-c.invariant.2 (omega arith)
+          (joined-column c.requires.0 a.m.columns (sized (goal.at.loop-c-preserved c).Start) a.words.now a.from c.requires.1 _
           (omega arith)),
     )
 
 pub returns : goal.returns
 returns c =
-    let start = c in
-    let a = start.args in
-    made-end start.requires.0 _
-    (joined_length start.requires.0 a.m.columns (sized (goal.at.returns c).Start) a.words.now a.from start.requires.1)
+    let a = c.args in
+    made-end c.requires.0 _
+    (joined_length c.requires.0 a.m.columns (sized (goal.at.returns c).Start) a.words.now a.from c.requires.1)
     c.loop-c.invariant.2 (omega arith)

@@ -1,16 +1,11 @@
 -- `joining::join_from` meets its contract. The loop's invariant: the first `c` columns are joined.
 use mathlib.Core.Path.{◌≡◌}
 use Prim.Native.Nat.{◌-◌, ◌≤◌}
-use native.Mathlib.Omega.{arith}
-use lib.ListN.{length}
-use Rattle.definitions.specs.Matrices.{most_columns, matrix_words}
-use Rattle.lines.specs.Laws.Filling.{filled-start}
+use Rattle.definitions.specs.Matrices.{matrix_words}
 use Rattle.matrix.specs.Shapes.{width_of, matrix_in}
 use Rattle.matrix.specs.Laws.Words.{Columns}
 use Rattle.lists.specs.Held.{columns_at}
 use Rattle.lists.specs.Joining.{join}
-use Rattle.lists.specs.Laws.Joining.{joined_length, joined-column}
-use Rattle.lists.specs.Laws.Values.{made_more, made-end}
 use Rattle.lists.proofs.joining.join_from.Given as goal
 
 abbrev pub invariant-loop-c : goal.invariant-loop-c

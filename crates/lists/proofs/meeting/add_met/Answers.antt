@@ -16,26 +16,22 @@ seven c = search rules
 
 pub returns-then-met-eq0 : goal.returns-then-met-eq0
 returns-then-met-eq0 c =
-    let met = c in
-    let a = met.args in
+    let a = c.args in
     added-invalid _
-    (met-none met.requires.1.space.narrow a.m.columns (seven (goal.at.returns-then-met-eq0 c).Start) _
-    (columns-length a.half a.words.now a.from met.requires.0)
-    met.matrix_from.ensures met.width_of.ensures.0 met.meet-meeting.ensures.matrix
+    (met-none c.requires.1.space.narrow a.m.columns (seven (goal.at.returns-then-met-eq0 c).Start) _
+    (columns-length a.half a.words.now a.from c.requires.0)
+    c.matrix_from.ensures c.width_of.ensures.0 c.meet-meeting.ensures.matrix
     c.if-met-eq0.true)
-    met.requires.1
+    c.requires.1
 
 pub returns : goal.returns
 returns c =
-    let call = c in
-    let other = call in
-    let met = other in
-    let a = met.args in
-    let x = columns-length a.half a.words.now a.from met.requires.0 in
-    let read = met.matrix_from.ensures in
-    let width = met.width_of.ensures.0 in
-    let narrow = met.requires.1.space.narrow in
+    let a = c.args in
+    let x = columns-length a.half a.words.now a.from c.requires.0 in
+    let read = c.matrix_from.ensures in
+    let width = c.width_of.ensures.0 in
+    let narrow = c.requires.1.space.narrow in
     added-valid _
-    (met_some narrow a.m.columns (seven (goal.at.returns c).Start) _ x read width met.meet-meeting.ensures.matrix other.if-met-eq0.false)
-    (rw (met-is narrow a.m.columns (seven (goal.at.returns c).Start) _ x read width met.meet-meeting.ensures.matrix
-    other.if-met-eq0.false) at call.insert.ensures)
+    (met_some narrow a.m.columns (seven (goal.at.returns c).Start) _ x read width c.meet-meeting.ensures.matrix c.if-met-eq0.false)
+    (rw (met-is narrow a.m.columns (seven (goal.at.returns c).Start) _ x read width c.meet-meeting.ensures.matrix
+    c.if-met-eq0.false) at c.insert.ensures)

@@ -1,9 +1,8 @@
 -- `meeting::lists_meet` meets its contract. The loop's invariant: the matrices before `place` meet none.
 use mathlib.Core.Path.{◌≡◌, ap, sym, ◌∙◌}
 use mathlib.Core.List.{[]}
-use Prim.Native.Nat.{◌-◌}
 use lib.ListN.{get_or}
-use Rattle.lines.specs.Laws.Passing.{Missed, missed-start, missed_more, missed-found, missed-end}
+use Rattle.lines.specs.Laws.Passing.{missed-start, missed_more, missed-found, missed-end}
 use Rattle.lists.specs.Held.{list_in}
 use Rattle.lists.specs.Meeting.{meets_some}
 use Rattle.lists.specs.Laws.Held.{Turn, turn-of, turns-end}
@@ -32,20 +31,19 @@ module _ (c : goal.After-meets_one) where
       ≡ c.meets_one.result
   tested =
       ap (meets_some (list_in c.args.half c.args.b.now))
-      (turn-read (turn c.before.before) c.matrix_from.ensures)
+      (turn-read (turn-of c.requires.0 c.matrices_in-count.ensures c.loop-place.place
+      c.loop-place-test.true c.start_of.ensures) c.matrix_from.ensures)
       ∙ sym c.meets_one.ensures
 
 pub returns-then-meets_one : goal.returns-then-meets_one
 returns-then-meets_one c =
-    let met = c in
-    missed-found [] met.loop-place.invariant (turn (goal.at.returns-then-meets_one c).After-start_of).inside
+    missed-found [] c.loop-place.invariant (turn (goal.at.returns-then-meets_one c).After-start_of).inside
     (tested (goal.at.returns-then-meets_one c).After-meets_one ∙ c.if-meets_one.true)
     ∙ meet-some _ _
 
 pub loop-place-preserved : goal.loop-place-preserved
 loop-place-preserved c =
-    let met = c in
-    missed_more [] met.loop-place.invariant (turn (goal.at.loop-place-preserved c).After-start_of).inside
+    missed_more [] c.loop-place.invariant (turn (goal.at.loop-place-preserved c).After-start_of).inside
     (tested (goal.at.loop-place-preserved c).After-meets_one ∙ c.if-meets_one.false)
 
 pub returns : goal.returns

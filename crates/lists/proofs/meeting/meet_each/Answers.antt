@@ -1,16 +1,12 @@
 -- `meeting::meet_each` meets its contract. The loop's invariant: the meets with the matrices before `place`
 -- are in.
 use mathlib.Core.Path.{refl, ap, ◌∙◌}
-use mathlib.Core.List.{map}
-use Prim.Native.Nat.{◌-◌}
-use Rattle.definitions.specs.Matrices.{meet}
 use Rattle.definitions.specs.MatrixLists.{gather}
 use Rattle.definitions.proofs.Laws.Lists.Tests.{held, failed}
-use Rattle.matrix.specs.Shapes.{matrix_in}
 use Rattle.lists.specs.Held.{list_in}
 use Rattle.lists.specs.Laws.Held.{Turn, turn-of, turns-end}
-use Rattle.lists.specs.Laws.Meeting.{Gathered, gathered-start, gathered-more, gathered-stop, gathered-end}
-use Rattle.lists.specs.Laws.Meeting.{met_alone, met-each}
+use Rattle.lists.specs.Laws.Meeting.{gathered-start, gathered-more, gathered-stop, gathered-end}
+use Rattle.lists.specs.Laws.Meeting.{met-each}
 use Rattle.std.proofs.lemmas.Bool.{not_from_true}
 use Rattle.std.proofs.lemmas.Bool.{not_from_false}
 use Rattle.lists.proofs.meeting.meet_each.Goals as goal
@@ -26,35 +22,28 @@ module _ (c : goal.After-start_of) where
 
 pub loop-place-init : goal.loop-place-init
 loop-place-init c =
-    let c = c in
     gathered-start _ _ c.requires.1
     (ap (gather (list_in c.args.half c.args.out.now)) (met-each _ _))
 
 pub add_met-requires : goal.add_met-requires
 add_met-requires c =
-    let head = c in
-    ((turn (goal.at.add_met-requires c).After-start_of).there, head.loop-place.invariant.holds)
+    ((turn (goal.at.add_met-requires c).After-start_of).there, c.loop-place.invariant.holds)
 
 pub shape_of-out-then-not-add_met : goal.shape_of-out-then-not-add_met
 shape_of-out-then-not-add_met c =
-    let call = c in
-    call.add_met.ensures.sized ∙ call.loop-place.invariant.sized
+    c.add_met.ensures.sized ∙ c.loop-place.invariant.sized
 
 pub returns-then-not-add_met : goal.returns-then-not-add_met
 unfolding gather
 returns-then-not-add_met c =
-    let call = c in
-    let at = call in
-    gathered-stop at.loop-place.invariant (turn (goal.at.returns-then-not-add_met c).After-start_of).inside _ (turn (goal.at.returns-then-not-add_met c).After-start_of).its
-    (failed refl (not_from_false _ c.if-not-add_met.true)) call.add_met.ensures
+    gathered-stop c.loop-place.invariant (turn (goal.at.returns-then-not-add_met c).After-start_of).inside _ (turn (goal.at.returns-then-not-add_met c).After-start_of).its
+    (failed refl (not_from_false _ c.if-not-add_met.true)) c.add_met.ensures
 
 pub loop-place-preserved : goal.loop-place-preserved
 unfolding gather
 loop-place-preserved c =
-    let call = c in
-    let at = call in
-    gathered-more at.loop-place.invariant (turn (goal.at.loop-place-preserved c).After-start_of).inside _ (turn (goal.at.loop-place-preserved c).After-start_of).its
-    (held refl (not_from_true _ c.if-not-add_met.false)) call.add_met.ensures
+    gathered-more c.loop-place.invariant (turn (goal.at.loop-place-preserved c).After-start_of).inside _ (turn (goal.at.loop-place-preserved c).After-start_of).its
+    (held refl (not_from_true _ c.if-not-add_met.false)) c.add_met.ensures
 
 pub shape_of-out : goal.shape_of-out
 shape_of-out c = c.loop-place.invariant.sized

@@ -1,16 +1,13 @@
 -- `meeting::meet_each` meets its contract. The loop's invariant: the meets with the matrices before `place`
 -- are in.
-use mathlib.Core.Path.{refl, ap, ◌∙◌}
 use mathlib.Core.List.{map}
 use Prim.Native.Nat.{◌-◌}
 use Rattle.definitions.specs.Matrices.{meet}
 use Rattle.definitions.specs.MatrixLists.{gather}
-use Rattle.definitions.proofs.Laws.Lists.Tests.{held, failed}
 use Rattle.matrix.specs.Shapes.{matrix_in}
 use Rattle.lists.specs.Held.{list_in}
-use Rattle.lists.specs.Laws.Held.{Turn, turn-of, turns-end}
-use Rattle.lists.specs.Laws.Meeting.{Gathered, gathered-start, gathered-more, gathered-stop, gathered-end}
-use Rattle.lists.specs.Laws.Meeting.{met_alone, met-each}
+use Rattle.lists.specs.Laws.Meeting.{Gathered}
+use Rattle.lists.specs.Laws.Meeting.{met_alone}
 use Rattle.lists.proofs.meeting.meet_each.Given as goal
 
 abbrev pub invariant-loop-place : goal.invariant-loop-place

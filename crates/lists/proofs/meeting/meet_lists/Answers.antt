@@ -2,14 +2,13 @@
 -- are in.
 use mathlib.Core.Path.{refl, ap, sym, ◌∙◌}
 use mathlib.Core.List.{List}
-use Prim.Native.Nat.{◌-◌}
 use lib.ListN.{length-set}
 use Rattle.definitions.specs.Matrices.{Matrix}
 use Rattle.definitions.specs.MatrixLists.{gather, pairs_met, meet_lists}
 use Rattle.definitions.proofs.Laws.Lists.Tests.{held, failed}
 use Rattle.lists.specs.Held.{list_in}
 use Rattle.lists.specs.Laws.Held.{Turn, turn-of, turns-end, became-from, emptied-holds, emptied-list}
-use Rattle.lists.specs.Laws.Meeting.{Gathered, gathered-start, gathered-more, gathered-stop, gathered-end}
+use Rattle.lists.specs.Laws.Meeting.{gathered-start, gathered-more, gathered-stop, gathered-end}
 use Rattle.lists.specs.Laws.Meeting.{met_with}
 use Rattle.lists.specs.Laws.Values.{turn-read}
 use Rattle.std.proofs.lemmas.Bool.{not_from_true}
@@ -28,7 +27,6 @@ module _ (c : goal.After-start_of) where
 pub loop-place-init : goal.loop-place-init
 unfolding meet_lists
 loop-place-init c =
-    let c = c in
     let b : List Matrix = list_in c.args.half c.args.b.now in
     let a : List Matrix = list_in c.args.half c.args.a.now in
     gathered-start (met_with b) a (emptied-holds c.requires.2)
@@ -39,41 +37,32 @@ matrix_from-requires c = (c.requires.0.space.narrow, (turn (goal.at.matrix_from-
 
 pub meet_each-requires : goal.meet_each-requires
 meet_each-requires c =
-    let at = c in
-    (at.requires.1, at.loop-place.invariant.holds)
+    (c.requires.1, c.loop-place.invariant.holds)
 
 pub shape_of-out-then-not-meet_each : goal.shape_of-out-then-not-meet_each
 shape_of-out-then-not-meet_each c =
-    let call = c in
-    let at = call in
-    call.meet_each.ensures.sized ∙ at.loop-place.invariant.sized
-    ∙ length-set at.args.out.now 0 0
+    c.meet_each.ensures.sized ∙ c.loop-place.invariant.sized
+    ∙ length-set c.args.out.now 0 0
 
 pub returns-then-not-meet_each : goal.returns-then-not-meet_each
 returns-then-not-meet_each c =
-    let call = c in
-    let at = call in
-    became-from (length-set at.args.out.now 0 0)
-    (gathered-stop at.loop-place.invariant (turn (goal.at.returns-then-not-meet_each c).After-start_of).inside _
-    (turn-read (turn (goal.at.returns-then-not-meet_each c).After-start_of) call.matrix_from.ensures)
-    (failed refl (not_from_false _ c.if-not-meet_each.true)) call.meet_each.ensures)
+    became-from (length-set c.args.out.now 0 0)
+    (gathered-stop c.loop-place.invariant (turn (goal.at.returns-then-not-meet_each c).After-start_of).inside _
+    (turn-read (turn (goal.at.returns-then-not-meet_each c).After-start_of) c.matrix_from.ensures)
+    (failed refl (not_from_false _ c.if-not-meet_each.true)) c.meet_each.ensures)
 
 pub loop-place-preserved : goal.loop-place-preserved
 loop-place-preserved c =
-    let call = c in
-    let at = call in
-    gathered-more at.loop-place.invariant (turn (goal.at.loop-place-preserved c).After-start_of).inside _
-    (turn-read (turn (goal.at.loop-place-preserved c).After-start_of) call.matrix_from.ensures)
-    (held refl (not_from_true _ c.if-not-meet_each.false)) call.meet_each.ensures
+    gathered-more c.loop-place.invariant (turn (goal.at.loop-place-preserved c).After-start_of).inside _
+    (turn-read (turn (goal.at.loop-place-preserved c).After-start_of) c.matrix_from.ensures)
+    (held refl (not_from_true _ c.if-not-meet_each.false)) c.meet_each.ensures
 
 pub shape_of-out : goal.shape_of-out
 shape_of-out c =
-    let c = c in
     c.loop-place.invariant.sized ∙ length-set c.args.out.now 0 0
 
 pub returns : goal.returns
 returns c =
-    let c = c in
     became-from (length-set c.args.out.now 0 0)
     (gathered-end c.loop-place.invariant
     (turns-end c.requires.0 c.matrices_in-count.ensures _ c.loop-place-test.false))

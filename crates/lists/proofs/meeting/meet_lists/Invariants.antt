@@ -1,17 +1,10 @@
 -- `meeting::meet_lists` meets its contract. The loop's invariant: the meets of the matrices before `place`
 -- are in.
-use mathlib.Core.Path.{refl, ap, sym, ◌∙◌}
-use mathlib.Core.List.{List}
 use Prim.Native.Nat.{◌-◌}
-use lib.ListN.{length-set}
-use Rattle.definitions.specs.Matrices.{Matrix}
-use Rattle.definitions.specs.MatrixLists.{gather, pairs_met, meet_lists}
-use Rattle.definitions.proofs.Laws.Lists.Tests.{held, failed}
+use Rattle.definitions.specs.MatrixLists.{meet_lists}
 use Rattle.lists.specs.Held.{list_in}
-use Rattle.lists.specs.Laws.Held.{Turn, turn-of, turns-end, became-from, emptied-holds, emptied-list}
-use Rattle.lists.specs.Laws.Meeting.{Gathered, gathered-start, gathered-more, gathered-stop, gathered-end}
+use Rattle.lists.specs.Laws.Meeting.{Gathered}
 use Rattle.lists.specs.Laws.Meeting.{met_with}
-use Rattle.lists.specs.Laws.Values.{turn-read}
 use Rattle.lists.proofs.meeting.meet_lists.Given as goal
 
 abbrev pub invariant-loop-place : goal.invariant-loop-place

@@ -1,10 +1,9 @@
 -- `meeting::meets_one` meets its contract. The loop's invariant: the matrices before `place` are not met.
 use mathlib.Core.Path.{◌≡◌, ap, sym, ◌∙◌}
 use mathlib.Core.List.{[]}
-use Prim.Native.Nat.{◌-◌}
 use native.Mathlib.Omega.{arith}
 use lib.ListN.{get_or}
-use Rattle.lines.specs.Laws.Passing.{Missed, missed-start, missed_more, missed-found, missed-end}
+use Rattle.lines.specs.Laws.Passing.{missed-start, missed_more, missed-found, missed-end}
 use Rattle.matrix.specs.Shapes.{matrix_in}
 use Rattle.matrix.specs.Laws.Meeting.{met-test}
 use Rattle.lists.specs.Held.{list_in}
@@ -35,19 +34,19 @@ module _ (c : goal.After-meets) where
       (get_or (list_in c.args.half c.args.list.now) c.loop-place.place [])
       ≡ c.meets.result
   tested =
-      ap (meets_by (matrix_in c.args.half c.args.m.columns)) (turn c.before.before.before).its
-      ∙ sym (met-test c.args.m.columns _ (columns-length _ _ _ (turn c.before.before.before).there)
+      let here = turn-of c.requires c.matrices_in-count.ensures c.loop-place.place
+      c.loop-place-test.true c.start_of.ensures in
+      ap (meets_by (matrix_in c.args.half c.args.m.columns)) here.its
+      ∙ sym (met-test c.args.m.columns _ (columns-length _ _ _ here.there)
       c.matrix_from-other.ensures c.width_of.ensures.0 c.meets.ensures)
 
 pub returns-then-meets : goal.returns-then-meets
 returns-then-meets c =
-    let met = c in
-    missed-found [] met.loop-place.invariant (turn (goal.at.returns-then-meets c).After-start_of).inside (tested (goal.at.returns-then-meets c).After-meets ∙ c.if-meets.true)
+    missed-found [] c.loop-place.invariant (turn (goal.at.returns-then-meets c).After-start_of).inside (tested (goal.at.returns-then-meets c).After-meets ∙ c.if-meets.true)
 
 pub loop-place-preserved : goal.loop-place-preserved
 loop-place-preserved c =
-    let met = c in
-    missed_more [] met.loop-place.invariant (turn (goal.at.loop-place-preserved c).After-start_of).inside (tested (goal.at.loop-place-preserved c).After-meets ∙ c.if-meets.false)
+    missed_more [] c.loop-place.invariant (turn (goal.at.loop-place-preserved c).After-start_of).inside (tested (goal.at.loop-place-preserved c).After-meets ∙ c.if-meets.false)
 
 pub returns : goal.returns
 returns c =

@@ -1,15 +1,9 @@
 -- `meeting::meets_one` meets its contract. The loop's invariant: the matrices before `place` are not met.
-use mathlib.Core.Path.{◌≡◌, ap, sym, ◌∙◌}
-use mathlib.Core.List.{[]}
 use Prim.Native.Nat.{◌-◌}
-use native.Mathlib.Omega.{arith}
-use lib.ListN.{get_or}
-use Rattle.lines.specs.Laws.Passing.{Missed, missed-start, missed_more, missed-found, missed-end}
+use Rattle.lines.specs.Laws.Passing.{Missed}
 use Rattle.matrix.specs.Shapes.{matrix_in}
-use Rattle.matrix.specs.Laws.Meeting.{met-test}
 use Rattle.lists.specs.Held.{list_in}
 use Rattle.lists.specs.Meeting.{meets_by}
-use Rattle.lists.specs.Laws.Held.{columns-length, Turn, turn-of, turns-end}
 use Rattle.lists.proofs.meeting.meets_one.Given as goal
 
 abbrev pub invariant-loop-place : goal.invariant-loop-place

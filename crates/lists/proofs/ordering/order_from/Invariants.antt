@@ -1,11 +1,8 @@
 -- `ordering::order_from` meets its contract. The loop's invariant: the columns before `c` are the same.
 use mathlib.Core.Path.{◌≡◌}
-use Prim.Native.Nat.{◌-◌, ◌<◌}
-use native.Mathlib.Omega.{arith}
-use lib.ListN.{length}
+use Prim.Native.Nat.{◌-◌}
 use Rattle.matrix.specs.Shapes.{width_of}
-use Rattle.lists.specs.Laws.Ordering.{Compared, compared-start, compared-less, compared-more}
-use Rattle.lists.specs.Laws.Ordering.{compared_same, compared-end}
+use Rattle.lists.specs.Laws.Ordering.{Compared}
 use Rattle.lists.proofs.ordering.order_from.Given as goal
 
 abbrev pub invariant-loop-c : goal.invariant-loop-c

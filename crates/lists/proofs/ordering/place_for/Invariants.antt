@@ -1,13 +1,9 @@
 -- `ordering::place_for` meets its contract. The loop's invariant: the matrix belongs after those before
 -- `place`.
-use mathlib.Core.Path.{◌≡◌}
 use Prim.Native.Nat.{◌-◌}
-use native.Mathlib.Omega.{arith}
 use Rattle.matrix.specs.Shapes.{matrix_in}
 use Rattle.lists.specs.Held.{list_in}
-use Rattle.lists.specs.Laws.Held.{Turn, turn-of, turns-end, list_length}
-use Rattle.lists.specs.Laws.Ordering.{AfterFirst, place-start, place-more, place_here, place_known}
-use Rattle.lists.specs.Laws.Ordering.{place_end}
+use Rattle.lists.specs.Laws.Ordering.{AfterFirst}
 use Rattle.lists.proofs.ordering.place_for.Given as goal
 
 abbrev pub invariant-loop-place : goal.invariant-loop-place

@@ -1,14 +1,10 @@
 -- `places::matrix_from` meets its contract. The loop's invariant: the first `c` columns are read.
-use mathlib.Core.Path.{◌≡◌, sym}
+use mathlib.Core.Path.{◌≡◌}
 use Prim.Native.Nat.{◌-◌, ◌≤◌}
-use native.Mathlib.Omega.{arith}
 use Rattle.definitions.specs.Matrices.{matrix_words}
-use Rattle.lines.specs.Laws.Filling.{filled-start}
 use Rattle.matrix.specs.Shapes.{width_of}
 use Rattle.matrix.specs.Laws.Words.{Columns}
 use Rattle.lists.specs.Held.{columns_at}
-use Rattle.lists.specs.Laws.Held.{columns-at, columns-length}
-use Rattle.lists.specs.Laws.Values.{made_more, made-end}
 use Rattle.lists.proofs.places.matrix_from.Given as goal
 
 abbrev pub invariant-loop-c : goal.invariant-loop-c

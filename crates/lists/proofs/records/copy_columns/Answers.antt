@@ -1,10 +1,6 @@
 -- `records::copy_columns` meets its contract. The loop's invariant: the first `c` columns are written.
-use mathlib.Core.Path.{◌≡◌, sym}
-use Prim.Native.Nat.{◌-◌, ◌≤◌}
+use mathlib.Core.Path.{sym}
 use native.Mathlib.Omega.{arith}
-use Rattle.matrix.specs.Shapes.{width_of}
-use Rattle.lists.specs.Held.{columns_at}
-use Rattle.lists.specs.Inserting.{Put}
 use Rattle.lists.specs.Laws.Held.{columns-at}
 use Rattle.lists.specs.Laws.Inserting.{put-start, put-more, put_all}
 use borrow.Author.Rules.{rules}
@@ -15,11 +11,10 @@ loop-c-init c = (c.width_of-width.ensures.0, omega arith, put-start _ _ _)
 
 pub loop-c-preserved : goal.loop-c-preserved
 loop-c-preserved c =
-    let turn = c in
-    let a = turn.args in (
-      turn.loop-c.invariant.0,
+    let a = c.args in (
+      c.loop-c.invariant.0,
       search rules,
-      put-more turn.loop-c.invariant.2 (search rules)
+      put-more c.loop-c.invariant.2 (search rules)
           (sym (columns-at a.half a.words.now a.from _ (omega arith))),
     )
 

@@ -1,12 +1,9 @@
 -- `records::copy_columns` meets its contract. The loop's invariant: the first `c` columns are written.
-use mathlib.Core.Path.{◌≡◌, sym}
+use mathlib.Core.Path.{◌≡◌}
 use Prim.Native.Nat.{◌-◌, ◌≤◌}
-use native.Mathlib.Omega.{arith}
 use Rattle.matrix.specs.Shapes.{width_of}
 use Rattle.lists.specs.Held.{columns_at}
 use Rattle.lists.specs.Inserting.{Put}
-use Rattle.lists.specs.Laws.Held.{columns-at}
-use Rattle.lists.specs.Laws.Inserting.{put-start, put-more, put_all}
 use Rattle.lists.proofs.records.copy_columns.Given as goal
 
 abbrev pub invariant-loop-c : goal.invariant-loop-c

@@ -1,23 +1,19 @@
 -- `records::put_list` meets its contract. The loop's invariant: the matrices before `place` are written.
 use mathlib.Core.Path.{refl, sym, ◌∙◌}
-use Prim.Native.Nat.{◌-◌}
 use native.Mathlib.Omega.{arith}
-use Rattle.lists.specs.Held.{list_in}
 use Rattle.lists.specs.Laws.Held.{Turn, turn-of, turns-end, list_length, list-few, columns-length}
 use Rattle.lists.specs.Laws.Held.{room_at}
-use Rattle.lists.specs.Laws.Records.{Written, cleared-sized, written_start, written-more, written-room}
+use Rattle.lists.specs.Laws.Records.{cleared-sized, written_start, written-more, written-room}
 use Rattle.lists.specs.Laws.Records.{written-sized, written-end}
 use Rattle.lists.proofs.records.put_list.Goals as goal
 use Rattle.lists.proofs.records.put_list.Goals.{After-start_of}
 
 pub bounds-out-0 : goal.bounds-out-0
 bounds-out-0 c =
-    let c = c in
     omega (arith, cleared-sized c.args.half c.requires.1)
 
 pub loop-place-init : goal.loop-place-init
 loop-place-init c =
-    let c = c in
     written_start _ _ c.requires.1 (c.matrices_in-count.ensures ∙ sym (list_length _ _))
 
 -- a turn's matrix
@@ -30,35 +26,30 @@ module _ (c : goal.After-start_of) where
 
 pub copy_columns-requires : goal.copy_columns-requires
 copy_columns-requires c =
-    let at = c in
-    let r = at.requires.0 in
+    let r = c.requires.0 in
     let few = list-few r in
     let inside = (turn (goal.at.copy_columns-requires c).After-start_of).inside in
-    let held = at.loop-place.invariant in (
+    let held = c.loop-place.invariant in (
       r.space.narrow,
       (turn (goal.at.copy_columns-requires c).After-start_of).there,
-      room_at (written-room r.space.narrow held few) at.loop-place.out refl _
-          (omega arith) at.start_of.ensures,
+      room_at (written-room r.space.narrow held few) c.loop-place.out refl _
+          (omega arith) c.start_of.ensures,
     )
 
 pub loop-place-preserved : goal.loop-place-preserved
 loop-place-preserved c =
-    let call = c in
-    let at = call in
-    let a = at.args in
-    let r = at.requires.0 in
-    written-more r.space.narrow at.loop-place.invariant (list-few r) _ (turn (goal.at.loop-place-preserved c).After-start_of).inside (turn (goal.at.loop-place-preserved c).After-start_of).its
-    (columns-length a.half a.list.now _ (turn (goal.at.loop-place-preserved c).After-start_of).there) at.start_of.ensures
-    call.copy_columns.ensures
+    let a = c.args in
+    let r = c.requires.0 in
+    written-more r.space.narrow c.loop-place.invariant (list-few r) _ (turn (goal.at.loop-place-preserved c).After-start_of).inside (turn (goal.at.loop-place-preserved c).After-start_of).its
+    (columns-length a.half a.list.now _ (turn (goal.at.loop-place-preserved c).After-start_of).there) c.start_of.ensures
+    c.copy_columns.ensures
 
 pub shape_of-out : goal.shape_of-out
 shape_of-out c =
-    let c = c in
     written-sized c.requires.0.space.narrow c.loop-place.invariant (list-few c.requires.0)
     ∙ sym (cleared-sized c.args.half c.requires.1)
 
 pub returns : goal.returns
 returns c =
-    let c = c in
     written-end c.requires.0.space.narrow c.loop-place.invariant
     (turns-end c.requires.0 c.matrices_in-count.ensures _ c.loop-place-test.false)

@@ -1,12 +1,9 @@
 -- `shifting::shift_columns` meets its contract. The loop's invariant: the first `c` columns are written.
 use mathlib.Core.Path.{◌≡◌, ◌∙◌}
-use Prim.Native.Nat.{◌+◌, ◌-◌, ◌≤◌}
+use Prim.Native.Nat.{◌+◌}
 use native.Mathlib.Omega.{arith}
 use lib.ListN.{length-set}
 use Rattle.matrix.specs.Shapes.{width_of}
-use Rattle.lists.specs.Held.{columns_at}
-use Rattle.lists.specs.Inserting.{Put}
-use Rattle.lists.specs.Shifting.{shifted_by}
 use Rattle.lists.specs.Laws.Inserting.{put-start, put-more, put_all}
 use Rattle.lists.specs.Laws.Shifting.{shifted-word, shifted_end}
 use borrow.Author.Rules.{rules}
@@ -17,13 +14,11 @@ loop-c-init c = (c.width_of-width.ensures.0, omega (arith, c.width_of-width.ensu
 
 pub loop-c-preserved : goal.loop-c-preserved
 loop-c-preserved c =
-    let turn = c in
-    let start = turn in
-    let a = start.args in (
-      turn.loop-c.invariant.0,
+    let a = c.args in (
+      c.loop-c.invariant.0,
       search rules,
-      put-more turn.loop-c.invariant.2 (omega arith)
-          (shifted-word a.all a.half a.words.now a.from start.requires.1 _ (omega arith)),
+      put-more c.loop-c.invariant.2 (omega arith)
+          (shifted-word a.all a.half a.words.now a.from c.requires.1 _ (omega arith)),
     )
 
 pub shape_of-out : goal.shape_of-out
@@ -31,10 +26,9 @@ shape_of-out c = length-set c.loop-c.out _ _ ∙ c.loop-c.invariant.2.sized
 
 pub returns : goal.returns
 returns c =
-    let start = c in
-    let a = start.args in
+    let a = c.args in
     let all : c.loop-c.c + 1 ≡ width_of a.half = omega arith in
     put_all
     (put-more c.loop-c.invariant.2 (omega arith)
-    (shifted_end a.all a.half a.words.now a.from start.requires.1 _ all))
+    (shifted_end a.all a.half a.words.now a.from c.requires.1 _ all))
     all

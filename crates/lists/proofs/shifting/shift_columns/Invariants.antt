@@ -1,14 +1,10 @@
 -- `shifting::shift_columns` meets its contract. The loop's invariant: the first `c` columns are written.
-use mathlib.Core.Path.{◌≡◌, ◌∙◌}
+use mathlib.Core.Path.{◌≡◌}
 use Prim.Native.Nat.{◌+◌, ◌-◌, ◌≤◌}
-use native.Mathlib.Omega.{arith}
-use lib.ListN.{length-set}
 use Rattle.matrix.specs.Shapes.{width_of}
 use Rattle.lists.specs.Held.{columns_at}
 use Rattle.lists.specs.Inserting.{Put}
 use Rattle.lists.specs.Shifting.{shifted_by}
-use Rattle.lists.specs.Laws.Inserting.{put-start, put-more, put_all}
-use Rattle.lists.specs.Laws.Shifting.{shifted-word, shifted_end}
 use Rattle.lists.proofs.shifting.shift_columns.Given as goal
 
 abbrev pub invariant-loop-c : goal.invariant-loop-c

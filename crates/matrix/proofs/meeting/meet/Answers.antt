@@ -1,10 +1,9 @@
 -- `meeting::meet` meets its contract. The loop's invariant: the columns before `c` were met, and none is empty.
 use mathlib.Core.Path.{◌≡◌, sym, ◌∙◌}
-use Prim.Native.Nat.{◌-◌}
 use native.Mathlib.Omega.{arith}
 use lib.ListN.{length, take, length-take}
 use Rattle.definitions.specs.Meeting.{columns_met, met_words}
-use Rattle.matrix.specs.Laws.Meeting.{Meeting, meeting-start, meeting-more, meeting-empty, meeting-last}
+use Rattle.matrix.specs.Laws.Meeting.{meeting-start, meeting-more, meeting-empty, meeting-last}
 use borrow.Author.Rules.{rules}
 use Rattle.matrix.proofs.meeting.meet.Goals as goal
 use Rattle.matrix.proofs.meeting.meet.Goals.{At-loop-c, Start}

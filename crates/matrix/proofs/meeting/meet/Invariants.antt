@@ -1,10 +1,6 @@
 -- `meeting::meet` meets its contract. The loop's invariant: the columns before `c` were met, and none is empty.
-use mathlib.Core.Path.{◌≡◌, sym, ◌∙◌}
 use Prim.Native.Nat.{◌-◌}
-use native.Mathlib.Omega.{arith}
-use lib.ListN.{length, take, length-take}
-use Rattle.definitions.specs.Meeting.{columns_met, met_words}
-use Rattle.matrix.specs.Laws.Meeting.{Meeting, meeting-start, meeting-more, meeting-empty, meeting-last}
+use Rattle.matrix.specs.Laws.Meeting.{Meeting}
 use Rattle.matrix.proofs.meeting.meet.Given as goal
 
 abbrev pub invariant-loop-c : goal.invariant-loop-c

@@ -1,12 +1,9 @@
 -- `shaping::around` meets its contract. The loop's invariant: the columns before `c` are made, the rest are 0.
-use mathlib.Core.Path.{◌∙◌}
 use Prim.Native.Nat.{◌-◌}
 use lib.ListN.{take}
 use Rattle.definitions.specs.Matrices.{most_columns, matrix_words}
-use Rattle.lines.specs.Laws.Filling.{filled-start}
 use Rattle.matrix.specs.Shapes.{columns_around}
-use Rattle.matrix.specs.Laws.Words.{Columns, columns-more, columns-end}
-use Rattle.matrix.specs.Laws.Shapes.{around-seven, around-at}
+use Rattle.matrix.specs.Laws.Words.{Columns}
 use Rattle.matrix.proofs.shaping.around.Given as goal
 
 abbrev pub invariant-loop-c : goal.invariant-loop-c

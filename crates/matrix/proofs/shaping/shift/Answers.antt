@@ -1,10 +1,8 @@
 -- `shaping::shift` meets its contract. The loop's invariant: the columns before `c` are shifted, the
 -- rest are 0.
 use mathlib.Core.Path.{◌∙◌}
-use Prim.Native.Nat.{◌-◌}
 use Rattle.lines.specs.Laws.Filling.{filled-start}
-use Rattle.matrix.specs.Shapes.{shifted_words}
-use Rattle.matrix.specs.Laws.Words.{Columns, columns-more, columns-end}
+use Rattle.matrix.specs.Laws.Words.{columns-more, columns-end}
 use Rattle.matrix.specs.Laws.Shapes.{shifted-length, shifted_at}
 use Rattle.matrix.proofs.shaping.shift.Goals as goal
 

@@ -1,11 +1,8 @@
 -- `testing::ends_here` meets its contract. The loop's invariant: the columns right of the centre, before `c`,
 -- hold silence.
 use mathlib.Core.Path.{◌≡◌}
-use Prim.Native.Nat.{◌+◌, ◌-◌, ◌*◌}
-use lib.ListN.{length, take}
-use Rattle.definitions.specs.PhoneSets.{has}
-use Rattle.definitions.specs.Matrices.{ends_here}
-use Rattle.matrix.specs.Laws.Columns.{FirstPass, first-all, first_out, first_more, first-stop}
+use lib.ListN.{length}
+use Rattle.matrix.specs.Laws.Columns.{first-all, first_out, first_more, first-stop}
 use Rattle.matrix.specs.Laws.Columns.{ends-start, silence-lacks, silence-has}
 use borrow.Author.Rules.{rules}
 use Rattle.matrix.proofs.testing.ends_here.Goals as goal

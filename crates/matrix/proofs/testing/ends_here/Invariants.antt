@@ -1,12 +1,10 @@
 -- `testing::ends_here` meets its contract. The loop's invariant: the columns right of the centre, before `c`,
 -- hold silence.
-use mathlib.Core.Path.{◌≡◌}
 use Prim.Native.Nat.{◌+◌, ◌-◌, ◌*◌}
-use lib.ListN.{length, take}
+use lib.ListN.{take}
 use Rattle.definitions.specs.PhoneSets.{has}
 use Rattle.definitions.specs.Matrices.{ends_here}
-use Rattle.matrix.specs.Laws.Columns.{FirstPass, first-all, first_out, first_more, first-stop}
-use Rattle.matrix.specs.Laws.Columns.{ends-start, silence-lacks, silence-has}
+use Rattle.matrix.specs.Laws.Columns.{FirstPass}
 use Rattle.matrix.proofs.testing.ends_here.Given as goal
 
 abbrev pub invariant-loop-c : goal.invariant-loop-c

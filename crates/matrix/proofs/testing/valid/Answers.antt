@@ -1,10 +1,8 @@
 -- `testing::valid` meets its contract. The loop's invariant: the columns before `c` are not empty.
 use mathlib.Core.Path.{◌≡◌}
-use Prim.Native.Nat.{◌-◌}
-use lib.ListN.{length, take}
-use Rattle.definitions.specs.Matrices.{valid}
-use Rattle.matrix.specs.Laws.Columns.{FirstPass, first-all, first_out, first_more, first-stop}
-use Rattle.matrix.specs.Laws.Columns.{some_member, valid-start, empty-column, filled-column}
+use lib.ListN.{length}
+use Rattle.matrix.specs.Laws.Columns.{first-all, first_out, first_more, first-stop}
+use Rattle.matrix.specs.Laws.Columns.{valid-start, empty-column, filled-column}
 use borrow.Author.Rules.{rules}
 use Rattle.matrix.proofs.testing.valid.Goals as goal
 

@@ -1,10 +1,8 @@
 -- `whole::put_whole` meets its contract. The loop's invariant: the first `i` words are written.
-use Prim.Native.Nat.{◌-◌}
 use mathlib.Core.Path.{◌≡◌}
 use native.Mathlib.Omega.{arith}
 use lib.ListN.{length}
-use mathlib.Core.List.{◌∷◌}
-use Rattle.matrix.specs.Laws.Words.{Written, written_start, written-more, written-full}
+use Rattle.matrix.specs.Laws.Words.{written_start, written-more, written-full}
 use borrow.Author.Rules.{rules}
 use Rattle.matrix.proofs.whole.put_whole.Goals as goal
 

@@ -1,10 +1,7 @@
 -- `whole::put_whole` meets its contract. The loop's invariant: the first `i` words are written.
 use Prim.Native.Nat.{◌-◌}
-use mathlib.Core.Path.{◌≡◌}
-use native.Mathlib.Omega.{arith}
-use lib.ListN.{length}
 use mathlib.Core.List.{◌∷◌}
-use Rattle.matrix.specs.Laws.Words.{Written, written_start, written-more, written-full}
+use Rattle.matrix.specs.Laws.Words.{Written}
 use Rattle.matrix.proofs.whole.put_whole.Given as goal
 
 abbrev pub invariant-loop-i : goal.invariant-loop-i

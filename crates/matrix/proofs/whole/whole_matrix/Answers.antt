@@ -1,12 +1,11 @@
 -- `whole::whole_matrix` meets its contract. The loop's invariant: the columns before `c` are read.
 use mathlib.Core.Path.{sym, ◌∙◌}
 use mathlib.Core.List.{List}
-use Prim.Native.Nat.{ℕ, ◌-◌}
+use Prim.Native.Nat.{ℕ}
 use lib.ListN.{drop}
 use lib.Seq.{get_or-drop}
 use Rattle.lines.specs.Laws.Filling.{filled-start}
-use Rattle.matrix.specs.Laws.Words.{Columns, columns-more, columns-end, seven-length, seven_at}
-use Rattle.matrix.specs.Words.{first_seven}
+use Rattle.matrix.specs.Laws.Words.{columns-more, columns-end, seven-length, seven_at}
 use Rattle.matrix.proofs.whole.whole_matrix.Goals as goal
 use Rattle.matrix.proofs.whole.whole_matrix.Goals.{Start}
 

@@ -1,11 +1,11 @@
 -- `words::is_numbered` meets its contract. The loop's invariant: the words before `i` are the same.
 use mathlib.Core.Path.{◌≡◌, sym, ap, ◌∙◌}
 use mathlib.Core.List.{List, ◌∷◌}
-use Prim.Native.Nat.{ℕ, suc, ◌-◌, min}
+use Prim.Native.Nat.{ℕ, suc, min}
 use native.Mathlib.Omega.{arith}
 use lib.ListN.{length, take, length-take}
 use lib.Seq.{get_or-take}
-use Rattle.definitions.proofs.Laws.Lists.Same.{Alike, same-lengths, alike-start, alike-more, alike-stop}
+use Rattle.definitions.proofs.Laws.Lists.Same.{same-lengths, alike-start, alike-more, alike-stop}
 use Rattle.definitions.proofs.Laws.Lists.Same.{alike_end}
 use borrow.Author.Rules.{rules}
 use Rattle.matrix.proofs.words.is_numbered.Goals as goal

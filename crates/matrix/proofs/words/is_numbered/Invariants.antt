@@ -1,12 +1,8 @@
 -- `words::is_numbered` meets its contract. The loop's invariant: the words before `i` are the same.
-use mathlib.Core.Path.{◌≡◌, sym, ap, ◌∙◌}
-use mathlib.Core.List.{List, ◌∷◌}
-use Prim.Native.Nat.{ℕ, suc, ◌-◌, min}
-use native.Mathlib.Omega.{arith}
-use lib.ListN.{length, take, length-take}
-use lib.Seq.{get_or-take}
-use Rattle.definitions.proofs.Laws.Lists.Same.{Alike, same-lengths, alike-start, alike-more, alike-stop}
-use Rattle.definitions.proofs.Laws.Lists.Same.{alike_end}
+use mathlib.Core.List.{◌∷◌}
+use Prim.Native.Nat.{◌-◌}
+use lib.ListN.{length, take}
+use Rattle.definitions.proofs.Laws.Lists.Same.{Alike}
 use Rattle.matrix.proofs.words.is_numbered.Given as goal
 
 abbrev pub invariant-loop-i : goal.invariant-loop-i

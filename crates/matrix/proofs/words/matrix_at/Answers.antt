@@ -1,5 +1,4 @@
 -- `words::matrix_at` meets its contract by either way.
-use Prim.Native.Nat.{◌-◌}
 use mathlib.Core.Path.{sym, ◌∙◌}
 use borrow.Author.Tests.{leb-true}
 use Rattle.matrix.proofs.words.matrix_at.Goals as goal

@@ -1,5 +1,4 @@
 -- `words::put_numbered` meets its contract by either way.
-use Prim.Native.Nat.{◌-◌}
 use mathlib.Core.Path.{sym, ◌∙◌}
 use borrow.Author.Tests.{leb-true}
 use Rattle.matrix.proofs.words.put_numbered.Goals as goal

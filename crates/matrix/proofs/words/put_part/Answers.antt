@@ -1,10 +1,8 @@
 -- `words::put_part` meets its contract. The loop's invariant: the first `i` words are written.
 use mathlib.Core.Path.{◌≡◌}
-use mathlib.Core.List.{◌∷◌}
-use Prim.Native.Nat.{◌-◌}
 use native.Mathlib.Omega.{arith}
 use lib.ListN.{length}
-use Rattle.matrix.specs.Laws.Words.{Written, written_start, written-more, written-short, written-full}
+use Rattle.matrix.specs.Laws.Words.{written_start, written-more, written-short, written-full}
 use borrow.Author.Rules.{rules}
 use Rattle.matrix.proofs.words.put_part.Goals as goal
 

@@ -1,10 +1,7 @@
 -- `words::put_part` meets its contract. The loop's invariant: the first `i` words are written.
-use mathlib.Core.Path.{◌≡◌}
 use mathlib.Core.List.{◌∷◌}
 use Prim.Native.Nat.{◌-◌}
-use native.Mathlib.Omega.{arith}
-use lib.ListN.{length}
-use Rattle.matrix.specs.Laws.Words.{Written, written_start, written-more, written-short, written-full}
+use Rattle.matrix.specs.Laws.Words.{Written}
 use Rattle.matrix.proofs.words.put_part.Given as goal
 
 abbrev pub invariant-loop-i : goal.invariant-loop-i

@@ -1,5 +1,5 @@
 -- `adding::enter` meets its contract, by what the search along the chain found and by the room.
-use mathlib.Core.Path.{◌≡◌, sym, subst}
+use mathlib.Core.Path.{sym, subst}
 use Prim.Native.Nat.{ℕ, ◌*◌, ◌≤◌, ◌<◌}
 use native.Mathlib.Omega.{arith}
 use lib.ListN.{length, take}
@@ -13,44 +13,36 @@ use Rattle.metastates.specs.Laws.Entering.{enter-used, enter-searchable, enter-a
 use Rattle.metastates.specs.Laws.Entering.{enter-place-for, enter-known, enter-crowded, enter-new}
 use borrow.Author.Rules.{rules}
 use Rattle.metastates.proofs.adding.enter.Goals as goal
-use Rattle.metastates.proofs.adding.enter.Goals.{After-find-found, After-struct_known-1, Start}
+use Rattle.metastates.proofs.adding.enter.Goals.{After-find-found, After-metastate_size}
 
-abbrev searched : goal.After-find-found → goal.Start
-searched c = c
-
--- the size that was computed is that of a record
-module _ (c : goal.After-struct_known-1) where
-  sized : c.metastate_size.result ≡ metastate_size c.args.header.half
-  sized = c.metastate_size.ensures
-
-  used-few : c.metastate_size.result * c.args.sizes.table
-      ≤ length c.args.metastates.now
-  used-few = cut-used sized c.args.sizes.table (enter-used c.requires)
+-- the words in use are within the table
+used-few : (c : goal.After-metastate_size) → c.metastate_size.result * c.args.sizes.table ≤ length c.args.metastates.now
+used-few c = cut-used c.metastate_size.ensures c.args.sizes.table (enter-used c.requires)
 
 -- what the search found among the words in use
 found_in : (c : goal.After-find-found)
-    → Found (metastate_code (searched c).args.header.half)
-    (elements_in (metastate_code (searched c).args.header.half)
-    (take (metastate_size (searched c).args.header.half * (searched c).args.sizes.table)
-    (searched c).args.metastates.now))
-    (metastate_with (searched c).args.header.half (searched c).args.follower.number
-    (searched c).args.follower.met.columns) c.find-found.result
+    → Found (metastate_code c.args.header.half)
+    (elements_in (metastate_code c.args.header.half)
+    (take (metastate_size c.args.header.half * c.args.sizes.table)
+    c.args.metastates.now))
+    (metastate_with c.args.header.half c.args.follower.number
+    c.args.follower.met.columns) c.find-found.result
 found_in c =
-    let a = (searched c).args in
+    let a = c.args in
     let code = metastate_code a.header.half in
-    subst (λ (n : ℕ). Found code (elements_in code (take (n * a.sizes.table) a.metastates-1.now))
+    subst (λ (n : ℕ). Found code (elements_in code (take (n * a.sizes.table) a.metastates.now))
     (metastate_with a.header.half a.follower.number a.follower.met.columns) c.find-found.result)
-    (sized c.before) c.find-found.ensures
+    c.metastate_size.ensures c.find-found.ensures
 
 pub overflow_mul-used : goal.overflow_mul-used
-overflow_mul-used c = let few = used-few (goal.at.overflow_mul-used c).After-struct_known-1 in search rules
+overflow_mul-used c = let few = used-few (goal.at.overflow_mul-used c).After-metastate_size in search rules
 
 pub slice_bounds-find-end : goal.slice_bounds-find-end
-slice_bounds-find-end c = used-few (goal.at.slice_bounds-find-end c).After-struct_known-1
+slice_bounds-find-end c = used-few (goal.at.slice_bounds-find-end c).After-metastate_size
 
 pub slice_bounds-find-end-2 : goal.slice_bounds-find-end-2
 slice_bounds-find-end-2 c =
-    sym (length-take-le _ c.args.metastates.now (used-few (goal.at.slice_bounds-find-end-2 c).After-struct_known-1))
+    sym (length-take-le _ c.args.metastates.now (used-few (goal.at.slice_bounds-find-end-2 c).After-metastate_size))
 
 pub find-found-requires : goal.find-found-requires
 find-found-requires c =
@@ -59,14 +51,14 @@ find-found-requires c =
     let s = known.requires in
     let findable =
     subst (λ (n : ℕ). Findable (metastate_code a.header.half)
-    (take (n * a.sizes.table) a.metastates.now) a.chains.now) (sym (sized (goal.at.find-found-requires c).After-struct_known-1))
+    (take (n * a.sizes.table) a.metastates.now) a.chains.now) (sym c.metastate_size.ensures)
     (enter-searchable s) in
     (findable, s.shaped, narrow s.connectable.usable)
 
 pub enter_at-requires : goal.enter_at-requires
 enter_at-requires c =
     let test = c in
-    let start = searched (goal.at.enter_at-requires c).After-find-found in
+    let start = c in
     record {
       placed = enter-placed start.requires start.args.from (found_in (goal.at.enter_at-requires c).After-find-found) test.if-found-ne0.true;
       fit = enter-arcs start.requires;
@@ -76,14 +68,14 @@ pub returns-then-found-ne0 : goal.returns-then-found-ne0
 returns-then-found-ne0 c =
     let call = c in
     let test = call in
-    let start = searched (goal.at.returns-then-found-ne0 c).After-find-found in
+    let start = c in
     enter-known start.requires start.args.from (found_in (goal.at.returns-then-found-ne0 c).After-find-found) test.if-found-ne0.true
     call.enter_at.ensures
 
 pub returns-then-metastate_room-place : goal.returns-then-metastate_room-place
 returns-then-metastate_room-place c =
     let test = c in
-    let start = searched (goal.at.returns-then-metastate_room-place c).After-find-found in
+    let start = c in
     let a = start.args in
     let room : metastate_room a.header.half a.metastates.now ≤ a.sizes.table =
     omega (arith, c.if-metastate_room-place.true, c.metastate_room.ensures) in
@@ -92,7 +84,7 @@ returns-then-metastate_room-place c =
 pub add_metastate-requires : goal.add_metastate-requires
 add_metastate-requires c =
     let test = c in
-    let start = searched (goal.at.add_metastate-requires c).After-find-found in
+    let start = c in
     let a = start.args in
     let room : a.sizes.table < metastate_room a.header.half a.metastates.now =
     omega (arith, test.if-metastate_room-place.false, test.metastate_room.ensures) in
@@ -102,7 +94,7 @@ pub enter_at-requires-2 : goal.enter_at-requires-2
 enter_at-requires-2 c =
     let test = c in
     let room = test in
-    let start = searched (goal.at.enter_at-requires-2 c).After-find-found in
+    let start = c in
     let s = start.requires in
     let few : start.args.sizes.table < 65535 =
     omega (arith, test.if-metastate_room-place.false, room.metastate_room.ensures) in
@@ -117,7 +109,7 @@ returns c =
     let add = call in
     let test = add in
     let found = test in
-    let start = searched (goal.at.returns c).After-find-found in
+    let start = c in
     let a = start.args in
     let room : a.sizes.table < metastate_room a.header.half a.metastates.now =
     omega (arith, test.if-metastate_room-place.false, test.metastate_room.ensures) in

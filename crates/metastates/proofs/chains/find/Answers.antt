@@ -2,47 +2,27 @@
 -- `at` has its head.
 use mathlib.Core.Path.{◌≡◌, ap, ap₂, ◌∙◌}
 use mathlib.Core.List.{List, ◌∷◌}
-use Prim.Native.Nat.{ℕ, ◌-◌}
+use Prim.Native.Nat.{ℕ, ◌-◌, ◌≤◌}
 use native.Mathlib.Omega.{arith}
 use lib.ListN.{take}
 use Rattle.definitions.specs.Lists.{same}
-use Rattle.definitions.specs.Metastates.{Metastate, metastate_size, metastate_words}
+use Rattle.definitions.specs.Metastates.{metastate_size, metastate_words}
 use Rattle.index.specs.RecordWords.{record_of}
 use Rattle.index.specs.Laws.CutRecords.{cut-within, cut-is}
-use Rattle.growing.specs.Chains.{Coded, elements_in, head_of, heads_in}
-use Rattle.growing.specs.Laws.Finding.{Passed, find-start, find-here, find-end, link-within, find-less, find-next}
+use Rattle.growing.specs.Chains.{Coded, head_of, heads_in}
+use Rattle.growing.specs.Laws.Finding.{find-start, find-here, find-end, link-within, find-less, find-next}
 use Rattle.growing.specs.Laws.Finding.{part-within, part-is, part-other}
-use Rattle.metastates.specs.Keys.{key_of}
+use Rattle.matrix.specs.Shapes.{width_of, HasWidth}
 use Rattle.metastates.specs.Networks.{metastate_code, metastate_with}
 use Rattle.metastates.specs.Laws.HeldBack.{metastate-coded, metastate-wide, metastate-row, metastate-key}
 use Rattle.metastates.proofs.chains.find.Goals as goal
-use Rattle.metastates.proofs.chains.find.Goals.{After-is_numbered, In-loop-at, Start}
+use Rattle.metastates.proofs.chains.find.Goals.{After-is_numbered}
 
--- the metastate that is looked for, its words and its head
-module _ (start : goal.Start) where
-  abbrev half : ℕ
-  half = start.args.half
-
-  abbrev row : List ℕ
-  row = start.args.number ∷ start.args.m.columns
-
-  abbrev sought : Metastate
-  sought = metastate_with half start.args.number start.args.m.columns
-
-  row_is : take (metastate_size half) row ≡ metastate_words half c
-  row_is = metastate-row half start.args.number start.args.m.columns start.requires.2 start.requires.1
-
-  key-is : key_of row ≡ (metastate_code half).key sought
-  key-is = metastate-key half start.args.number start.args.m.columns start.requires.2 start.requires.1
-
-  own : Coded (metastate_code half) sought
-  own =
-      metastate-coded half start.requires.2 sought
-      (metastate-wide half start.args.number start.args.m.columns start.requires.2 start.requires.1)
-
-size_is : (turn : goal.In-loop-at)
-    → turn.metastate_size-size.result ≡ metastate_size turn.args.half
-size_is c = turn.metastate_size-size.ensures
+-- the metastate that is looked for is one that can be coded
+own : (half : ℕ) (number : ℕ) (columns : List ℕ) → half ≤ 3 → HasWidth (width_of half) columns
+    → Coded (metastate_code half) (metastate_with half number columns)
+own half number columns few wide =
+    metastate-coded half few (metastate_with half number columns) (metastate-wide half number columns few wide)
 
 -- the words that are compared are the record's, and those of the metastate
 compared : (c : goal.After-is_numbered)
@@ -50,13 +30,13 @@ compared : (c : goal.After-is_numbered)
     ≡ same
     (record_of (metastate_size c.args.half) c.args.metastates.now
     (c.loop-at.at - 1))
-    (metastate_words c.args.half (sought c.before.before.before.before.before.before.before.before.before.before.before))
+    (metastate_words c.args.half (metastate_with c.args.half c.args.number c.args.m.columns))
 compared c =
-    let cut = c in
-    let start = cut in
-    let is = cut-is (size_is c.before.before) cut.record_at.ensures in
+    let a = c.args in
+    let is = cut-is c.metastate_size-size.ensures c.record_at.ensures in
     c.is_numbered.ensures
-    ∙ ap₂ same is.is (ap (λ (k : ℕ). take k (row c.before.before.before.before.before.before.before.before.before.before.before)) is.sized ∙ row_is c.before.before.before.before.before.before.before.before.before.before.before)
+    ∙ ap₂ same is.is (ap (λ (k : ℕ). take k (a.number ∷ a.m.columns)) is.sized
+    ∙ metastate-row a.half a.number a.m.columns c.requires.2 c.requires.1)
 
 pub head_of-requires : goal.head_of-requires
 head_of-requires c =
@@ -71,36 +51,36 @@ pub loop-at-init : goal.loop-at-init
 loop-at-init c =
     let start = c in
     let headed = c in
-    find-start start.requires.0.linked (sought (goal.at.loop-at-init c).Start)
+    find-start start.requires.0.linked (metastate_with c.args.half c.args.number c.args.m.columns)
     (headed.head_of.ensures.0
-    ∙ ap (head_of (heads_in start.args.chains.now)) (headed.key_of.ensures.0 ∙ key-is (goal.at.loop-at-init c).Start))
+    ∙ ap (head_of (heads_in start.args.chains.now)) (headed.key_of.ensures.0 ∙ metastate-key c.args.half c.args.number c.args.m.columns c.requires.2 c.requires.1))
     c.wide-at.ensures
 
 pub record_at-requires : goal.record_at-requires
 record_at-requires c =
     let start = c in
-    cut-within (size_is (goal.at.record_at-requires c).In-loop-at) start.args.metastates.now (c.loop-at.at - 1)
-    (part-within start.requires.0.flat (own (goal.at.record_at-requires c).Start) c.loop-at.invariant c.loop-at-test.true)
+    cut-within c.metastate_size-size.ensures start.args.metastates.now (c.loop-at.at - 1)
+    (part-within start.requires.0.flat (own c.args.half c.args.number c.args.m.columns c.requires.2 c.requires.1) c.loop-at.invariant c.loop-at-test.true)
 
 pub returns-then-is_numbered : goal.returns-then-is_numbered
 returns-then-is_numbered c =
     let turn = c in
     let inv = turn.loop-at.invariant in
     let start = turn in
-    find-here start.requires.0.linked (sought (goal.at.returns-then-is_numbered c).Start) inv turn.loop-at-test.true
-    (part-is start.requires.0.flat (own (goal.at.returns-then-is_numbered c).Start) inv turn.loop-at-test.true (compared (goal.at.returns-then-is_numbered c).After-is_numbered) c.if-is_numbered.true)
+    find-here start.requires.0.linked (metastate_with c.args.half c.args.number c.args.m.columns) inv turn.loop-at-test.true
+    (part-is start.requires.0.flat (own c.args.half c.args.number c.args.m.columns c.requires.2 c.requires.1) inv turn.loop-at-test.true (compared (goal.at.returns-then-is_numbered c).After-is_numbered) c.if-is_numbered.true)
 
 pub bounds-chains-heads : goal.bounds-chains-heads
 bounds-chains-heads c =
     let turn = c in
     let start = turn in
-    link-within start.requires.0.linked (sought (goal.at.bounds-chains-heads c).Start) turn.loop-at.invariant
+    link-within start.requires.0.linked (metastate_with c.args.half c.args.number c.args.m.columns) turn.loop-at.invariant
 
 pub loop-at-smaller : goal.loop-at-smaller
 loop-at-smaller c =
     let turn = c in
     let start = turn in
-    find-less start.requires.0.linked (sought (goal.at.loop-at-smaller c).Start) turn.loop-at.invariant
+    find-less start.requires.0.linked (metastate_with c.args.half c.args.number c.args.m.columns) turn.loop-at.invariant
     turn.loop-at-test.true c.wide-at-in-loop-at.ensures
 
 pub loop-at-preserved : goal.loop-at-preserved
@@ -108,12 +88,12 @@ loop-at-preserved c =
     let turn = c in
     let inv = turn.loop-at.invariant in
     let start = turn in
-    find-next start.requires.0.linked (sought (goal.at.loop-at-preserved c).Start) inv turn.loop-at-test.true c.wide-at-in-loop-at.ensures
-    (part-other start.requires.0.flat (own (goal.at.loop-at-preserved c).Start) inv turn.loop-at-test.true
+    find-next start.requires.0.linked (metastate_with c.args.half c.args.number c.args.m.columns) inv turn.loop-at-test.true c.wide-at-in-loop-at.ensures
+    (part-other start.requires.0.flat (own c.args.half c.args.number c.args.m.columns c.requires.2 c.requires.1) inv turn.loop-at-test.true
     (compared (goal.at.loop-at-preserved c).After-is_numbered) c.if-is_numbered.false)
 
 pub returns : goal.returns
 returns c =
     let start = c in
-    find-end start.requires.0.linked (sought (goal.at.returns c).Start) c.loop-at.invariant
+    find-end start.requires.0.linked (metastate_with c.args.half c.args.number c.args.m.columns) c.loop-at.invariant
     c.loop-at-test.false

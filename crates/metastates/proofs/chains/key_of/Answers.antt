@@ -1,9 +1,8 @@
 -- `chains::key_of` meets its contract. The loop's invariant: the key of the columns before `c`, the rest left.
 use mathlib.Core.Path.{◌≡◌}
-use Prim.Native.Nat.{◌-◌}
 use native.Mathlib.Omega.{arith}
 use lib.ListN.{length}
-use Rattle.metastates.specs.Laws.Keys.{Keyed, keyed-start, keyed-more, keyed-end}
+use Rattle.metastates.specs.Laws.Keys.{keyed-start, keyed-more, keyed-end}
 use borrow.Author.Rules.{rules}
 use Rattle.metastates.proofs.chains.key_of.Goals as goal
 

@@ -11,11 +11,8 @@ follow_between-requires c = c.requires.0
 
 pub returns-then-wanted : goal.returns-then-wanted
 returns-then-wanted c =
-    let call = c in
-    let test = call in
-    let start = test in
-    left_by start.args.sizes start.args.hop.from
-    (along-between start.requires.1 start.args.hop test.if-wanted.true) call.follow_between.ensures
+    left_by c.args.sizes c.args.hop.from
+    (along-between c.requires.1 c.args.hop c.if-wanted.true) c.follow_between.ensures
 
 pub move_into-requires : goal.move_into-requires
 move_into-requires c =
@@ -23,21 +20,14 @@ move_into-requires c =
 
 pub returns-then-hop-eq0 : goal.returns-then-hop-eq0
 returns-then-hop-eq0 c =
-    let call = c in
-    let second = call in
-    let first = second in
-    let start = first in
-    left_by start.args.sizes start.args.hop.from
-    (along-silent start.requires.1 start.args.hop first.if-wanted.false second.if-hop-eq0.true)
-    call.move_into.ensures
+    left_by c.args.sizes c.args.hop.from
+    (along-silent c.requires.1 c.args.hop c.if-wanted.false c.if-hop-eq0.true)
+    c.move_into.ensures
 
 pub returns-then-hop-wanted : goal.returns-then-hop-wanted
 returns-then-hop-wanted c =
-    let second = c in
-    let first = second in
-    let start = first in
-    none-moved start.requires.0.underway start.args.hop.from
-    (nothing-along start.requires.1 first.if-wanted.false (hop_arc start.args.hop) second.if-hop-eq0.false c.if-hop-wanted.true)
+    none-moved c.requires.0.underway c.args.hop.from
+    (nothing-along c.requires.1 c.if-wanted.false (hop_arc c.args.hop) c.if-hop-eq0.false c.if-hop-wanted.true)
 
 pub move_into-requires-2 : goal.move_into-requires-2
 move_into-requires-2 c =
@@ -45,11 +35,6 @@ move_into-requires-2 c =
 
 pub returns : goal.returns
 returns c =
-    let call = c in
-    let third = call in
-    let second = third in
-    let first = second in
-    let start = first in
-    left_by start.args.sizes start.args.hop.from
-    (along-wanted start.requires.1 start.args.hop first.if-wanted.false second.if-hop-eq0.false third.if-hop-wanted.false)
-    call.move_into-2.ensures
+    left_by c.args.sizes c.args.hop.from
+    (along-wanted c.requires.1 c.args.hop c.if-wanted.false c.if-hop-eq0.false c.if-hop-wanted.false)
+    c.move_into-2.ensures

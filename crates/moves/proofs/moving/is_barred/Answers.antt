@@ -9,13 +9,10 @@ returns-then-to-ne1 c =
 
 pub returns-then-mark-ne0 : goal.returns-then-mark-ne0
 returns-then-mark-ne0 c =
-    let first = c in
-    let a = first.args in
-    barred-within a.to a.mark.word a.mark.mark first.if-to-ne1.false c.if-mark-ne0.true
+    let a = c.args in
+    barred-within a.to a.mark.word a.mark.mark c.if-to-ne1.false c.if-mark-ne0.true
 
 pub returns : goal.returns
 returns c =
-    let second = c in
-    let first = second in
-    let a = first.args in
-    by-closing a.to a.mark.word a.mark.mark first.if-to-ne1.false second.if-mark-ne0.false
+    let a = c.args in
+    by-closing a.to a.mark.word a.mark.mark c.if-to-ne1.false c.if-mark-ne0.false

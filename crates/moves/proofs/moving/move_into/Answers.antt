@@ -10,19 +10,15 @@ use Rattle.moves.proofs.moving.move_into.Goals.{Start}
 
 -- the move
 abbrev move : goal.Start → Move
-move c = move_by (hop_arc start.args.hop) (step start.args.label (mark_of start.args.mark))
+move c = move_by (hop_arc c.args.hop) (step c.args.label (mark_of c.args.mark))
 
 pub returns-then-is_barred : goal.returns-then-is_barred
 returns-then-is_barred c =
-    let start = c in
-    none-moved start.requires start.args.hop.from
+    none-moved c.requires c.args.hop.from
     (allowed-none (move (goal.at.returns-then-is_barred c).Start) (sym c.is_barred.ensures ∙ ap not c.if-is_barred.true))
 
 pub returns : goal.returns
 returns c =
-    let call = c in
-    let test = call in
-    let start = test in
-    one-moved start.args.sizes start.args.hop.from (move (goal.at.returns c).Start)
-    (allowed-one (move (goal.at.returns c).Start) (sym test.is_barred.ensures ∙ ap not test.if-is_barred.false))
-    call.enter.ensures
+    one-moved c.args.sizes c.args.hop.from (move (goal.at.returns c).Start)
+    (allowed-one (move (goal.at.returns c).Start) (sym c.is_barred.ensures ∙ ap not c.if-is_barred.false))
+    c.enter.ensures

@@ -8,26 +8,18 @@ move_into-requires c = c.requires.underway
 
 pub returns-then-hop-eq0 : goal.returns-then-hop-eq0
 returns-then-hop-eq0 c =
-    let call = c in
-    let test = call in
-    let start = test in
-    left_by start.args.sizes start.args.hop.from
-    (keeps-between start.args.words.now start.args.hop test.if-hop-eq0.true) call.move_into.ensures
+    left_by c.args.sizes c.args.hop.from
+    (keeps-between c.args.words.now c.args.hop c.if-hop-eq0.true) c.move_into.ensures
 
 pub open_words-requires : goal.open_words-requires
 open_words-requires c =
-    let first = c in
-    openable first.requires first.if-hop-eq0.false
+    openable c.requires c.if-hop-eq0.false
 
 pub returns-then-hop-ne1 : goal.returns-then-hop-ne1
 returns-then-hop-ne1 c =
-    let call = c in
-    let second = call in
-    let first = second in
-    let start = first in
-    left_by start.args.sizes start.args.hop.from
-    (opens-only start.args.words.now start.args.hop first.if-hop-eq0.false second.if-hop-ne1.true)
-    call.open_words.ensures
+    left_by c.args.sizes c.args.hop.from
+    (opens-only c.args.words.now c.args.hop c.if-hop-eq0.false c.if-hop-ne1.true)
+    c.open_words.ensures
 
 pub move_into-step-requires : goal.move_into-step-requires
 move_into-step-requires c =
@@ -35,24 +27,15 @@ move_into-step-requires c =
 
 pub open_words-requires-in-Next : goal.open_words-requires-in-Next
 open_words-requires-in-Next c =
-    let told = c in
-    let call = told in
-    let first = call in
-    closed-openable first.requires first.if-hop-eq0.false call.if-hop-ne1.false call.move_into-step.ensures
-    told.in-Next.is
+    closed-openable c.requires c.if-hop-eq0.false c.if-hop-ne1.false c.move_into-step.ensures
+    c.in-Next.is
 
 pub returns-in-Next : goal.returns-in-Next
 returns-in-Next c =
-    let last = c in
-    let told = last in
-    let call = told in
-    let first = call in
-    closed-then first.requires first.if-hop-eq0.false call.if-hop-ne1.false call.move_into-step.ensures
-    told.in-Next.is last.open_words-in-Next.ensures
+    closed-then c.requires c.if-hop-eq0.false c.if-hop-ne1.false c.move_into-step.ensures
+    c.in-Next.is c.open_words-in-Next.ensures
 
 pub returns-in-Stop : goal.returns-in-Stop
 returns-in-Stop c =
-    let call = c in
-    let first = call in
-    closed-stop first.requires first.if-hop-eq0.false call.if-hop-ne1.false call.move_into-step.ensures
+    closed-stop c.requires c.if-hop-eq0.false c.if-hop-ne1.false c.move_into-step.ensures
     c.in-Stop.is

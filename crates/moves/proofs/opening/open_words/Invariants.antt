@@ -1,11 +1,6 @@
 -- `opening::open_words` meets its contract. The loop's invariant: the words before `word` are entered, and it is the
 -- next that begins with the phone.
-use mathlib.Core.Path.{ap}
-use Prim.Native.Nat.{ℕ, ◌+◌, ◌-◌}
-use native.Mathlib.Omega.{arith}
-use Rattle.definitions.specs.Lists.{◌!◌}
-use Rattle.moves.specs.Laws.Opening.{Opening, words_left, opening-start, opening-asks, opening-done, opening-word}
-use Rattle.moves.specs.Laws.Opening.{opening-link, opening-less, opening-more, opening-stop}
+use Rattle.moves.specs.Laws.Opening.{Opening, words_left}
 use Rattle.moves.proofs.opening.open_words.Given as goal
 
 abbrev pub invariant-loop-word : goal.invariant-loop-word

@@ -1,10 +1,9 @@
 -- `skipping::next_arc` meets its contract. The loop's invariant: along the arcs of the state before `at` nothing leads
 -- on.
 use Prim.Native.Nat.{◌-◌, ◌/◌}
-use native.Mathlib.Omega.{arith}
 use lib.ListN.{length}
 use Rattle.definitions.specs.Arcs.{arc_size}
-use Rattle.moves.specs.Laws.Skipping.{Passing, passing-start, passing-more, skipped-to, skipped-past, skipped-end}
+use Rattle.moves.specs.Laws.Skipping.{Passing}
 use Rattle.moves.proofs.skipping.next_arc.Given as goal
 
 abbrev pub invariant-loop-at : goal.invariant-loop-at

@@ -35,10 +35,7 @@ pub returns-then-not-in_fixed_ranges : goal.returns-then-not-in_fixed_ranges
 unfolding tests_in network_tests
 returns-then-not-in_fixed_ranges c = test-failed (left1 (goal.at.returns-then-not-in_fixed_ranges c).Else-not-follows) c.in_fixed_ranges.ensures (not_from_false _ c.if-not-in_fixed_ranges.true)
 
-abbrev start2 : goal.Else-not-in_fixed_ranges → goal.Start
-start2 c = c
-
-left2 : (c : goal.Else-not-in_fixed_ranges) → Left (start2 c) 2
+left2 : (c : goal.Else-not-in_fixed_ranges) → Left c.before.before.before.before 2
 unfolding tests_in network_tests
 left2 c = test-held (left1 c.before.before) c.in_fixed_ranges.ensures (not_from_true _ c.if-not-in_fixed_ranges.false)
 
@@ -46,10 +43,7 @@ pub returns-then-not-within_counts : goal.returns-then-not-within_counts
 unfolding tests_in network_tests
 returns-then-not-within_counts c = test-failed (left2 (goal.at.returns-then-not-within_counts c).Else-not-in_fixed_ranges) c.within_counts.ensures (not_from_false _ c.if-not-within_counts.true)
 
-abbrev start3 : goal.Else-not-within_counts → goal.Start
-start3 c = start2 c.before.before.before
-
-left3 : (c : goal.Else-not-within_counts) → Left (start3 c) 3
+left3 : (c : goal.Else-not-within_counts) → Left c.before.before.before.before.before.before.before 3
 unfolding tests_in network_tests
 left3 c = test-held (left2 c.before.before.before) c.within_counts.ensures (not_from_true _ c.if-not-within_counts.false)
 
@@ -57,10 +51,7 @@ pub returns-then-not-in_order : goal.returns-then-not-in_order
 unfolding tests_in network_tests
 returns-then-not-in_order c = test-failed (left3 (goal.at.returns-then-not-in_order c).Else-not-within_counts) c.in_order.ensures (not_from_false _ c.if-not-in_order.true)
 
-abbrev start4 : goal.Else-not-in_order → goal.Start
-start4 c = start3 c.before.before
-
-left4 : (c : goal.Else-not-in_order) → Left (start4 c) 4
+left4 : (c : goal.Else-not-in_order) → Left c.before.before.before.before.before.before.before.before.before 4
 unfolding tests_in network_tests
 left4 c = test-held (left3 c.before.before) c.in_order.ensures (not_from_true _ c.if-not-in_order.false)
 
@@ -68,10 +59,7 @@ pub returns-then-not-table_fits : goal.returns-then-not-table_fits
 unfolding tests_in network_tests
 returns-then-not-table_fits c = test-failed (left4 (goal.at.returns-then-not-table_fits c).Else-not-in_order) c.table_fits.ensures (not_from_false _ c.if-not-table_fits.true)
 
-abbrev start5 : goal.Else-not-table_fits → goal.Start
-start5 c = start4 c.before.before
-
-left5 : (c : goal.Else-not-table_fits) → Left (start5 c) 5
+left5 : (c : goal.Else-not-table_fits) → Left c.before.before.before.before.before.before.before.before.before.before.before 5
 unfolding tests_in network_tests
 left5 c = test-held (left4 c.before.before) c.table_fits.ensures (not_from_true _ c.if-not-table_fits.false)
 

@@ -30,25 +30,22 @@ take_line-step-requires c =
 
 pub returns-in-Stop-clause-answer : goal.returns-in-Stop-clause-answer
 returns-in-Stop-clause-answer c = (let call = c in
-    let taken = call.take_line-step.ensures in
     let at = call.loop-i in
-    stop-returns at.inv _ _ _ _ (next-bytes _ at.i) call.loop-i-test.true taken.0
-    c.in-Stop.is taken.1).0
+    stop-returns at.invariant _ _ _ _ (next-bytes _ at.i) call.loop-i-test.true call.take_line-step.ensures.step
+    c.in-Stop.is call.take_line-step.ensures.arcs).0
 
 pub returns-in-Stop-clause-arcs : goal.returns-in-Stop-clause-arcs
 returns-in-Stop-clause-arcs c = (let call = c in
-    let taken = call.take_line-step.ensures in
     let at = call.loop-i in
-    stop-returns at.inv _ _ _ _ (next-bytes _ at.i) call.loop-i-test.true taken.0
-    c.in-Stop.is taken.1).1
+    stop-returns at.invariant _ _ _ _ (next-bytes _ at.i) call.loop-i-test.true call.take_line-step.ensures.step
+    c.in-Stop.is call.take_line-step.ensures.arcs).1
 
 pub loop-i-preserved : goal.loop-i-preserved
 loop-i-preserved c =
     let call = c in
-    let taken = call.take_line-step.ensures in
     let at = call.loop-i in
-    turn-next at.inv _ _ _ _ (next-bytes _ at.i) call.loop-i-test.true taken.0
-    c.in-Next.is taken.1
+    turn-next at.invariant _ _ _ _ (next-bytes _ at.i) call.loop-i-test.true call.take_line-step.ensures.step
+    c.in-Next.is call.take_line-step.ensures.arcs
 
 pub finish-requires : goal.finish-requires
 finish-requires c = turn-endable c.loop-i.invariant (omega arith)

@@ -11,8 +11,6 @@ use Rattle.nettext.specs.declared.Step.TheVariants.{Next}
 use Rattle.nettext.specs.States.{complete_in}
 use Rattle.nettext.specs.Taking.{verdict_in, arcs_taken}
 use Rattle.nettext.specs.Laws.Taking.{step-failed, step-passed}
-use Rattle.std.proofs.lemmas.Bool.{not_from_true}
-use Rattle.std.proofs.lemmas.Bool.{not_from_false}
 use Rattle.nettext.proofs.taking.take_line.Goals as goal
 use Rattle.nettext.proofs.taking.take_line.Goals.{After-judge_line, After-parse-parsed}
 
@@ -24,8 +22,8 @@ unfinished c = sym c.complete.ensures ∙ c.if-complete.false
 verdict : (c : goal.After-judge_line) → let a = c.args in
     verdict_in (length a.arcs.now) a.s a.bytes.now ≡ c.judge_line.result
 verdict c =
-    let formed = not-false _ (not_from_true _ c.if-not-parsed.false) in
-    verdict-line _ _ _ (unfinished c.before.before.before.before.before) (some-parsed _ c.parse-parsed.ensures formed)
+    let formed = not-false _ c.if-not-parsed.false in
+    verdict-line _ _ _ (sym c.complete.ensures ∙ c.if-complete.false) (some-parsed _ c.parse-parsed.ensures formed)
     ∙ rw (← c.entry_of-entry.ensures) (sym c.judge_line.ensures)
 
 pub returns-then-complete : goal.returns-then-complete
@@ -38,7 +36,7 @@ pub returns-then-not-parsed : goal.returns-then-not-parsed
 unfolding arcs_taken
 returns-then-not-parsed c =
     let parsed = c in
-    let unformed = none-parsed _ parsed.parse-parsed.ensures (not-true _ (not_from_false _ c.if-not-parsed.true)) in
+    let unformed = none-parsed _ parsed.parse-parsed.ensures (not-true _ c.if-not-parsed.true) in
     record { step = step-failed _ _ _ (verdict-misprint _ _ _ (unfinished (goal.at.returns-then-not-parsed c).After-parse-parsed) unformed); arcs = refl }
 
 pub entry_of-entry-requires : goal.entry_of-entry-requires
@@ -59,22 +57,13 @@ store-requires c =
     let step = step-passed _ _ _ (verdict (goal.at.store-requires c).After-judge_line ∙ passed.in_default.is) in
     rw (judged.entry_of-entry.ensures, parsed.parse-parsed.ensures) (parsed.requires.room _ (sym step))
 
-pub returns-clause-step : goal.returns-clause-step
+pub returns : goal.returns
 unfolding arcs_taken line_taken network_kind
-returns-clause-step c = (let stored = c in
+returns c =
+    let stored = c in
     let passed = stored in
     let judged = passed in
     let parsed = judged in
-    let step = step-passed _ _ _ (verdict (goal.at.returns-clause-step c).After-judge_line ∙ passed.in_default.is) in
+    let step = step-passed _ _ _ (verdict (goal.at.returns c).After-judge_line ∙ passed.in_default.is) in
     let said = rw parsed.parse-parsed.ensures at judged.entry_of-entry.ensures in
-    rw (← said) (ap Next c.next_state.ensures ∙ rw said step, stored.store.ensures)).0
-
-pub returns-clause-arcs : goal.returns-clause-arcs
-unfolding arcs_taken line_taken network_kind
-returns-clause-arcs c = (let stored = c in
-    let passed = stored in
-    let judged = passed in
-    let parsed = judged in
-    let step = step-passed _ _ _ (verdict (goal.at.returns-clause-arcs c).After-judge_line ∙ passed.in_default.is) in
-    let said = rw parsed.parse-parsed.ensures at judged.entry_of-entry.ensures in
-    rw (← said) (ap Next c.next_state.ensures ∙ rw said step, stored.store.ensures)).1
+    rw (← said) (record { step = ap Next c.next_state.ensures ∙ rw said step; arcs = stored.store.ensures })

@@ -59,7 +59,7 @@ write_arcs-requires c =
     let counted = first in
     let a = counted.args in
     lent-ready a.counts a.arcs.now (known (goal.at.write_arcs-requires c).Else-not-network_known) counted.wide-count.ensures
-    first.write.new.bytes.0 (omega arith)
+    first.write.new.bytes (omega arith)
 
 -- a row has five numbers
 five : (c : goal.After-counts_row) → length c.counts_row.result.numbers ≡ 5
@@ -76,11 +76,11 @@ returns-clause-answer c = (let lines = c in
     let text = first.write in
     let size = length a.text.now in
     let line =
-    counts-written a.counts a.arcs.now (known (goal.at.returns-clause-answer c).Else-not-network_known) size clear.last.0 text.new.1.0
+    counts-written a.counts a.arcs.now (known (goal.at.returns-clause-answer c).Else-not-network_known) size clear.new.bytes text.new.bytes
     row.counts_row.result (omega arith) clear.ensures (five (goal.at.returns-clause-answer c).After-counts_row) row.counts_row.ensures
-    text.ensures in
+    (text.ensures.answer, text.ensures.leaves) in
     write_done a.counts a.arcs.now size (known (goal.at.returns-clause-answer c).Else-not-network_known) counted.wide-count.ensures (omega arith)
-    text.new.1.0 lines.write_arcs.new.text.0 line lines.write_arcs.ensures).0
+    text.new.bytes lines.write_arcs.new.text line lines.write_arcs.ensures).0
 
 pub returns-clause-leaves : goal.returns-clause-leaves
 returns-clause-leaves c = (let lines = c in
@@ -93,8 +93,8 @@ returns-clause-leaves c = (let lines = c in
     let text = first.write in
     let size = length a.text.now in
     let line =
-    counts-written a.counts a.arcs.now (known (goal.at.returns-clause-leaves c).Else-not-network_known) size clear.last.0 text.new.1.0
+    counts-written a.counts a.arcs.now (known (goal.at.returns-clause-leaves c).Else-not-network_known) size clear.new.bytes text.new.bytes
     row.counts_row.result (omega arith) clear.ensures (five (goal.at.returns-clause-leaves c).After-counts_row) row.counts_row.ensures
-    text.ensures in
+    (text.ensures.answer, text.ensures.leaves) in
     write_done a.counts a.arcs.now size (known (goal.at.returns-clause-leaves c).Else-not-network_known) counted.wide-count.ensures (omega arith)
-    text.new.1.0 lines.write_arcs.new.text.0 line lines.write_arcs.ensures).1
+    text.new.bytes lines.write_arcs.new.text line lines.write_arcs.ensures).1

@@ -32,10 +32,10 @@ loop-i-preserved c =
     let lent : List ℕ = take (from + 32 - from) (drop from at.text) in
     let bytes : length lent ≡ 32 = search rules in
     let line =
-    arc-written words at.i row.result lent part.new.1.0 start.requires.0 (omega arith) five
-    row.ensures bytes part.ensures in
+    arc-written words at.i row.result lent part.new.bytes start.requires.0 (omega arith) five
+    row.ensures bytes (part.ensures.answer, part.ensures.leaves) in
     let put =
-    part-put 32 at.i (arcs_text (all_arcs words)) start.args.text.now at.text part.new.1.0 in
+    part-put 32 at.i (arcs_text (all_arcs words)) start.args.text.now at.text part.new.bytes in
     record {
       within = omega arith;
       sized = search rules;

@@ -12,7 +12,7 @@ connect_in-requires c =
     connect-ready a.header a.nodes.now a.classes.now a.roots.now a.plains.now
     a.combinations.now a.metastates.now a.arcs.now sets.clear_wide_words.ensures
     words.clear_words.ensures
-    after.combine-by_phone.ensures.answer after.combine-by_phone.ensures.ends.0 after.combine-by_phone.ensures.ends.1
+    after.combine-by_phone.ensures.answer after.combine-by_phone.ensures.ends after.combine-by_phone.ensures.leaves
     _ chosen.in-Combinations.is
 
 pub returns-in-Combinations-clause-answer : goal.returns-in-Combinations-clause-answer
@@ -25,7 +25,7 @@ returns-in-Combinations-clause-answer c = (let connected = c in
     connect-returns a.header a.nodes.now a.classes.now a.roots.now a.plains.now
     a.combinations.now a.metastates.now a.arcs.now sets.clear_wide_words.ensures
     words.clear_words.ensures
-    after.combine-by_phone.ensures.answer after.combine-by_phone.ensures.ends.0 after.combine-by_phone.ensures.ends.1
+    after.combine-by_phone.ensures.answer after.combine-by_phone.ensures.ends after.combine-by_phone.ensures.leaves
     _ chosen.in-Combinations.is a.limit connected.connect_in.ensures).0
 
 pub returns-in-Combinations-clause-leaves : goal.returns-in-Combinations-clause-leaves
@@ -38,7 +38,7 @@ returns-in-Combinations-clause-leaves c = (let connected = c in
     connect-returns a.header a.nodes.now a.classes.now a.roots.now a.plains.now
     a.combinations.now a.metastates.now a.arcs.now sets.clear_wide_words.ensures
     words.clear_words.ensures
-    after.combine-by_phone.ensures.answer after.combine-by_phone.ensures.ends.0 after.combine-by_phone.ensures.ends.1
+    after.combine-by_phone.ensures.answer after.combine-by_phone.ensures.ends after.combine-by_phone.ensures.leaves
     _ chosen.in-Combinations.is a.limit connected.connect_in.ensures).1
 
 pub returns-in-Refused-clause-answer : goal.returns-in-Refused-clause-answer
@@ -50,7 +50,7 @@ returns-in-Refused-clause-answer c = (let refused = c in
     combine-returns a.header a.nodes.now a.classes.now a.roots.now a.plains.now
     a.combinations.now a.metastates.now a.arcs.now sets.clear_wide_words.ensures
     words.clear_words.ensures
-    after.combine-by_phone.ensures.answer after.combine-by_phone.ensures.ends.0 after.combine-by_phone.ensures.ends.1
+    after.combine-by_phone.ensures.answer after.combine-by_phone.ensures.ends after.combine-by_phone.ensures.leaves
     a.limit _ refused.in-Refused.is).0
 
 pub returns-in-Refused-clause-leaves : goal.returns-in-Refused-clause-leaves
@@ -62,5 +62,5 @@ returns-in-Refused-clause-leaves c = (let refused = c in
     combine-returns a.header a.nodes.now a.classes.now a.roots.now a.plains.now
     a.combinations.now a.metastates.now a.arcs.now sets.clear_wide_words.ensures
     words.clear_words.ensures
-    after.combine-by_phone.ensures.answer after.combine-by_phone.ensures.ends.0 after.combine-by_phone.ensures.ends.1
+    after.combine-by_phone.ensures.answer after.combine-by_phone.ensures.ends after.combine-by_phone.ensures.leaves
     a.limit _ refused.in-Refused.is).1

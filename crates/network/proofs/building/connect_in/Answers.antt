@@ -3,6 +3,8 @@ use mathlib.Core.Path.{◌≡◌, sym, ap, subst}
 use Prim.Native.Nat.{ℕ, ◌*◌, ◌≤◌}
 use lib.ListN.{length, take}
 use lib.Seq.{length-take-le}
+use mathlib.Core.List.{List}
+use Rattle.definitions.specs.declared.Header.{Header}
 use Rattle.definitions.specs.Combinations.{combination_size}
 use Rattle.definitions.specs.Connecting.{Built}
 use Rattle.definitions.specs.Faults.{Outcome}
@@ -14,22 +16,25 @@ use borrow.Author.Rules.{rules}
 use Rattle.network.proofs.building.connect_in.Goals as goal
 use Rattle.network.proofs.building.connect_in.Goals.{After-combination_size}
 
+-- the words in use are within those that there are
+used-few : (c : goal.After-combination_size) → c.combination_size.result * c.args.count ≤ length c.args.combinations.now
+used-few c = cut-used c.combination_size.ensures c.args.count c.requires.0
+
+-- what connecting leads to by words of records of a size
+abbrev outcome : (header : Header) (nodes combinations metastates arcs : List ℕ) (count limit size : ℕ) → Outcome Built
+outcome header nodes combinations metastates arcs count limit size =
+    connected_in header nodes (take (size * count) combinations) metastates arcs limit
+
 -- the size that was computed is that of a record
-module _ (c : goal.After-combination_size) where
-  sized : c.combination_size.result ≡ combination_size c.args.header.half
-  sized = c.combination_size.ensures
-
-  used-few : c.combination_size.result * c.args.count ≤ length c.args.combinations.now
-  used-few = cut-used sized c.args.count c.requires.0
-
-  abbrev outcome : (size : ℕ) → Outcome Built
-  outcome c =
-      let a = c.args in
-      connected_in a.header a.nodes.now (take (size * a.count) a.combinations.now) a.metastates.now
-      a.arcs.now a.limit
-
-  same_outcome : outcome c.combination_size.result ≡ outcome (combination_size c.args.header.half)
-  same_outcome = ap outcome c
+same_outcome : (c : goal.After-combination_size)
+    → outcome c.args.header c.args.nodes.now c.args.combinations.now c.args.metastates.now c.args.arcs.now c.args.count
+    c.args.limit c.combination_size.result
+    ≡ outcome c.args.header c.args.nodes.now c.args.combinations.now c.args.metastates.now c.args.arcs.now c.args.count
+    c.args.limit (combination_size c.args.header.half)
+same_outcome c =
+    let a = c.args in
+    ap (outcome a.header a.nodes.now a.combinations.now a.metastates.now a.arcs.now a.count a.limit)
+    c.combination_size.ensures
 
 pub overflow_mul-used : goal.overflow_mul-used
 overflow_mul-used c = let few = used-few (goal.at.overflow_mul-used c).After-combination_size in search rules
@@ -46,7 +51,7 @@ connect-answer-requires c =
     let known = c in
     let a = known.args in
     subst (λ (n : ℕ). Ready a.header a.nodes.now (take (n * a.count) a.combinations.now) a.ends.now
-    a.metastates.now a.arcs.now) (sym (sized (goal.at.connect-answer-requires c).After-combination_size)) known.requires.1
+    a.metastates.now a.arcs.now) (sym c.combination_size.ensures) known.requires.1
 
 pub returns-in-Finished : goal.returns-in-Finished
 returns-in-Finished c =

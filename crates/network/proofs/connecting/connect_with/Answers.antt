@@ -2,15 +2,12 @@
 use Rattle.network.specs.Workspace.{Startable}
 use Rattle.network.specs.Laws.Connecting.{fillable, startable, start_between, connected, start-refused}
 use Rattle.network.proofs.connecting.connect_with.Goals as goal
-use Rattle.network.proofs.connecting.connect_with.Goals.{After-fill_index, After-start-arg4}
-
-abbrev entry : goal.After-start-arg4 → goal.start-step
-entry c = (c)
+use Rattle.network.proofs.connecting.connect_with.Goals.{After-fill_index}
 
 -- the index was filled, so the build may start
 ready : (c : goal.After-fill_index)
     → Startable c.args.header c.args.nodes.now c.args.combinations.now
-    c.fill_index.new.combinations.1.1.0 c.args.metastates.now c.args.arcs.now
+    c.fill_index.new.index c.args.metastates.now c.args.arcs.now
     c.args.chains.now
 ready c = let (given, work) = c.requires in startable given work c.fill_index.ensures
 
@@ -20,13 +17,13 @@ fill_index-requires c =
     fillable given work
 
 pub start-step-requires : goal.start-step-requires
-start-step-requires c = ready (c)
+start-step-requires c = ready (goal.at.start-step-requires c).After-fill_index
 
 pub take_turns-requires : goal.take_turns-requires
 take_turns-requires c =
     let arm = c in
     let call = arm in
-    let (given, work) = (entry call).requires in
+    let (given, work) = call.requires in
     start_between (ready (goal.at.take_turns-requires c).After-fill_index) call.start-step.ensures arm.in-Next.is work
 
 pub returns-in-Next : goal.returns-in-Next
@@ -35,10 +32,10 @@ returns-in-Next c =
     let arm = turned in
     let call = arm in
     connected (ready (goal.at.returns-in-Next c).After-fill_index) call.start-step.ensures arm.in-Next.is
-    (entry call).args.limit turned.take_turns.ensures
+    call.args.limit turned.take_turns.ensures
 
 pub returns-in-Stop : goal.returns-in-Stop
 returns-in-Stop c =
     let call = c in
-    start-refused (ready (goal.at.returns-in-Stop c).After-fill_index) call.start-step.ensures (entry call).args.limit
+    start-refused (ready (goal.at.returns-in-Stop c).After-fill_index) call.start-step.ensures call.args.limit
     c.in-Stop.is

@@ -72,7 +72,7 @@ returns-in-Stop c =
 pub overflow_add-turns : goal.overflow_add-turns
 overflow_add-turns c =
     let turn = c in
-    search (rules, turn.loop-turns-test.true, turn.fits.limit)
+    search (rules, turn.loop-turns-test.true, turn.ranges.limit)
 
 pub loop-turns-preserved : goal.loop-turns-preserved
 loop-turns-preserved c =

@@ -7,13 +7,10 @@ use Rattle.network.specs.Laws.Turning.{Turned, turned_none, metastates-word, arc
 use Rattle.network.specs.Laws.Turning.{turn_stopped, turned_more, turn-refused}
 use Rattle.network.proofs.connecting.take_turns.Given as goal
 
-abbrev invariant-loop : tie.invariant-loop
-invariant-loop header nodes combinations index metastates₀ arcs₀ chains₀ spans₀ limit now₀ turns₀
-    metastates arcs chains spans now turns =
-    Turned header nodes combinations index metastates₀ arcs₀ chains₀ spans₀ now₀ limit
-    metastates arcs chains spans now turns
+abbrev pub invariant-loop-turns : goal.invariant-loop-turns
+invariant-loop-turns l =
+    Turned l.header l.nodes l.combinations l.index l.initial.metastates l.initial.arcs l.initial.chains
+    l.initial.spans l.fn.sizes l.limit l.metastates l.arcs l.chains l.spans l.now l.turns
 
-abbrev decreases-loop : tie.decreases-loop
-decreases-loop header nodes combinations index metastates₀ arcs₀ chains₀ spans₀ limit now₀ turns₀
-    metastates arcs chains spans now turns =
-    limit - turns
+abbrev pub decreases-loop-turns : goal.decreases-loop-turns
+decreases-loop-turns l = l.limit - l.turns

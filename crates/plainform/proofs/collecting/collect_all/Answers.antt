@@ -11,10 +11,10 @@ use Rattle.plainform.proofs.collecting.collect_all.Goals as goal
 
 pub loop-i-init : goal.loop-i-init
 loop-i-init c = let a = c.args in
-    gathered-start (tree_in a.header a.nodes.now a.classes.now) a.roots.now a.sets-1.now
+    gathered-start (tree_in a.header a.nodes.now a.classes.now) a.roots.now a.sets.now
 
 pub collect_root-used-requires : goal.collect_root-used-requires
-collect_root-used-requires c κs = let turn = c in
+collect_root-used-requires c = let turn = c in
     let (known, room) = turn.requires in
     (root-known known turn.loop-i.i (omega arith), gathered-room turn.loop-i.invariant (omega arith) room)
 

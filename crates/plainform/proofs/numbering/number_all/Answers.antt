@@ -10,7 +10,7 @@ use Rattle.plainform.proofs.numbering.number_all.Goals as goal
 
 pub loop-i-init : goal.loop-i-init
 loop-i-init c = let a = c.args in
-    all_start (tree_in a.header a.nodes.now a.classes.now) a.sets.now a.roots.now a.table-1.now
+    all_start (tree_in a.header a.nodes.now a.classes.now) a.sets.now a.roots.now a.table.now
     a.starts.now
 
 pub bounds-starts-i : goal.bounds-starts-i
@@ -35,7 +35,7 @@ loop-i-preserved c =
     let turn = c in
     let (_, room, few) = turn.requires in
     all_more turn.loop-i.invariant (omega arith) done.ensures started.result started.ensures room few
-    done.auto.1.1.1.1.1.0
+    done.auto.table
 
 pub returns-clause-table : goal.returns-clause-table
 returns-clause-table c = (all_end c.loop-i.invariant (omega arith)).0

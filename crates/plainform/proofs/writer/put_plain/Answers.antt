@@ -40,13 +40,11 @@ record Cut (c : goal.After-wide) : Type 0 where
 cut : (c : goal.After-wide) → Cut c
 cut c =
     let header = c.args.header in
-    let held = c.wide-held.ensures in
-    let phones = c.wide-phones.ensures in
     record {
-      classes = omega (arith, (own_room header (tables c) c.requires).classes, held);
+      classes = omega (arith, (own_room header (tables c) c.requires).classes, c.wide-held.ensures);
       roots = omega (arith, roots-many c, roots-lent header (tables c) c.requires);
-      plains = omega (arith, (own_room header (tables c) c.requires).plains, phones);
-      lent = own-lent header (tables c) c.requires held (roots-many c) phones;
+      plains = omega (arith, (own_room header (tables c) c.requires).plains, c.wide-phones.ensures);
+      lent = own-lent header (tables c) c.requires c.wide-held.ensures (roots-many c) c.wide-phones.ensures;
     }
 
 pub slice_bounds-kept-end : goal.slice_bounds-kept-end
@@ -62,24 +60,27 @@ collect_all-used-requires c =
 
 record Many (c : goal.After-collect_all-used) : Type 0 where
   few : c.collect_all-used.result ≤ most_nodes
-  taken : length (take c.collect_all-used.result c.collect_all-used.new.nodes.1.1.1.0) ≡ c.collect_all-used.result
-  sized : length c.collect_all-used.new.nodes.1.1.1.0 ≡ most_nodes
+  taken : length (take c.collect_all-used.result c.collect_all-used.new.sets) ≡ c.collect_all-used.result
+  sized : length c.collect_all-used.new.sets ≡ most_nodes
 
-many : (c : goal.After-collect_all-used) → Many c
-many c =
-    let lent = (cut c.before.before).lent in
-    let done = c.collect_all-used.ensures in
+many : (c : goal.After-collect_all-used)
+    → LentBook c.args.header c.args.nodes.now
+    (take c.wide-held.result c.args.classes.now)
+    (take (c.wide-phones.result * c.wide.result) c.args.roots.now)
+    (take c.wide-phones.result c.args.plains.now)
+    → Many c
+many c lent =
     record {
-      few = used-few lent refl done;
-      taken = used-many lent refl done;
-      sized = done.sized;
+      few = used-few lent refl c.collect_all-used.ensures;
+      taken = used-many lent refl c.collect_all-used.ensures;
+      sized = c.collect_all-used.ensures.sized;
     }
 
 pub slice_bounds-sets-end : goal.slice_bounds-sets-end
-slice_bounds-sets-end c = let m = many (goal.at.slice_bounds-sets-end c).After-collect_all-used in omega (arith, m.few, m.sized)
+slice_bounds-sets-end c = let m = many (goal.at.slice_bounds-sets-end c).After-collect_all-used (cut (goal.at.slice_bounds-sets-end c).After-wide).lent in omega (arith, m.few, m.sized)
 
 pub slice_bounds-own-end : goal.slice_bounds-own-end
-slice_bounds-own-end c = sym (many (goal.at.slice_bounds-own-end c).After-collect_all-used).taken
+slice_bounds-own-end c = sym (many (goal.at.slice_bounds-own-end c).After-collect_all-used (cut (goal.at.slice_bounds-own-end c).After-wide).lent).taken
 
 pub number_all-requires : goal.number_all-requires
 number_all-requires c =
@@ -92,20 +93,22 @@ number_all-requires c =
 
 -- the roots that were put
 record Roots (c : goal.After-number_all) : Type 0 where
-  sized : length c.number_all.new.nodes.1.1.1.1.1.0 ≡ root_room
+  sized : length c.number_all.new.starts ≡ root_room
   few :
-      (c).wide-phones.result * (c).wide.result
-      ≤ length c.number_all.new.nodes.1.1.1.1.1.0
+      c.wide-phones.result * c.wide.result
+      ≤ length c.number_all.new.starts
 
 roots-put : (c : goal.After-number_all) → Roots c
 roots-put c =
     let w = c in
-    let narrow = roots-narrow w.args.header (tables c.before.before.before.before.before.before.before) w.requires in
-    let all = c.number_all.auto.nodes.1.1.1.1.1.0 in
-    record { sized = all; few = omega (arith, all, roots-many c.before.before.before.before.before.before.before, narrow) }
+    let a = w.args in
+    let many = ap₂ ◌*◌ w.wide-phones.ensures w.wide.ensures in
+    let narrow = roots-narrow a.header (lent_tables a.nodes.now a.classes.now a.roots.now a.plains.now) w.requires in
+    let all = c.number_all.auto.starts in
+    record { sized = all; few = omega (arith, all, many, narrow) }
 
 pub overflow_cast-plain : goal.overflow_cast-plain
-overflow_cast-plain c = omega (arith, (many (goal.at.overflow_cast-plain c).After-collect_all-used).few)
+overflow_cast-plain c = omega (arith, (many (goal.at.overflow_cast-plain c).After-collect_all-used (cut (goal.at.overflow_cast-plain c).After-wide).lent).few)
 
 pub slice_bounds-starts-end : goal.slice_bounds-starts-end
 slice_bounds-starts-end c = (roots-put (goal.at.slice_bounds-starts-end c).After-number_all).few
@@ -115,14 +118,14 @@ slice_bounds-put_book-end-2 c = sym (length-take-le _ _ (roots-put (goal.at.slic
 
 pub slice_bounds-put_book-end-3 : goal.slice_bounds-put_book-end-3
 slice_bounds-put_book-end-3 c =
-    sym (length-take-le _ _ (cut (c)).plains)
+    sym (length-take-le _ _ (cut (goal.at.slice_bounds-put_book-end-3 c).After-wide).plains)
 
 pub put_book-requires : goal.put_book-requires
 put_book-requires c =
     let numbered = c in
-    let starts = numbered.number_all.new.nodes.1.1.1.1.1.0 in
+    let starts = numbered.number_all.new.starts in
     let w = numbered in
-    let m = many (goal.at.put_book-requires c).After-collect_all-used in
+    let m = many (goal.at.put_book-requires c).After-collect_all-used (cut (goal.at.put_book-requires c).After-wide).lent in
     let r = roots-put (goal.at.put_book-requires c).After-number_all in (
       (cut (goal.at.put_book-requires c).After-wide).lent.stated.in-range.states_range.low,
       omega (arith, m.few, m.taken),
@@ -135,9 +138,8 @@ returns c =
     let put = c in
     let numbered = put in
     let w = numbered in
-    let done = numbered.number_all.ensures in
     let same =
     plain-written (cut (goal.at.returns c).After-wide).lent refl numbered.collect_all-used.ensures _ _ _
-    (sym (length-take-le _ _ (cut (goal.at.returns c).After-wide).roots)) done.0 done.1 in
+    (sym (length-take-le _ _ (cut (goal.at.returns c).After-wide).roots)) numbered.number_all.ensures.table numbered.number_all.ensures.starts in
     own_put w.args.header (tables (goal.at.returns c).After-wide) w.requires w.wide-held.ensures (roots-many (goal.at.returns c).After-wide)
     w.wide-phones.ensures same put.put_book.ensures

@@ -20,18 +20,20 @@ abbrev lent : goal.After-tables_known → Tables
 lent c = let a = c.args in lent_tables a.nodes.now a.classes.now a.roots.now a.plains.now
 
 -- the tables are known where the test did not refuse them
-known : (c : goal.Else-not-tables_known) → tables_known c.args.header (lent c.before) ≡ true
+known : (c : goal.Else-not-tables_known)
+    → let a = c.args in
+    tables_known a.header (lent_tables a.nodes.now a.classes.now a.roots.now a.plains.now) ≡ true
 known c = held c.tables_known.ensures (not_from_true _ c.if-not-tables_known.false)
 
 pub returns-then-not-tables_known-clause-answer : goal.returns-then-not-tables_known-clause-answer
-returns-then-not-tables_known-clause-answer c = let tested = (c in
+returns-then-not-tables_known-clause-answer c = (let tested = c in
     let a = tested.args in
     write-foreign a.header (lent (goal.at.returns-then-not-tables_known-clause-answer c).After-tables_known) (length a.text.now)
     (failed tested.tables_known.ensures (not_from_false _ c.if-not-tables_known.true)) c.not_written.ensures
     tested.clear_bytes.ensures).0
 
 pub returns-then-not-tables_known-clause-leaves : goal.returns-then-not-tables_known-clause-leaves
-returns-then-not-tables_known-clause-leaves c = let tested = (c in
+returns-then-not-tables_known-clause-leaves c = (let tested = c in
     let a = tested.args in
     write-foreign a.header (lent (goal.at.returns-then-not-tables_known-clause-leaves c).After-tables_known) (length a.text.now)
     (failed tested.tables_known.ensures (not_from_false _ c.if-not-tables_known.true)) c.not_written.ensures
@@ -42,11 +44,11 @@ put_plain-count-requires c = known (goal.at.put_plain-count-requires c).Else-not
 
 -- the text that lines were put into is as long as it was
 sized : (c : goal.After-put_plain-count)
-    → length c.put_plain-count.new.nodes.1.1.1.1.0 ≡ length c.args.text.now
-sized c = c.put_plain-count.auto.nodes.1.1.1.1.0 ∙ c.clear_bytes.auto.bytes
+    → length c.put_plain-count.new.text ≡ length c.args.text.now
+sized c = c.put_plain-count.auto.text ∙ c.clear_bytes.auto.bytes
 
 pub returns-then-text-count-clause-answer : goal.returns-then-text-count-clause-answer
-returns-then-text-count-clause-answer c = let cleared-again = (c in
+returns-then-text-count-clause-answer c = (let cleared-again = c in
     let done = cleared-again in
     let passed = done in
     let a = passed.args in
@@ -56,7 +58,7 @@ returns-then-text-count-clause-answer c = let cleared-again = (c in
     (cleared-again.clear_bytes-then-text-count.ensures ∙ ap (λ (n : ℕ). cleared n) (sized (goal.at.returns-then-text-count-clause-answer c).After-put_plain-count))).0
 
 pub returns-then-text-count-clause-leaves : goal.returns-then-text-count-clause-leaves
-returns-then-text-count-clause-leaves c = let cleared-again = (c in
+returns-then-text-count-clause-leaves c = (let cleared-again = c in
     let done = cleared-again in
     let passed = done in
     let a = passed.args in
@@ -66,7 +68,7 @@ returns-then-text-count-clause-leaves c = let cleared-again = (c in
     (cleared-again.clear_bytes-then-text-count.ensures ∙ ap (λ (n : ℕ). cleared n) (sized (goal.at.returns-then-text-count-clause-leaves c).After-put_plain-count))).1
 
 pub returns-clause-answer : goal.returns-clause-answer
-returns-clause-answer c = let done = (c in
+returns-clause-answer c = (let done = c in
     let passed = done in
     let a = passed.args in
     write_done a.header (lent (goal.at.returns-clause-answer c).After-tables_known) (known (goal.at.returns-clause-answer c).Else-not-tables_known) (length a.text.now)
@@ -74,7 +76,7 @@ returns-clause-answer c = let done = (c in
     (omega (arith, sized (goal.at.returns-clause-answer c).After-put_plain-count, c.if-text-count.false))).0
 
 pub returns-clause-leaves : goal.returns-clause-leaves
-returns-clause-leaves c = let done = (c in
+returns-clause-leaves c = (let done = c in
     let passed = done in
     let a = passed.args in
     write_done a.header (lent (goal.at.returns-clause-leaves c).After-tables_known) (known (goal.at.returns-clause-leaves c).Else-not-tables_known) (length a.text.now)

@@ -14,7 +14,7 @@ use Rattle.program.proofs.running.print_built.Goals as goal
 use Rattle.program.proofs.running.print_built.Goals.{After-build_book-answer}
 
 abbrev words : goal.After-build_book-answer → List ℕ
-words c = c.build_book-answer.new.nodes.1.1.1.1.1.1.0
+words c = c.build_book-answer.new.arcs
 
 -- the answer can be printed,
 printable : (c : goal.After-build_book-answer) (answer : Build) → c.build_book-answer.result ≡ answer
@@ -22,7 +22,7 @@ printable : (c : goal.After-build_book-answer) (answer : Build) → c.build_book
 unfolding matrix_size
 printable c answer f =
     answer-printable _ _ _ c.args.text.now answer _
-    (ap build_said (sym f) ∙ c.build_book-answer.ensures.answer) c.build_book-answer.ensures.tables.1.0 c.requires.0
+    (ap build_said (sym f) ∙ c.build_book-answer.ensures.answer) c.build_book-answer.ensures.leaves c.requires.0
 
 -- and what is printed of it is what is printed of the book
 prints : (c : goal.After-build_book-answer) (answer : Build) (output : List ℕ) (count : ℕ)
@@ -32,7 +32,7 @@ unfolding matrix_size
 prints c answer output count f =
     prints-same (text_told answer (words c)) (book_text c.args.text.now) output count
     (answer-text _ _ _ c.args.text.now answer _
-    (ap build_said (sym f) ∙ c.build_book-answer.ensures.answer) c.build_book-answer.ensures.tables.1.0 refl refl refl)
+    (ap build_said (sym f) ∙ c.build_book-answer.ensures.answer) c.build_book-answer.ensures.leaves refl refl refl)
 
 pub print_network-requires : goal.print_network-requires
 print_network-requires c =

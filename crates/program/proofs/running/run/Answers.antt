@@ -11,38 +11,12 @@ use Rattle.program.proofs.running.run.Goals as goal
 pub print_all-length-requires : goal.print_all-length-requires
 print_all-length-requires c = cleared-empty
 
-pub returns-clause-prints : goal.returns-clause-prints
-returns-clause-prints c = (let read = c in
+pub returns : goal.returns
+returns c =
+    let read = c in
     let s = read in
     let printed = prints-same _ _ _ _ (ap program read.bytes_read.ensures) c.print_all-length.ensures in
     let (sized, fits) = prints-fit _ _ _ printed (search rules) in
     let room = read.bytes_read-arg-1.given.0 in
     let whole = prints-input s.args.buffer.now s.args.got _ _ room printed in
-    (printed, (prints-demand _ _ _ printed, ((sized, fits), whole)))).0
-
-pub returns-clause-demand : goal.returns-clause-demand
-returns-clause-demand c = (let read = c in
-    let s = read in
-    let printed = prints-same _ _ _ _ (ap program read.bytes_read.ensures) c.print_all-length.ensures in
-    let (sized, fits) = prints-fit _ _ _ printed (search rules) in
-    let room = read.bytes_read-arg-1.given.0 in
-    let whole = prints-input s.args.buffer.now s.args.got _ _ room printed in
-    (printed, (prints-demand _ _ _ printed, ((sized, fits), whole)))).1
-
-pub returns-clause-fits : goal.returns-clause-fits
-returns-clause-fits c = (let read = c in
-    let s = read in
-    let printed = prints-same _ _ _ _ (ap program read.bytes_read.ensures) c.print_all-length.ensures in
-    let (sized, fits) = prints-fit _ _ _ printed (search rules) in
-    let room = read.bytes_read-arg-1.given.0 in
-    let whole = prints-input s.args.buffer.now s.args.got _ _ room printed in
-    (printed, (prints-demand _ _ _ printed, ((sized, fits), whole)))).2
-
-pub returns-clause-whole : goal.returns-clause-whole
-returns-clause-whole c = (let read = c in
-    let s = read in
-    let printed = prints-same _ _ _ _ (ap program read.bytes_read.ensures) c.print_all-length.ensures in
-    let (sized, fits) = prints-fit _ _ _ printed (search rules) in
-    let room = read.bytes_read-arg-1.given.0 in
-    let whole = prints-input s.args.buffer.now s.args.got _ _ room printed in
-    (printed, (prints-demand _ _ _ printed, ((sized, fits), whole)))).3
+    record { prints = printed; demand = prints-demand _ _ _ printed; fits = (sized, fits); whole = whole }

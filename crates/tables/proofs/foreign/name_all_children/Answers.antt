@@ -1,7 +1,6 @@
 -- `foreign::name_all_children` meets its contract. The loop's invariant: the children of the records before
 -- `at` are counted.
-use Prim.Native.Nat.{◌-◌}
-use Rattle.tables.specs.Laws.NamingTables.{ChildrenNamed, children-start, children-more, children-end}
+use Rattle.tables.specs.Laws.NamingTables.{children-start, children-more, children-end}
 use borrow.Author.Rules.{rules}
 use Rattle.tables.proofs.foreign.name_all_children.Goals as goal
 

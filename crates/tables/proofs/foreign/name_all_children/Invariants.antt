@@ -1,7 +1,7 @@
 -- `foreign::name_all_children` meets its contract. The loop's invariant: the children of the records before
 -- `at` are counted.
 use Prim.Native.Nat.{◌-◌}
-use Rattle.tables.specs.Laws.NamingTables.{ChildrenNamed, children-start, children-more, children-end}
+use Rattle.tables.specs.Laws.NamingTables.{ChildrenNamed}
 use Rattle.tables.proofs.foreign.name_all_children.Given as goal
 
 abbrev pub invariant-loop-at : goal.invariant-loop-at

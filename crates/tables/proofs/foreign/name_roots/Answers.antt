@@ -1,7 +1,5 @@
 -- `foreign::name_roots` meets its contract. The loop's invariant: the roots before `i` are counted.
-use Prim.Native.Nat.{◌-◌}
-use lib.ListN.{length}
-use Rattle.tables.specs.Laws.NamingTables.{RootsNamed, roots-start, roots-more, roots-end}
+use Rattle.tables.specs.Laws.NamingTables.{roots-start, roots-more, roots-end}
 use borrow.Author.Rules.{rules}
 use Rattle.tables.proofs.foreign.name_roots.Goals as goal
 

@@ -1,7 +1,7 @@
 -- `foreign::name_roots` meets its contract. The loop's invariant: the roots before `i` are counted.
 use Prim.Native.Nat.{◌-◌}
 use lib.ListN.{length}
-use Rattle.tables.specs.Laws.NamingTables.{RootsNamed, roots-start, roots-more, roots-end}
+use Rattle.tables.specs.Laws.NamingTables.{RootsNamed}
 use Rattle.tables.proofs.foreign.name_roots.Given as goal
 
 abbrev pub invariant-loop-i : goal.invariant-loop-i

@@ -1,11 +1,8 @@
 -- `holding::holds_only` meets its contract. The loop's invariant: the words from `count` up to `i` are 0.
 use mathlib.Core.Path.{sym}
-use Prim.Native.Nat.{◌-◌}
-use lib.ListN.{length}
 use borrow.Author.Tests.{eq-eqb, ne_eqb}
-use Rattle.definitions.specs.ForeignTables.{holds_only}
-use Rattle.lines.specs.Laws.Passing.{Passed, passed-more, passed-stop, passed-end}
-use Rattle.tables.specs.Laws.TableTests.{is_zero, holds-short, holds-from}
+use Rattle.lines.specs.Laws.Passing.{passed-more, passed-stop, passed-end}
+use Rattle.tables.specs.Laws.TableTests.{holds-short, holds-from}
 use borrow.Author.Rules.{rules}
 use Rattle.tables.proofs.holding.holds_only.Goals as goal
 

@@ -1,8 +1,7 @@
 -- `known::node_table_known` meets its contract. The loop's invariant: the records before `at` are known.
-use Prim.Native.Nat.{◌-◌}
 use Rattle.definitions.specs.ForeignTables.{node_table_known}
 use Rattle.definitions.proofs.Laws.Lists.Tests.{held, failed}
-use Rattle.tables.specs.Laws.TableTests.{Judged, nodes-held, nodes-more, nodes-stop, nodes-end}
+use Rattle.tables.specs.Laws.TableTests.{nodes-held, nodes-more, nodes-stop, nodes-end}
 use Rattle.std.proofs.lemmas.Bool.{not_from_true}
 use Rattle.std.proofs.lemmas.Bool.{not_from_false}
 use borrow.Author.Rules.{rules}

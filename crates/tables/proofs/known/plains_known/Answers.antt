@@ -1,10 +1,8 @@
 -- `known::plains_known` meets its contract. The loop's invariant: the words before `i` are known.
-use Prim.Native.Nat.{◌-◌}
-use lib.ListN.{length}
 use borrow.Author.Tests.{eq-eqb, ne_eqb}
-use Rattle.definitions.specs.ForeignTables.{plain_known, plains_known}
+use Rattle.definitions.specs.ForeignTables.{plains_known}
 use Rattle.definitions.proofs.Laws.Lists.Tests.{held, failed}
-use Rattle.lines.specs.Laws.Passing.{Passed, passed-more, passed-stop, passed-end}
+use Rattle.lines.specs.Laws.Passing.{passed-more, passed-stop, passed-end}
 use Rattle.std.proofs.lemmas.Bool.{not_from_true}
 use Rattle.std.proofs.lemmas.Bool.{not_from_false}
 use borrow.Author.Rules.{rules}

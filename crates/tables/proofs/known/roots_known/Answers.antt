@@ -1,9 +1,9 @@
 -- `known::roots_known` meets its contract. The loop's invariant: the roots of the phones before `i` are known.
-use Prim.Native.Nat.{◌+◌, ◌-◌, ◌*◌, ◌≤◌, ◌<◌}
+use Prim.Native.Nat.{◌+◌, ◌*◌, ◌≤◌, ◌<◌}
 use native.Mathlib.Omega.{arith}
 use lib.ListN.{length}
 use Rattle.definitions.proofs.Laws.Lists.Tests.{held, failed}
-use Rattle.tables.specs.Laws.PhoneTests.{RootsPassed, roots-start, roots-inside, roots-more, roots-stop}
+use Rattle.tables.specs.Laws.PhoneTests.{roots-start, roots-inside, roots-more, roots-stop}
 use Rattle.tables.specs.Laws.PhoneTests.{roots-end}
 use Rattle.std.proofs.lemmas.Bool.{not_from_true}
 use Rattle.std.proofs.lemmas.Bool.{not_from_false}

@@ -1,10 +1,6 @@
 -- `known::roots_known` meets its contract. The loop's invariant: the roots of the phones before `i` are known.
-use Prim.Native.Nat.{◌+◌, ◌-◌, ◌*◌, ◌≤◌, ◌<◌}
-use native.Mathlib.Omega.{arith}
-use lib.ListN.{length}
-use Rattle.definitions.proofs.Laws.Lists.Tests.{held, failed}
-use Rattle.tables.specs.Laws.PhoneTests.{RootsPassed, roots-start, roots-inside, roots-more, roots-stop}
-use Rattle.tables.specs.Laws.PhoneTests.{roots-end}
+use Prim.Native.Nat.{◌-◌}
+use Rattle.tables.specs.Laws.PhoneTests.{RootsPassed}
 use Rattle.tables.proofs.known.roots_known.Given as goal
 
 abbrev pub invariant-loop-i : goal.invariant-loop-i

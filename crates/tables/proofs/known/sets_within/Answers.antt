@@ -1,11 +1,6 @@
 -- `known::sets_within` meets its contract. The loop's invariant: the sets before `i` hold no phone beyond the
 -- last.
-use mathlib.Core.Bool.{Bool}
-use Prim.Native.Nat.{◌^◌, ℕ, ◌-◌}
-use lib.Dec.{ltb}
-use lib.ListN.{length, set}
-use Rattle.definitions.specs.Lists.{every}
-use Rattle.lines.specs.Laws.Passing.{Passed, passed_start, passed-more, passed-stop, passed-end}
+use Rattle.lines.specs.Laws.Passing.{passed_start, passed-more, passed-stop, passed-end}
 use Rattle.tables.specs.Laws.RecordTests.{set-within, set_beyond}
 use borrow.Author.Rules.{rules}
 use Rattle.tables.proofs.known.sets_within.Goals as goal

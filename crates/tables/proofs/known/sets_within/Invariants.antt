@@ -3,10 +3,9 @@
 use mathlib.Core.Bool.{Bool}
 use Prim.Native.Nat.{◌^◌, ℕ, ◌-◌}
 use lib.Dec.{ltb}
-use lib.ListN.{length, set}
+use lib.ListN.{length}
 use Rattle.definitions.specs.Lists.{every}
-use Rattle.lines.specs.Laws.Passing.{Passed, passed_start, passed-more, passed-stop, passed-end}
-use Rattle.tables.specs.Laws.RecordTests.{set-within, set_beyond}
+use Rattle.lines.specs.Laws.Passing.{Passed}
 use Rattle.tables.proofs.known.sets_within.Given as goal
 
 abbrev pub invariant-loop-i : goal.invariant-loop-i

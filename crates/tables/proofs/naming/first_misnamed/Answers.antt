@@ -1,9 +1,6 @@
 -- `naming::first_misnamed` meets its contract. The loop's invariant: the counts before `node` are 1, so the
 -- first that is not 1 is looked for among the others.
-use mathlib.Core.Path.{◌≡◌, sym, ◌∙◌}
-use Prim.Native.Nat.{◌+◌, ◌-◌, ◌≤◌}
-use lib.ListN.{length, drop}
-use Rattle.tables.specs.Naming.{first_misnamed}
+use mathlib.Core.Path.{sym, ◌∙◌}
 use Rattle.tables.specs.Laws.Naming.{misnamed-more, misnamed-here, misnamed-end}
 use borrow.Author.Rules.{rules}
 use Rattle.tables.proofs.naming.first_misnamed.Goals as goal

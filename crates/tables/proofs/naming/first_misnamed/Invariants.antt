@@ -1,10 +1,9 @@
 -- `naming::first_misnamed` meets its contract. The loop's invariant: the counts before `node` are 1, so the
 -- first that is not 1 is looked for among the others.
-use mathlib.Core.Path.{◌≡◌, sym, ◌∙◌}
+use mathlib.Core.Path.{◌≡◌}
 use Prim.Native.Nat.{◌+◌, ◌-◌, ◌≤◌}
 use lib.ListN.{length, drop}
 use Rattle.tables.specs.Naming.{first_misnamed}
-use Rattle.tables.specs.Laws.Naming.{misnamed-more, misnamed-here, misnamed-end}
 use Rattle.tables.proofs.naming.first_misnamed.Given as goal
 
 abbrev pub invariant-loop-node : goal.invariant-loop-node

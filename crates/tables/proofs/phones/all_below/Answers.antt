@@ -1,11 +1,6 @@
 -- `phones::all_below` meets its contract. The loop's invariant: the words before `i` are below the bound.
-use mathlib.Core.Bool.{Bool}
-use Prim.Native.Nat.{ℕ, ◌-◌}
-use lib.Dec.{ltb}
-use lib.ListN.{length}
 use borrow.Author.Tests.{lt-ltb, le-ltb}
-use Rattle.definitions.specs.Lists.{every}
-use Rattle.lines.specs.Laws.Passing.{Passed, passed_start, passed-more, passed-stop, passed-end}
+use Rattle.lines.specs.Laws.Passing.{passed_start, passed-more, passed-stop, passed-end}
 use borrow.Author.Rules.{rules}
 use Rattle.tables.proofs.phones.all_below.Goals as goal
 

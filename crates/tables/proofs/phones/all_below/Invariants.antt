@@ -3,9 +3,8 @@ use mathlib.Core.Bool.{Bool}
 use Prim.Native.Nat.{ℕ, ◌-◌}
 use lib.Dec.{ltb}
 use lib.ListN.{length}
-use borrow.Author.Tests.{lt-ltb, le-ltb}
 use Rattle.definitions.specs.Lists.{every}
-use Rattle.lines.specs.Laws.Passing.{Passed, passed_start, passed-more, passed-stop, passed-end}
+use Rattle.lines.specs.Laws.Passing.{Passed}
 use Rattle.tables.proofs.phones.all_below.Given as goal
 
 abbrev pub invariant-loop-i : goal.invariant-loop-i

@@ -1,12 +1,6 @@
 -- `phones::all_left_out` meets its contract. The loop's invariant: the roots before `i` are left out.
-use mathlib.Core.Bool.{Bool}
-use Prim.Native.Nat.{ℕ, ◌-◌}
-use lib.Dec.{eqb}
-use lib.ListN.{length}
 use borrow.Author.Tests.{eq-eqb, ne_eqb}
-use Rattle.definitions.specs.BookLines.{no_root}
-use Rattle.definitions.specs.Lists.{every}
-use Rattle.lines.specs.Laws.Passing.{Passed, passed_start, passed-more, passed-stop, passed-end}
+use Rattle.lines.specs.Laws.Passing.{passed_start, passed-more, passed-stop, passed-end}
 use borrow.Author.Rules.{rules}
 use Rattle.tables.proofs.phones.all_left_out.Goals as goal
 

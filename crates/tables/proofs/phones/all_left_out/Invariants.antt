@@ -3,10 +3,9 @@ use mathlib.Core.Bool.{Bool}
 use Prim.Native.Nat.{ℕ, ◌-◌}
 use lib.Dec.{eqb}
 use lib.ListN.{length}
-use borrow.Author.Tests.{eq-eqb, ne_eqb}
 use Rattle.definitions.specs.BookLines.{no_root}
 use Rattle.definitions.specs.Lists.{every}
-use Rattle.lines.specs.Laws.Passing.{Passed, passed_start, passed-more, passed-stop, passed-end}
+use Rattle.lines.specs.Laws.Passing.{Passed}
 use Rattle.tables.proofs.phones.all_left_out.Given as goal
 
 abbrev pub invariant-loop-i : goal.invariant-loop-i

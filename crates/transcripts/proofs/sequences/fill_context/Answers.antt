@@ -1,10 +1,9 @@
 -- `sequences::fill_context` meets its contract. The loop's invariant: the columns before `column` hold the
 -- context's phones, the others are as they were.
 use mathlib.Core.Path.{◌≡◌, ◌∙◌}
-use Prim.Native.Nat.{◌-◌}
 use lib.ListN.{length}
 use Rattle.definitions.proofs.Laws.Trees.Contexts.{context_at, silent-context-length}
-use Rattle.lines.specs.Laws.Filling.{Filled, filled-start, filled_more, filled-end}
+use Rattle.lines.specs.Laws.Filling.{filled-start, filled_more, filled-end}
 use borrow.Author.Rules.{rules}
 use Rattle.transcripts.proofs.sequences.fill_context.Goals as goal
 use Rattle.transcripts.proofs.sequences.fill_context.Goals.{Start}

@@ -1,10 +1,9 @@
 -- `sequences::fill_context` meets its contract. The loop's invariant: the columns before `column` hold the
 -- context's phones, the others are as they were.
-use mathlib.Core.Path.{◌≡◌, ◌∙◌}
 use Prim.Native.Nat.{◌-◌}
 use lib.ListN.{length}
-use Rattle.definitions.proofs.Laws.Trees.Contexts.{context_at, silent-context-length}
-use Rattle.lines.specs.Laws.Filling.{Filled, filled-start, filled_more, filled-end}
+use Rattle.definitions.proofs.Laws.Trees.Contexts.{context_at}
+use Rattle.lines.specs.Laws.Filling.{Filled}
 use Rattle.transcripts.proofs.sequences.fill_context.Given as goal
 
 abbrev pub invariant-loop-column : goal.invariant-loop-column

@@ -33,14 +33,12 @@ returns-then-not-are_phones c =
 
 pub returns-then-first-ne1 : goal.returns-then-first-ne1
 returns-then-first-ne1 c =
-    let q = c in
     let (some, most) = few (goal.at.returns-then-first-ne1 c).Else-count-gt-MOST_SOUNDS in
-    let all = held q.are_phones.ensures (not_from_true _ c.if-not-are_phones.false) in
+    let all = held c.are_phones.ensures (not_from_true _ c.if-not-are_phones.false) in
     sym (other-start _ _ some most all c.if-first-ne1.true)
 
 pub returns : goal.returns
 returns c =
-    let q = c in
     let (some, most) = few (goal.at.returns c).Else-count-gt-MOST_SOUNDS in
-    let all = held q.are_phones.ensures (not_from_true _ c.if-not-are_phones.false) in
+    let all = held c.are_phones.ensures (not_from_true _ c.if-not-are_phones.false) in
     sym (by_end _ _ some most all c.if-first-ne1.false)

@@ -9,7 +9,7 @@ use Rattle.definitions.proofs.Laws.Trees.Contexts.{context_at}
 use Rattle.definitions.proofs.Laws.Trees.Utterances.{utterance-few, utterance-phones}
 use Rattle.tables.specs.Usable.{book_with}
 use Rattle.transcripts.specs.Laws.Models.{room, placed-more, placed_end}
-use Rattle.transcripts.specs.Laws.Questions.{PlacesSoFar, places-start, place_few, sum-few, sum-next, sum-end}
+use Rattle.transcripts.specs.Laws.Questions.{places-start, place_few, sum-few, sum-next, sum-end}
 use Rattle.transcripts.proofs.transcription.all_models.Goals as goal
 use Rattle.transcripts.proofs.transcription.all_models.Goals.{In-loop-place, Start}
 
@@ -24,8 +24,8 @@ fits : (c : goal.In-loop-place)
     ≤ length c.args.models.now
 unfolding book_with
 fits c =
-    let start = c in
-    room (book c.before.before.before.before.before.before.before.before) start.args.sequence.now start.args.models.now start.requires.2 _ _
+    let a = c.args in
+    room (book_with a.header a.nodes.now a.classes.now a.roots.now) a.sequence.now a.models.now c.requires.2 _ _
     c.loop-place-test.true c.wide-states.ensures
 
 pub loop-place-init : goal.loop-place-init
@@ -36,9 +36,6 @@ overflow_mul-from c = omega (arith, fits (goal.at.overflow_mul-from c).In-loop-p
 
 pub overflow_add-end : goal.overflow_add-end
 overflow_add-end c = omega (arith, fits (goal.at.overflow_add-end c).In-loop-place)
-
-pub offset_bounds-models-from : goal.offset_bounds-models-from
-offset_bounds-models-from c = omega (arith, fits (goal.at.offset_bounds-models-from c).In-loop-place, c.good)
 
 pub slice_bounds-models_at-count : goal.slice_bounds-models_at-count
 slice_bounds-models_at-count c = omega arith
@@ -51,51 +48,46 @@ slice_bounds-models_at-end c = omega (arith, fits (goal.at.slice_bounds-models_a
 
 pub models_at-questions-requires : goal.models_at-questions-requires
 models_at-questions-requires c =
-    let wide = c in
-    let p = wide.requires in (
+    let p = c.requires in (
       p.0,
       utterance-phones _ _ p.1,
       c.loop-place-test.true,
-      omega (arith, c.models_at-arg-1.given, wide.wide-states.ensures),
+      omega (arith, c.wide-states.ensures),
     )
 
 pub overflow_add-questions : goal.overflow_add-questions
 unfolding book_with
 overflow_add-questions c =
-    let head = c in
-    let start = head in
-    let a = start.args in
-    let few = sum-few a.header a.nodes.now a.classes.now a.roots.now start.requires.0 a.sequence.now
-    head.loop-place.place head.loop-place.invariant.placed.within in
-    let more = place_few a.header a.nodes.now a.classes.now a.roots.now start.requires.0
-    (context_at a.header.half a.sequence.now head.loop-place.place) in
+    let a = c.args in
+    let few = sum-few a.header a.nodes.now a.classes.now a.roots.now c.requires.0 a.sequence.now
+    c.loop-place.place c.loop-place.invariant.placed.within in
+    let more = place_few a.header a.nodes.now a.classes.now a.roots.now c.requires.0
+    (context_at a.header.half a.sequence.now c.loop-place.place) in
     omega (
       arith,
       few,
       more,
-      head.loop-place.invariant.summed,
+      c.loop-place.invariant.summed,
       c.models_at-questions.ensures.questions_are,
-      head.loop-place.invariant.placed.within,
-      utterance-few _ _ start.requires.1,
+      c.loop-place.invariant.placed.within,
+      utterance-few _ _ c.requires.1,
     )
 
 pub loop-place-preserved : goal.loop-place-preserved
 unfolding book_with
 loop-place-preserved c =
-    let turn = c in
-    let wide = turn in
-    let a = wide.args in
-    let k : ℕ = wide.wide-states.result in
-    let i : ℕ = turn.loop-place.place in
-    let inv = turn.loop-place.invariant in
+    let a = c.args in
+    let k : ℕ = c.wide-states.result in
+    let i : ℕ = c.loop-place.place in
+    let inv = c.loop-place.invariant in
     let given = c.models_at-questions.ensures in
     record {
       placed =
-          placed-more (book (goal.at.loop-place-preserved c).Start) a.sequence.now a.models.now turn.loop-place.models i
-          inv.placed wide.requires.2 turn.loop-place-test.true k (i * k + k - i * k)
-          wide.wide-states.ensures (omega arith) _ given.models_are;
+          placed-more (book (goal.at.loop-place-preserved c).Start) a.sequence.now a.models.now c.loop-place.models i
+          inv.placed c.requires.2 c.loop-place-test.true k (i * k + k - i * k)
+          c.wide-states.ensures (omega arith) _ given.models_are;
       summed =
-          sum-next (book (goal.at.loop-place-preserved c).Start) a.sequence.now i turn.loop-place-test.true _ inv.summed _
+          sum-next (book (goal.at.loop-place-preserved c).Start) a.sequence.now i c.loop-place-test.true _ inv.summed _
           given.questions_are;
     }
 

@@ -9,42 +9,33 @@ use lib.ListN.{length, take}
 use Rattle.definitions.specs.Lookup.{is_context}
 use Rattle.definitions.specs.Transcription.{questions_at}
 use Rattle.definitions.proofs.Laws.Trees.Contexts.{context_at}
-use Rattle.tables.specs.Usable.{book_with, Fit}
+use Rattle.tables.specs.Usable.{book_with}
 use Rattle.transcripts.specs.Answers.{state_models}
 use Rattle.transcripts.specs.Laws.Models.{context-fits, window-inside, window-taken}
 use Rattle.transcripts.proofs.transcription.models_at.Goals as goal
 use Rattle.transcripts.proofs.transcription.models_at.Goals.{After-fill_context, After-wide-half, Start}
 
-fit : (c : goal.Start)
-    → Fit c.args.header c.args.nodes.now c.args.classes.now c.args.roots.now
-fit c = c.requires.0
-
 half-small : (c : goal.After-wide-half) → c.wide-half.result ≤ 3
-half-small c = omega (arith, (fit c.before.before.before.before.before.before).ranges.half_range.high, c.wide-half.ensures)
+half-small c = omega (arith, c.requires.0.ranges.half_range.high, c.wide-half.ensures)
 
 -- the front of the window, filled with the context
 abbrev filled : goal.After-fill_context → List ℕ
-filled c = c.fill_context.last.half.1.1.0
+filled c = c.fill_context.new.context
 
 inside : (c : goal.After-fill_context) (rest : List ℕ)
     → 2 * c.wide-half.result + 1 ≤ length (filled c ++ rest)
 inside c rest =
-    let start = c in
-    let half = c.wide-half in
-    window-inside start.args.header start.args.sequence.now start.args.place start.requires.2
-    half.result half.ensures (filled c) c.fill_context.ensures rest
+    let a = c.args in
+    window-inside a.header a.sequence.now a.place c.requires.2
+    c.wide-half.result c.wide-half.ensures (filled c) c.fill_context.ensures rest
 
--- the context of the place, as the book has it
-abbrev own : goal.Start → List ℕ
-own c = context_at c.args.header.half c.args.sequence.now c.args.place
-
+-- that is the context of the place, as the book has it
 taken : (c : goal.After-fill_context) (rest : List ℕ)
-    → take (2 * c.wide-half.result + 1) (filled c ++ rest) ≡ own c.before.before.before.before.before.before.before.before
+    → take (2 * c.wide-half.result + 1) (filled c ++ rest) ≡ context_at c.args.header.half c.args.sequence.now c.args.place
 taken c rest =
-    let start = c in
-    let half = c.wide-half in
-    window-taken start.args.header start.args.sequence.now start.args.place start.requires.2
-    half.result half.ensures (filled c) c.fill_context.ensures rest
+    let a = c.args in
+    window-taken a.header a.sequence.now a.place c.requires.2
+    c.wide-half.result c.wide-half.ensures (filled c) c.fill_context.ensures rest
 
 pub slice_bounds-window-end : goal.slice_bounds-window-end
 slice_bounds-window-end c = omega (arith, half-small (goal.at.slice_bounds-window-end c).After-wide-half)
@@ -65,19 +56,17 @@ slice_bounds-models_of-end c = sym (length-take-le _ _ (inside (goal.at.slice_bo
 
 pub models_of-requires : goal.models_of-requires
 models_of-requires c =
-    let filling = c in
-    let start = filling in
-    let fits = context-fits start.args.header start.args.sequence.now start.args.place
-    start.requires.2 (fit (goal.at.models_of-requires c).Start).ranges.phones_range.low start.requires.1 in (
-      start.requires.0,
-      subst (λ (l : List ℕ). T (is_context start.args.header l)) (sym (taken (goal.at.models_of-requires c).After-fill_context _)) fits,
-      start.requires.3,
+    let a = c.args in
+    let fits = context-fits a.header a.sequence.now a.place
+    c.requires.2 c.requires.0.ranges.phones_range.low c.requires.1 in (
+      c.requires.0,
+      subst (λ (l : List ℕ). T (is_context a.header l)) (sym (taken (goal.at.models_of-requires c).After-fill_context _)) fits,
+      c.requires.3,
     )
 
 pub returns : goal.returns
 returns c =
-    let filling = c in
-    let a = filling.args in
+    let a = c.args in
     let book = book_with a.header a.nodes.now a.classes.now a.roots.now in
     let given = c.models_of.ensures in
     record {

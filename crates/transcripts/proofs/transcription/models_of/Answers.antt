@@ -2,7 +2,7 @@
 -- of their states, the others are as they were; and the questions met for these states were counted.
 use mathlib.Core.Path.{◌≡◌, sym, ap, ◌∙◌}
 use mathlib.Core.List.{List}
-use Prim.Native.Nat.{ℕ, ◌+◌, ◌-◌, ◌≤◌, ◌<◌}
+use Prim.Native.Nat.{ℕ, ◌+◌, ◌≤◌, ◌<◌}
 use native.Mathlib.Omega.{arith}
 use lib.ListN.{length}
 use Rattle.definitions.specs.Lists.{up_from, sum_of}
@@ -12,7 +12,7 @@ use Rattle.transcripts.specs.declared.Found.{Found}
 use Rattle.transcripts.specs.Answers.{state_models}
 use Rattle.lines.specs.Laws.Filling.{filled_more, filled-end}
 use Rattle.transcripts.specs.Laws.Models.{states-length, state-at}
-use Rattle.transcripts.specs.Laws.Questions.{StatesSoFar, states-start, met-few, states-few, state-more}
+use Rattle.transcripts.specs.Laws.Questions.{states-start, met-few, states-few, state-more}
 use Rattle.transcripts.proofs.transcription.models_of.Goals as goal
 use Rattle.transcripts.proofs.transcription.models_of.Goals.{After-reached_for-found, In-loop-state, Start}
 
@@ -30,8 +30,7 @@ as_many c = states-length _ _ ∙ sym c.requires.2
 inside : (c : goal.In-loop-state)
     → c.loop-state.state < length c.loop-state.models
 inside c =
-    let head = c in
-    omega (arith, head.requires.2, c.loop-state-test.true, head.loop-state.invariant.filled.sized)
+    omega (arith, c.requires.2, c.loop-state-test.true, c.loop-state.invariant.filled.sized)
 
 -- what was found for the state, and the sum of what was met before
 abbrev met : goal.Start → (state : ℕ) → ℕ
@@ -42,24 +41,21 @@ met c state =
 
 few : (c : goal.In-loop-state) → c.loop-state.questions ≤ 12288
 few c =
-    let head = c in
-    let start = head in
-    let a = start.args in
+    let a = c.args in
     omega (
       arith,
-      states-few a.header a.nodes.now a.classes.now a.roots.now start.requires.0
-          a.context.now head.loop-state.state,
-      head.loop-state.invariant.summed,
-      head.loop-state.invariant.filled.within,
-      start.requires.2,
-      start.requires.0.ranges.states_range.high,
+      states-few a.header a.nodes.now a.classes.now a.roots.now c.requires.0
+          a.context.now c.loop-state.state,
+      c.loop-state.invariant.summed,
+      c.loop-state.invariant.filled.within,
+      c.requires.2,
+      c.requires.0.ranges.states_range.high,
     )
 
 found-few : (c : goal.After-reached_for-found) → c.reached_for-found.result.questions ≤ 4096
 found-few c =
-    let start = c in
-    let a = start.args in
-    rw c.reached_for-found.ensures (met-few a.header a.nodes.now a.classes.now a.roots.now start.requires.0
+    let a = c.args in
+    rw c.reached_for-found.ensures (met-few a.header a.nodes.now a.classes.now a.roots.now c.requires.0
     a.context.now (c.loop-state.state + 1))
 
 pub loop-state-init : goal.loop-state-init
@@ -79,28 +75,25 @@ overflow_add-questions c = omega (arith, few (goal.at.overflow_add-questions c).
 pub loop-state-preserved : goal.loop-state-preserved
 unfolding book_with model_of
 loop-state-preserved c =
-    let turn = c in
-    let head = turn in
     let found = c.reached_for-found.ensures in
     rw c.wide.ensures record {
       filled =
-          filled_more (as_many (goal.at.loop-state-preserved c).Start) head.loop-state.invariant.filled (inside (goal.at.loop-state-preserved c).In-loop-state)
-          (ap (λ (f : Found). f.model) found ∙ state-at _ _ head.loop-state.state turn.loop-state-test.true);
+          filled_more (as_many (goal.at.loop-state-preserved c).Start) c.loop-state.invariant.filled (inside (goal.at.loop-state-preserved c).In-loop-state)
+          (ap (λ (f : Found). f.model) found ∙ state-at _ _ c.loop-state.state c.loop-state-test.true);
       summed =
-          state-more (met (goal.at.loop-state-preserved c).Start) head.loop-state.state _ head.loop-state.invariant.summed _
+          state-more (met (goal.at.loop-state-preserved c).Start) c.loop-state.state _ c.loop-state.invariant.summed _
           (ap (λ (f : Found). f.questions) found);
     }
 
 pub returns : goal.returns
 unfolding questions_at book_with
 returns c =
-    let head = c in
-    let inv = head.loop-state.invariant in
-    let all : head.loop-state.state ≡ head.args.header.states =
-    omega (arith, head.requires.2, c.loop-state-test.false, inv.filled.within) in
+    let inv = c.loop-state.invariant in
+    let all : c.loop-state.state ≡ c.args.header.states =
+    omega (arith, c.requires.2, c.loop-state-test.false, inv.filled.within) in
     record {
       models_are =
           filled-end (as_many (goal.at.returns c).Start) inv.filled
-          (omega (arith, head.requires.2, c.loop-state-test.false, inv.filled.sized));
+          (omega (arith, c.requires.2, c.loop-state-test.false, inv.filled.sized));
       questions_are = inv.summed ∙ ap (λ (n : ℕ). sum_of (met (goal.at.returns c).Start) (up_from 1 n)) all;
     }

@@ -25,32 +25,28 @@ root : (c : goal.After-root_of-root)
 root c =
     let a = c.args in
     let p = c.requires in
-    let phone = column c.before.before.before.before.before.before.before in
-    root-fits a.header a.roots.now (fit c.before.before.before.before.before.before.before).roots-listed phone.low phone.high p.2 p.3
+    let phone : Column a.header a.context.now a.header.half = column_fits _ _ p.1 _ (omega arith) in
+    root-fits a.header a.roots.now p.0.roots-listed phone.low phone.high p.2 p.3
     (c.root_of-root.ensures
     ∙ ap (λ (i : ℕ). a.roots.now ! ((a.context.now ! i - 1) * a.header.states + (a.state - 1)))
     c.wide-half.ensures)
 
 pub bounds-context-half : goal.bounds-context-half
 bounds-context-half c =
-    let start = c in
     omega (arith, (column (goal.at.bounds-context-half c).Start).inside, c.wide-half.ensures)
 
 pub slice_bounds-walk-end : goal.slice_bounds-walk-end
 slice_bounds-walk-end c =
-    let start = c in
-    sym (length-take-le c.wide-count.result start.args.classes.now
+    sym (length-take-le c.wide-count.result c.args.classes.now
     (omega (arith, (fit (goal.at.slice_bounds-walk-end c).Start).classes_wide, c.wide-count.ensures)))
 
 pub walk-walked-requires : goal.walk-walked-requires
 walk-walked-requires c =
-    let rooted = c in
     ((fit (goal.at.walk-walked-requires c).Start).nodes-known, (root (goal.at.walk-walked-requires c).After-root_of-root).listed)
 
 pub returns : goal.returns
 returns c =
-    let rooted = c in
-    let a = rooted.args in
+    let a = c.args in
     found-reached a.header a.nodes.now a.classes.now a.roots.now a.context.now a.state
     _ _ _ c.node_at-record.result (root (goal.at.returns c).After-root_of-root).own c.wide-count.ensures
     c.walk-walked.ensures c.node_at-record.ensures

@@ -1,10 +1,6 @@
 -- `contexts::are_phones` meets its contract. The loop's invariant: the numbers before `i` are phones of the
 -- book.
-use Prim.Native.Nat.{◌-◌}
-use lib.ListN.{length}
-use Rattle.definitions.specs.Lists.{every}
-use Rattle.definitions.specs.BookLines.{is_phone}
-use Rattle.lines.specs.Laws.Passing.{Passed, passed_start, passed-more, passed-stop, passed-end}
+use Rattle.lines.specs.Laws.Passing.{passed_start, passed-more, passed-stop, passed-end}
 use Rattle.trees.specs.Laws.Phones.{too-low, too-high, a-phone}
 use Rattle.trees.proofs.contexts.are_phones.Goals as goal
 

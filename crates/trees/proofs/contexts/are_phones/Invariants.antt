@@ -4,8 +4,7 @@ use Prim.Native.Nat.{◌-◌}
 use lib.ListN.{length}
 use Rattle.definitions.specs.Lists.{every}
 use Rattle.definitions.specs.BookLines.{is_phone}
-use Rattle.lines.specs.Laws.Passing.{Passed, passed_start, passed-more, passed-stop, passed-end}
-use Rattle.trees.specs.Laws.Phones.{too-low, too-high, a-phone}
+use Rattle.lines.specs.Laws.Passing.{Passed}
 use Rattle.trees.proofs.contexts.are_phones.Given as goal
 
 abbrev pub invariant-loop-i : goal.invariant-loop-i

@@ -1,13 +1,12 @@
 -- `walking::walk` meets its contract. The loop's invariant: the steps that are left reach the leaf from `node`,
 -- which is no less than the questions met, one a step. So they never run out.
 use mathlib.Core.Path.{◌≡◌, sym, ◌∙◌}
-use Prim.Native.Nat.{◌-◌}
 use native.Mathlib.Omega.{arith}
 use Rattle.definitions.specs.Tables.{node_records}
 use Rattle.definitions.proofs.Laws.Books.Tables.{node-records-length}
 use Rattle.tables.specs.Laws.KnownTables.{record-listed}
 use Rattle.trees.specs.Stages.{record_at}
-use Rattle.trees.specs.Laws.Walking.{Walking, start-walking, goes_on, stops}
+use Rattle.trees.specs.Laws.Walking.{start-walking, goes_on, stops}
 use borrow.Author.Rules.{rules}
 use Rattle.trees.proofs.walking.walk.Goals as goal
 use Rattle.trees.proofs.walking.walk.Goals.{After-node_at-record}

@@ -1,11 +1,8 @@
 -- `appending::copy_arcs` meets its contract. The loop's invariant: the words before `i` are copied, the rest
 -- are as they came.
-use mathlib.Core.Path.{◌≡◌, sym}
 use Prim.Native.Nat.{◌-◌}
-use native.Mathlib.Omega.{arith}
 use lib.ListN.{length, take}
-use lib.Seq.{length-take-le, get_or-take}
-use Rattle.lines.specs.Laws.Filling.{Filled, filled-start, filled_more, filled-end}
+use Rattle.lines.specs.Laws.Filling.{Filled}
 use Rattle.turns.proofs.appending.copy_arcs.Given as goal
 
 abbrev pub invariant-loop-i : goal.invariant-loop-i

@@ -6,11 +6,6 @@ use Rattle.turns.specs.Laws.Expanding.{new-few, turn-stops, next-onward, turn-go
 use Rattle.std.proofs.lemmas.Bool.{not_from_true}
 use Rattle.std.proofs.lemmas.Bool.{not_from_false}
 use Rattle.turns.proofs.expanding.expand.Goals as goal
-use Rattle.turns.proofs.expanding.expand.Goals.{After-metastate_at-q, Start}
-
--- where the metastate was read, and where the arcs were added
-abbrev start_of : goal.After-metastate_at-q → goal.Start
-start_of c = c
 
 pub metastate_at-q-requires : goal.metastate_at-q-requires
 metastate_at-q-requires c =
@@ -18,28 +13,28 @@ metastate_at-q-requires c =
     (narrow s.between.searchable.connectable.usable, place-within s)
 
 pub plain_arcs-new-requires : goal.plain_arcs-new-requires
-plain_arcs-new-requires c = expand-placed (start_of (goal.at.plain_arcs-new-requires c).After-metastate_at-q).requires c.metastate_at-q.ensures
+plain_arcs-new-requires c = expand-placed c.requires c.metastate_at-q.ensures
 
 pub add_arcs-requires : goal.add_arcs-requires
 add_arcs-requires c =
     let m = c in
-    let start = start_of (goal.at.add_arcs-requires c).After-metastate_at-q in
+    let start = c in
     (arcs-fit start.requires, new-few start.requires m.metastate_at-q.ensures c.plain_arcs-new.ensures)
 
 pub returns-then-not-add_arcs : goal.returns-then-not-add_arcs
 returns-then-not-add_arcs c =
     let added = c in
     let m = added in
-    let start = start_of (goal.at.returns-then-not-add_arcs c).After-metastate_at-q in
+    let start = c in
     let e = added.add_arcs.ensures in
-    turn-stops start.requires m.metastate_at-q.ensures added.plain_arcs-new.ensures e.0 e.1
+    turn-stops start.requires m.metastate_at-q.ensures added.plain_arcs-new.ensures e.room e.words
     (not_from_false _ c.if-not-add_arcs.true)
 
 pub overflow_add-next : goal.overflow_add-next
 overflow_add-next c =
     let added = c in
     let m = added in
-    let start = start_of (goal.at.overflow_add-next c).After-metastate_at-q in
+    let start = c in
     omega (
       arith,
       arcs-fit start.requires,
@@ -48,7 +43,7 @@ overflow_add-next c =
 
 pub overflow_mul-wide : goal.overflow_mul-wide
 overflow_mul-wide c =
-    let s = (start_of ((c))).requires in
+    let s = c.requires in
     omega (arith, c.wide.ensures, narrow s.between.searchable.connectable.usable)
 
 pub follow_on-requires : goal.follow_on-requires
@@ -60,8 +55,8 @@ follow_on-requires c =
     let added = enough in
     let m = added in
     let e = added.add_arcs.ensures in
-    next-onward (start_of (goal.at.follow_on-requires c).After-metastate_at-q).requires m.metastate_at-q.ensures added.plain_arcs-new.ensures
-    e.0 e.1
+    next-onward c.requires m.metastate_at-q.ensures added.plain_arcs-new.ensures
+    e.room e.words
     (not_from_true _ enough.if-not-add_arcs.false) half.wide.ensures phones.all_phones.ensures shifted.shift-shifted.ensures
 
 pub returns : goal.returns
@@ -74,7 +69,7 @@ returns c =
     let added = enough in
     let m = added in
     let e = added.add_arcs.ensures in
-    turn-goes (start_of (goal.at.returns c).After-metastate_at-q).requires m.metastate_at-q.ensures added.plain_arcs-new.ensures
-    e.0 e.1
+    turn-goes c.requires m.metastate_at-q.ensures added.plain_arcs-new.ensures
+    e.room e.words
     (not_from_true _ enough.if-not-add_arcs.false) half.wide.ensures phones.all_phones.ensures shifted.shift-shifted.ensures
     followed.follow_on.ensures

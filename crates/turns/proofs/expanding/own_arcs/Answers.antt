@@ -1,35 +1,38 @@
 -- `expanding::own_arcs` meets its contract. The loop's invariant: the arcs up to the one into `state`.
-use mathlib.Core.List.{[]}
-use Prim.Native.Nat.{◌+◌, ◌-◌, ◌*◌, ◌≤◌, ◌<◌}
+use mathlib.Core.Path.{◌≡◌}
+use mathlib.Core.List.{List, []}
+use Prim.Native.Nat.{ℕ, ◌+◌, ◌*◌, ◌≤◌, ◌<◌}
 use native.Mathlib.Omega.{arith}
+use Rattle.definitions.specs.declared.Header.{Header}
 use Rattle.definitions.specs.Ranges.{InRange}
 use Rattle.definitions.proofs.Laws.Books.AcceptedKnown.{header-ranges}
-use Rattle.index.specs.RecordWords.{model_word}
 use Rattle.index.specs.Laws.RecordWords.{has-leaf}
+use Rattle.metastates.specs.Underway.{Placed}
 use Rattle.metastates.specs.Laws.States.{states-few}
-use Rattle.turns.specs.Laws.OwnArcs.{OwnArcs, own-none, own-count, own-more, own-are}
+use Rattle.turns.specs.Laws.OwnArcs.{own-none, own-count, own-more, own-are}
 use Rattle.turns.proofs.expanding.own_arcs.Goals as goal
-use Rattle.turns.proofs.expanding.own_arcs.Goals.{After-model_of-model, After-wide-states, Start}
+use Rattle.turns.proofs.expanding.own_arcs.Goals.{After-model_of-model}
 
 -- the numbers of the header are in range
-ranges : (c : goal.Start) → InRange c.args.header
-ranges c = header-ranges c.args.header c.requires.connectable.usable.header-known
+ranges : {header : Header} {nodes combinations : List ℕ} {number place : ℕ}
+    → Placed header nodes combinations number place → InRange header
+ranges {header} p = header-ranges header p.connectable.usable.header-known
 
-few : (c : goal.After-wide-states) → c.args.place * c.wide-states.result ≤ 196605
-few c =
-    let start = c in
-    states-few start.args.header start.requires.connectable.usable.header-known c.wide-states.ensures
-    start.args.place (omega (arith, start.requires.few))
+-- the states before the metastate's first
+few : {header : Header} {nodes combinations : List ℕ} {number place wide : ℕ}
+    → Placed header nodes combinations number place → wide ≡ header.states → place * wide ≤ 196605
+few {header} {place = place} p e =
+    states-few header p.connectable.usable.header-known e place (omega (arith, p.few))
 
 pub overflow_mul-first : goal.overflow_mul-first
-overflow_mul-first c = omega (arith, few (goal.at.overflow_mul-first c).After-wide-states)
+overflow_mul-first c = omega (arith, few c.requires c.wide-states.ensures)
 
 pub overflow_add-first : goal.overflow_add-first
-overflow_add-first c = omega (arith, few (goal.at.overflow_add-first c).After-wide-states)
+overflow_add-first c = omega (arith, few c.requires c.wide-states.ensures)
 
 pub loop-state-init : goal.loop-state-init
 loop-state-init c =
-    let some = (ranges (goal.at.loop-state-init c).Start).states_range.low in
+    let some = (ranges c.requires).states_range.low in
     own-none _ _ c.wide-states.result (omega (arith, c.wide-states.ensures, some)) _
 
 pub model_of-model-requires : goal.model_of-model-requires
@@ -51,10 +54,10 @@ fits c =
     let head = c in
     omega (
       arith,
-      few c.before.before.before,
+      few c.requires c.wide-states.ensures,
       head.wide-states.ensures,
       c.loop-state-test.true,
-      (ranges c.before.before.before.before.before.before).states_range.high,
+      (ranges c.requires).states_range.high,
     )
 
 pub overflow_add-first-in-loop-state : goal.overflow_add-first-in-loop-state
@@ -75,7 +78,7 @@ with_arc-new-requires c =
       own-count _ _ _ head.loop-state.invariant,
       head.wide-states.ensures,
       c.loop-state-test.true,
-      (ranges (goal.at.with_arc-new-requires c).Start).states_range.high,
+      (ranges c.requires).states_range.high,
     ) in
     record { few = few-arcs; from_word = omega (arith, fits (goal.at.with_arc-new-requires c).After-model_of-model); to_word = fits (goal.at.with_arc-new-requires c).After-model_of-model }
 

@@ -7,13 +7,10 @@ returns-then-line-last c = next-same _ _ c.if-line-last.true c.wide.ensures c.wi
 
 pub returns-then-wide : goal.returns-then-wide
 returns-then-wide c =
-    let numbers = c in
-    next-far _ _ numbers.if-line-last.false numbers.wide-2.ensures numbers.wide-3.ensures
+    next-far _ _ c.if-line-last.false c.wide-2.ensures c.wide-3.ensures
     c.if-wide.true
 
 pub returns : goal.returns
 returns c =
-    let one_more = c in
-    let numbers = one_more in
-    next-first _ _ numbers.if-line-last.false numbers.wide-2.ensures numbers.wide-3.ensures
-    one_more.if-wide.false
+    next-first _ _ c.if-line-last.false c.wide-2.ensures c.wide-3.ensures
+    c.if-wide.false

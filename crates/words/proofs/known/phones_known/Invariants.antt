@@ -4,8 +4,7 @@ use lib.ListN.{length}
 use Rattle.definitions.specs.BookLines.{is_phone}
 use Rattle.definitions.specs.Forms.{most_phone}
 use Rattle.definitions.specs.Lists.{every}
-use Rattle.lines.specs.Laws.Passing.{Passed, passed_start, passed-more, passed-stop, passed-end}
-use Rattle.words.specs.Laws.KnownWords.{phone-zero, phone_high, phone-fine}
+use Rattle.lines.specs.Laws.Passing.{Passed}
 use Rattle.words.proofs.known.phones_known.Given as goal
 
 abbrev pub invariant-loop-i : goal.invariant-loop-i

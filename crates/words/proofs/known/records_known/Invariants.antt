@@ -1,12 +1,9 @@
 -- `known::records_known` meets its contract. The loop's invariant: the records before `i` are known.
-use mathlib.Core.List.{List, []}
-use Prim.Native.Nat.{ℕ, ◌-◌, ◌/◌}
+use Prim.Native.Nat.{◌-◌, ◌/◌}
 use lib.ListN.{length}
 use Rattle.definitions.specs.Lists.{every, records}
 use Rattle.definitions.specs.WordBooks.{word_size, word_known}
-use Rattle.definitions.proofs.Laws.Lists.Tests.{held, failed}
-use Rattle.lines.specs.Laws.Passing.{Passed, passed_start, passed-more, passed-stop, passed-end}
-use Rattle.words.specs.Laws.KnownWords.{row_sized, row_listed, row-known, rows_end}
+use Rattle.lines.specs.Laws.Passing.{Passed}
 use Rattle.words.proofs.known.records_known.Given as goal
 
 abbrev pub invariant-loop-i : goal.invariant-loop-i

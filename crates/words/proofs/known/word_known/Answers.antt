@@ -14,17 +14,11 @@ returns-then-count-ge-WORD_SIZE c = word-long _ c.wide-count.ensures c.if-count-
 
 pub returns-then-not-phones_known : goal.returns-then-not-phones_known
 returns-then-not-phones_known c =
-    let few = c in
-    let some = few in
-    word-misspoken _ some.wide-count.ensures some.if-count-eq0.false few.if-count-ge-WORD_SIZE.false
+    word-misspoken _ c.wide-count.ensures c.if-count-eq0.false c.if-count-ge-WORD_SIZE.false
     (failed c.phones_known.ensures (not_from_false _ c.if-not-phones_known.true))
 
 pub returns : goal.returns
 returns c =
-    let spoken = c in
-    let few = spoken in
-    let some = few in
-    let start = some in
     c.holds_only.ensures
-    ∙ word-judged _ some.wide-count.ensures some.if-count-eq0.false few.if-count-ge-WORD_SIZE.false start.requires
-    (held spoken.phones_known.ensures (not_from_true _ spoken.if-not-phones_known.false))
+    ∙ word-judged _ c.wide-count.ensures c.if-count-eq0.false c.if-count-ge-WORD_SIZE.false c.requires
+    (held c.phones_known.ensures (not_from_true _ c.if-not-phones_known.false))

@@ -15,18 +15,14 @@ returns-then-count-gt-MOST_WORDS c = words-many _ _ c.if-count-eq0.false c.if-co
 
 pub returns-then-not-holds_only : goal.returns-then-not-holds_only
 returns-then-not-holds_only c =
-    let few = c in
-    words-unheld _ _ few.if-count-eq0.false few.if-count-gt-MOST_WORDS.false (failed c.holds_only.ensures (not_from_false _ c.if-not-holds_only.true))
+    words-unheld _ _ c.if-count-eq0.false c.if-count-gt-MOST_WORDS.false (failed c.holds_only.ensures (not_from_false _ c.if-not-holds_only.true))
 
 pub slice_bounds-records_known-end : goal.slice_bounds-records_known-end
 slice_bounds-records_known-end c =
-    let passed = c in
-    holds-taken _ _ (held passed.holds_only.ensures (not_from_true _ passed.if-not-holds_only.false))
+    holds-taken _ _ (held c.holds_only.ensures (not_from_true _ c.if-not-holds_only.false))
 
 pub returns : goal.returns
 returns c =
-    let passed = c in
-    let few = passed in
     c.records_known.ensures
-    ∙ words-judged _ _ few.if-count-eq0.false few.if-count-gt-MOST_WORDS.false
-    (held passed.holds_only.ensures (not_from_true _ passed.if-not-holds_only.false))
+    ∙ words-judged _ _ c.if-count-eq0.false c.if-count-gt-MOST_WORDS.false
+    (held c.holds_only.ensures (not_from_true _ c.if-not-holds_only.false))

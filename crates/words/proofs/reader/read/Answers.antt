@@ -5,33 +5,20 @@ use Rattle.words.proofs.reader.read.Goals as goal
 
 pub read_lines-answer-requires : goal.read_lines-answer-requires
 read_lines-answer-requires c =
-    let first = c in
-    clear-itself first.args.words.now _ first.clear_words.ensures
+    clear-itself c.args.words.now _ c.clear_words.ensures
 
 pub returns-in-Accepted-clause-answer : goal.returns-in-Accepted-clause-answer
-returns-in-Accepted-clause-answer c = (let read = c in
-    let first = read in
-    accepted-returns first.args.words.now first.clear_words.ensures read.read_lines-answer.ensures.answer
-    read.read_lines-answer.ensures.words _ c.in-Accepted.is).0
+returns-in-Accepted-clause-answer c = (accepted-returns c.args.words.now c.clear_words.ensures c.read_lines-answer.ensures.answer
+    c.read_lines-answer.ensures.words _ c.in-Accepted.is).0
 
 pub returns-in-Accepted-clause-words : goal.returns-in-Accepted-clause-words
-returns-in-Accepted-clause-words c = (let read = c in
-    let first = read in
-    accepted-returns first.args.words.now first.clear_words.ensures read.read_lines-answer.ensures.answer
-    read.read_lines-answer.ensures.words _ c.in-Accepted.is).1
+returns-in-Accepted-clause-words c = (accepted-returns c.args.words.now c.clear_words.ensures c.read_lines-answer.ensures.answer
+    c.read_lines-answer.ensures.words _ c.in-Accepted.is).1
 
 pub returns-in-Refused-clause-answer : goal.returns-in-Refused-clause-answer
-returns-in-Refused-clause-answer c = (let again = c in
-    let refused = again in
-    let read = refused in
-    let first = read in
-    refused-returns first.args.words.now first.clear_words.ensures read.read_lines-answer.ensures.answer
-    read.read_lines-answer.ensures.words _ refused.in-Refused.is again.clear_words-in-Refused.ensures).0
+returns-in-Refused-clause-answer c = (refused-returns c.args.words.now c.clear_words.ensures c.read_lines-answer.ensures.answer
+    c.read_lines-answer.ensures.words _ c.in-Refused.is c.clear_words-in-Refused.ensures).0
 
 pub returns-in-Refused-clause-words : goal.returns-in-Refused-clause-words
-returns-in-Refused-clause-words c = (let again = c in
-    let refused = again in
-    let read = refused in
-    let first = read in
-    refused-returns first.args.words.now first.clear_words.ensures read.read_lines-answer.ensures.answer
-    read.read_lines-answer.ensures.words _ refused.in-Refused.is again.clear_words-in-Refused.ensures).1
+returns-in-Refused-clause-words c = (refused-returns c.args.words.now c.clear_words.ensures c.read_lines-answer.ensures.answer
+    c.read_lines-answer.ensures.words _ c.in-Refused.is c.clear_words-in-Refused.ensures).1

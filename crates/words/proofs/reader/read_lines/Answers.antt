@@ -1,9 +1,7 @@
 -- `reader::read_lines` meets its contract. The loop's invariant: the first `i` lines were taken.
-use Prim.Native.Nat.{◌-◌, ◌/◌}
-use lib.ListN.{length}
 use Rattle.definitions.proofs.Laws.Lists.Tests.{held, failed}
 use Rattle.lines.specs.Laws.Judging.{next-bytes}
-use Rattle.words.specs.Laws.Reading.{Turn, first-turn, torn-returns, turn-next}
+use Rattle.words.specs.Laws.Reading.{first-turn, torn-returns, turn-next}
 use Rattle.words.specs.Laws.Reading.{stop-returns, end_returns}
 use Rattle.std.proofs.lemmas.Bool.{not_from_true}
 use Rattle.std.proofs.lemmas.Bool.{not_from_false}
@@ -17,35 +15,29 @@ returns-then-not-whole_lines-clause-words c = (torn-returns _ _ (failed c.whole_
 
 pub loop-i-init : goal.loop-i-init
 loop-i-init c =
-    let start = c in
-    first-turn _ _ (held c.whole_lines.ensures (not_from_true _ c.if-not-whole_lines.false)) start.requires
+    first-turn _ _ (held c.whole_lines.ensures (not_from_true _ c.if-not-whole_lines.false)) c.requires
 
 pub returns-in-Stop-clause-answer : goal.returns-in-Stop-clause-answer
-returns-in-Stop-clause-answer c = (let call = c in
-    let taken = call.take_line-step.ensures in
-    let at = call.loop-i in
-    stop-returns at.inv _ _ _ _ (next-bytes _ at.i) call.loop-i-test.true taken.0
-    c.in-Stop.is taken.1).0
+returns-in-Stop-clause-answer c = (let taken = c.take_line-step.ensures in
+    let at = c.loop-i in
+    stop-returns at.invariant _ _ _ _ (next-bytes _ at.i) c.loop-i-test.true taken.step
+    c.in-Stop.is taken.words).0
 
 pub returns-in-Stop-clause-words : goal.returns-in-Stop-clause-words
-returns-in-Stop-clause-words c = (let call = c in
-    let taken = call.take_line-step.ensures in
-    let at = call.loop-i in
-    stop-returns at.inv _ _ _ _ (next-bytes _ at.i) call.loop-i-test.true taken.0
-    c.in-Stop.is taken.1).1
+returns-in-Stop-clause-words c = (let taken = c.take_line-step.ensures in
+    let at = c.loop-i in
+    stop-returns at.invariant _ _ _ _ (next-bytes _ at.i) c.loop-i-test.true taken.step
+    c.in-Stop.is taken.words).1
 
 pub loop-i-preserved : goal.loop-i-preserved
 loop-i-preserved c =
-    let call = c in
-    let taken = call.take_line-step.ensures in
-    let at = call.loop-i in
-    turn-next at.inv _ _ _ _ (next-bytes _ at.i) call.loop-i-test.true taken.0
-    c.in-Next.is taken.1
+    let taken = c.take_line-step.ensures in
+    let at = c.loop-i in
+    turn-next at.invariant _ _ _ _ (next-bytes _ at.i) c.loop-i-test.true taken.step
+    c.in-Next.is taken.words
 
 pub returns-clause-answer : goal.returns-clause-answer
-returns-clause-answer c = (let head = c in
-    end_returns head.loop-i.invariant _ head.loop-i-test.false c.finish.ensures).0
+returns-clause-answer c = (end_returns c.loop-i.invariant _ c.loop-i-test.false c.finish.ensures).0
 
 pub returns-clause-words : goal.returns-clause-words
-returns-clause-words c = (let head = c in
-    end_returns head.loop-i.invariant _ head.loop-i-test.false c.finish.ensures).1
+returns-clause-words c = (end_returns c.loop-i.invariant _ c.loop-i-test.false c.finish.ensures).1

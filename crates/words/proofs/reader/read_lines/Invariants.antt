@@ -1,10 +1,7 @@
 -- `reader::read_lines` meets its contract. The loop's invariant: the first `i` lines were taken.
 use Prim.Native.Nat.{◌-◌, ◌/◌}
 use lib.ListN.{length}
-use Rattle.definitions.proofs.Laws.Lists.Tests.{held, failed}
-use Rattle.lines.specs.Laws.Judging.{next-bytes}
-use Rattle.words.specs.Laws.Reading.{Turn, first-turn, torn-returns, turn-next}
-use Rattle.words.specs.Laws.Reading.{stop-returns, end_returns}
+use Rattle.words.specs.Laws.Reading.{Turn}
 use Rattle.words.proofs.reader.read_lines.Given as goal
 
 abbrev pub invariant-loop-i : goal.invariant-loop-i

@@ -9,11 +9,8 @@ returns-then-words-before c = after-past _ _ c.from_zero-before.ensures c.if-wor
 
 pub bounds-words-phones : goal.bounds-words-phones
 bounds-words-phones c =
-    let start = c in
-    simp length-set (omega (arith, c.from_zero.ensures, start.requires, c.if-words-before.false))
+    simp length-set (omega (arith, c.from_zero.ensures, c.requires, c.if-words-before.false))
 
 pub returns : goal.returns
 returns c =
-    let room = c in
-    let start = room in
-    after-room _ _ room.from_zero-before.ensures room.if-words-before.false start.requires.0 c.from_zero.ensures
+    after-room _ _ c.from_zero-before.ensures c.if-words-before.false c.requires.0 c.from_zero.ensures

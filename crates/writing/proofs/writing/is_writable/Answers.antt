@@ -1,15 +1,14 @@
 -- `writing::is_writable` meets its contract. The loop's invariant: all used numbers are small where those from
 -- `i` on are.
 use mathlib.Core.Path.{◌≡◌, ◌∙◌}
-use Prim.Native.Nat.{◌-◌}
 use native.Mathlib.Omega.{arith}
 use lib.ListN.{length, take}
 use lib.Seq.{get_or-take, length-take-le}
 use borrow.Author.Tests.{le-leb, lt-leb}
-use Rattle.definitions.specs.Lists.{◌!◌, every}
+use Rattle.definitions.specs.Lists.{◌!◌}
 use Rattle.lines.specs.declared.Row.{Row}
-use Rattle.lines.specs.Laws.Passing.{Passed, passed_start, passed-more, passed-stop, passed-end}
-use Rattle.writing.specs.Laws.Rows.{is_small, writable-many, writable-few}
+use Rattle.lines.specs.Laws.Passing.{passed_start, passed-more, passed-stop, passed-end}
+use Rattle.writing.specs.Laws.Rows.{writable-many, writable-few}
 use borrow.Author.Rules.{rules}
 use Rattle.writing.proofs.writing.is_writable.Goals as goal
 use Rattle.writing.proofs.writing.is_writable.Goals.{At-loop-i, In-loop-i}

@@ -1,15 +1,10 @@
 -- `writing::is_writable` meets its contract. The loop's invariant: all used numbers are small where those from
 -- `i` on are.
-use mathlib.Core.Path.{◌≡◌, ◌∙◌}
 use Prim.Native.Nat.{◌-◌}
-use native.Mathlib.Omega.{arith}
-use lib.ListN.{length, take}
-use lib.Seq.{get_or-take, length-take-le}
-use borrow.Author.Tests.{le-leb, lt-leb}
-use Rattle.definitions.specs.Lists.{◌!◌, every}
-use Rattle.lines.specs.declared.Row.{Row}
-use Rattle.lines.specs.Laws.Passing.{Passed, passed_start, passed-more, passed-stop, passed-end}
-use Rattle.writing.specs.Laws.Rows.{is_small, writable-many, writable-few}
+use lib.ListN.{take}
+use Rattle.definitions.specs.Lists.{every}
+use Rattle.lines.specs.Laws.Passing.{Passed}
+use Rattle.writing.specs.Laws.Rows.{is_small}
 use Rattle.writing.proofs.writing.is_writable.Given as goal
 
 abbrev pub invariant-loop-i : goal.invariant-loop-i

@@ -2,11 +2,11 @@
 -- other bytes as they were.
 use mathlib.Core.Path.{◌≡◌, sym, ◌∙◌}
 use mathlib.Core.List.{List}
-use Prim.Native.Nat.{ℕ, ◌-◌, ◌*◌}
+use Prim.Native.Nat.{ℕ}
 use native.Mathlib.Omega.{arith}
 use lib.ListN.{length}
 use Rattle.lines.specs.Rows.{line_in}
-use Rattle.lines.specs.Laws.Filling.{Filled, filled-start, filled-end}
+use Rattle.lines.specs.Laws.Filling.{filled-start, filled-end}
 use Rattle.writing.specs.Writing.{fields_text}
 use Rattle.writing.specs.Laws.WrittenLines.{row-length, part-put}
 use borrow.Author.Rules.{rules}

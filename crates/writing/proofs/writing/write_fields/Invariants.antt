@@ -1,14 +1,9 @@
 -- `writing::write_fields` meets its contract. The loop's invariant: the fields before `field` are written, the
 -- other bytes as they were.
-use mathlib.Core.Path.{◌≡◌, sym, ◌∙◌}
-use mathlib.Core.List.{List}
-use Prim.Native.Nat.{ℕ, ◌-◌, ◌*◌}
-use native.Mathlib.Omega.{arith}
-use lib.ListN.{length}
+use Prim.Native.Nat.{◌-◌, ◌*◌}
 use Rattle.lines.specs.Rows.{line_in}
-use Rattle.lines.specs.Laws.Filling.{Filled, filled-start, filled-end}
+use Rattle.lines.specs.Laws.Filling.{Filled}
 use Rattle.writing.specs.Writing.{fields_text}
-use Rattle.writing.specs.Laws.WrittenLines.{row-length, part-put}
 use Rattle.writing.proofs.writing.write_fields.Given as goal
 
 abbrev pub invariant-loop-field : goal.invariant-loop-field

@@ -1,12 +1,8 @@
 -- `writing::write_number` meets its contract. The loop's invariant: the field's text is the bytes that are
 -- still to be written, and those of the buffer from `i` on.
-use mathlib.Core.Path.{◌≡◌, sym, ◌∙◌}
-use mathlib.Core.List.{◌++◌}
-use Prim.Native.Nat.{◌≤◌}
+use mathlib.Core.Path.{sym, ◌∙◌}
 use native.Mathlib.Omega.{arith}
-use lib.ListN.{length, drop, length-set}
-use Rattle.definitions.specs.Lines.{field_text}
-use Rattle.writing.specs.Writing.{leading}
+use lib.ListN.{length-set}
 use Rattle.writing.specs.Laws.Writing.{leading-first, leading-more, leading_end}
 use Rattle.writing.proofs.writing.write_number.Goals as goal
 

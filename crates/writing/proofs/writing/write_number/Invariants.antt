@@ -1,13 +1,11 @@
 -- `writing::write_number` meets its contract. The loop's invariant: the field's text is the bytes that are
 -- still to be written, and those of the buffer from `i` on.
-use mathlib.Core.Path.{◌≡◌, sym, ◌∙◌}
+use mathlib.Core.Path.{◌≡◌}
 use mathlib.Core.List.{◌++◌}
 use Prim.Native.Nat.{◌≤◌}
-use native.Mathlib.Omega.{arith}
-use lib.ListN.{length, drop, length-set}
+use lib.ListN.{length, drop}
 use Rattle.definitions.specs.Lines.{field_text}
 use Rattle.writing.specs.Writing.{leading}
-use Rattle.writing.specs.Laws.Writing.{leading-first, leading-more, leading_end}
 use Rattle.writing.proofs.writing.write_number.Given as goal
 
 abbrev pub invariant-loop-i : goal.invariant-loop-i

@@ -1,9 +1,7 @@
 -- `writing::write_spaces` meets its contract. The loop's invariant: the bytes before `i` are spaces, the others
 -- as they were.
-use Prim.Native.Nat.{◌-◌}
-use lib.ListN.{length}
 use Rattle.definitions.specs.Lines.{space}
-use Rattle.lines.specs.Laws.Filling.{FilledWith, filled-start, with-more, with-end}
+use Rattle.lines.specs.Laws.Filling.{filled-start, with-more, with-end}
 use Rattle.writing.proofs.writing.write_spaces.Goals as goal
 
 pub loop-i-init : goal.loop-i-init

@@ -3,7 +3,7 @@
 use Prim.Native.Nat.{◌-◌}
 use lib.ListN.{length}
 use Rattle.definitions.specs.Lines.{space}
-use Rattle.lines.specs.Laws.Filling.{FilledWith, filled-start, with-more, with-end}
+use Rattle.lines.specs.Laws.Filling.{FilledWith}
 use Rattle.writing.proofs.writing.write_spaces.Given as goal
 
 abbrev pub invariant-loop-i : goal.invariant-loop-i
