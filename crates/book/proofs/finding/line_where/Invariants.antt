@@ -1,16 +1,7 @@
 -- `finding::line_where` meets its contract. The loop's invariant: none of the first `i` lines is sought.
-use mathlib.Core.Path.{◌≡◌, sym, ap, ◌∙◌}
 use Prim.Native.Nat.{◌-◌, ◌/◌, ◌≤◌}
-use native.Mathlib.Omega.{arith}
 use lib.ListN.{length}
-use Rattle.definitions.specs.BookLines.{book_line}
-use Rattle.lines.specs.Judging.{line_bytes}
-use Rattle.lines.specs.Rows.{line_in}
-use Rattle.lines.specs.declared.Parsed.{Parsed}
-use Rattle.book.specs.Steps.{book_taken, sought_in}
-use Rattle.lines.specs.Laws.Judging.{next-bytes}
-use Rattle.lines.specs.Laws.Rows.{whole_row}
-use Rattle.book.specs.Laws.Finding.{Passed, passed_none, passed-more, found_here, found-end}
+use Rattle.book.specs.Laws.Finding.{Passed}
 use Rattle.book.proofs.finding.line_where.Given as goal
 
 abbrev pub invariant-loop-i : goal.invariant-loop-i

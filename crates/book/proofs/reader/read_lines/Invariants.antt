@@ -1,12 +1,8 @@
 -- `reader::read_lines` meets its contract. The loop's invariant: the first `i` lines were taken.
-use Prim.Native.Nat.{◌+◌, ◌-◌, ◌/◌, ◌<◌}
-use native.Mathlib.Omega.{arith}
+use Prim.Native.Nat.{◌-◌, ◌/◌}
 use lib.ListN.{length}
 use Rattle.tables.specs.Lending.{lengths_of}
-use Rattle.definitions.proofs.Laws.Lists.Tests.{held, failed}
-use Rattle.lines.specs.Laws.Judging.{next-bytes}
-use Rattle.book.specs.Laws.Reading.{Turn, first-turn, turn-ready, turn-endable, turn-next, torn-returns}
-use Rattle.book.specs.Laws.Reading.{stop-returns, end_returns}
+use Rattle.book.specs.Laws.Reading.{Turn}
 use Rattle.book.proofs.reader.read_lines.Given as goal
 
 abbrev pub invariant-loop-i : goal.invariant-loop-i

@@ -1,10 +1,8 @@
 -- `boundaries::put_boundaries` meets its contract. The loop's invariant: what is left to write, from the next phone on.
 use Prim.Native.Nat.{◌+◌, ◌-◌}
-use native.Mathlib.Omega.{arith}
 use lib.ListN.{length, drop}
 use Rattle.booktext.specs.Parts.{boundary_lines}
-use Rattle.booktext.specs.Laws.BoundaryLines.{boundaries-next, boundaries-end}
-use Rattle.booktext.specs.Laws.Putting.{Left, left-start, left-countable, left-more, left_end}
+use Rattle.booktext.specs.Laws.Putting.{Left}
 use Rattle.booktext.proofs.boundaries.put_boundaries.Given as goal
 
 abbrev pub invariant-loop-i : goal.invariant-loop-i

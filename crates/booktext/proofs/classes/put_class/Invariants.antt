@@ -1,11 +1,9 @@
 -- `classes::put_class` meets its contract. The loop's invariant: what is left to write, from the next phone on.
 use Prim.Native.Nat.{◌-◌}
-use native.Mathlib.Nat.{sub-zero}
-use native.Mathlib.Omega.{arith}
 use Rattle.definitions.specs.Lists.{up_from}
 use Rattle.booktext.specs.Parts.{member_lines}
-use Rattle.booktext.specs.Laws.ClassLines.{members-after, members-next, members-end}
-use Rattle.booktext.specs.Laws.Putting.{Left, left-start, left-countable, left-more, left_end}
+use Rattle.booktext.specs.Laws.ClassLines.{members-after}
+use Rattle.booktext.specs.Laws.Putting.{Left}
 use Rattle.booktext.proofs.classes.put_class.Given as goal
 
 abbrev pub invariant-loop-phone : goal.invariant-loop-phone

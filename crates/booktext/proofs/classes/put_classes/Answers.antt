@@ -1,10 +1,8 @@
 -- `classes::put_classes` meets its contract. The loop's invariant: what is left to write, from the next class on.
-use Prim.Native.Nat.{◌+◌, ◌-◌}
 use native.Mathlib.Omega.{arith}
-use lib.ListN.{length, drop}
 use Rattle.booktext.specs.Parts.{class_lines}
 use Rattle.booktext.specs.Laws.ClassLines.{classes-next, classes-end}
-use Rattle.booktext.specs.Laws.Putting.{Left, left-start, left-countable, left-more, left_end}
+use Rattle.booktext.specs.Laws.Putting.{left-start, left-countable, left-more, left_end}
 use Rattle.booktext.proofs.classes.put_classes.Goals as goal
 
 pub loop-i-init : goal.loop-i-init

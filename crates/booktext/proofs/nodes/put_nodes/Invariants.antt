@@ -1,9 +1,7 @@
 -- `nodes::put_nodes` meets its contract. The loop's invariant: what is left to write, from the next node on.
 use Prim.Native.Nat.{◌-◌}
-use native.Mathlib.Omega.{arith}
 use Rattle.booktext.specs.Parts.{node_lines}
-use Rattle.booktext.specs.Laws.NodeLines.{nodes-next, nodes-end}
-use Rattle.booktext.specs.Laws.Putting.{Left, left-start, left-countable, left-more, left_end}
+use Rattle.booktext.specs.Laws.Putting.{Left}
 use Rattle.booktext.proofs.nodes.put_nodes.Given as goal
 
 abbrev pub invariant-loop-node : goal.invariant-loop-node

@@ -1,10 +1,8 @@
 -- `roots::put_roots` meets its contract. The loop's invariant: what is left to write, from the next root on.
-use Prim.Native.Nat.{◌-◌}
 use native.Mathlib.Omega.{arith}
-use lib.ListN.{length, drop}
 use Rattle.booktext.specs.Parts.{root_lines}
 use Rattle.booktext.specs.Laws.RootLines.{roots-next, roots-end}
-use Rattle.booktext.specs.Laws.Putting.{Left, left-start, left-countable, left-more, left_end}
+use Rattle.booktext.specs.Laws.Putting.{left-start, left-countable, left-more, left_end}
 use Rattle.booktext.proofs.roots.put_roots.Goals as goal
 
 pub loop-i-init : goal.loop-i-init

@@ -8,7 +8,6 @@ use borrow.Author.Rules.{rules}
 use Rattle.builder.proofs.building.build_book.Goals as goal
 use Rattle.builder.proofs.building.build_book.Goals.{Start}
 
--- what the code was lent
 abbrev lent : goal.Start → Lent
 lent c =
     let a = c.args in
@@ -37,7 +36,7 @@ returns-in-Accepted-clause-tables c = (let left = c in
     accepted-returns (lent (goal.at.returns-in-Accepted-clause-tables c).Start) (space (goal.at.returns-in-Accepted-clause-tables c).Start) s.args.limit s.args.text.now
     read.read-reading.ensures.answer read.read-reading.ensures.tables _ accepted.in-Accepted.is _ _ _
     (search rules) (search rules) (search rules) (search rules)
-    built.build_read.ensures.answer built.build_read.ensures.tables built.build_read.ensures.leaves).1
+    built.build_read.ensures.answer built.build_read.ensures.tables built.build_read.ensures.leaves).1.0
 
 pub returns-in-Accepted-clause-leaves : goal.returns-in-Accepted-clause-leaves
 returns-in-Accepted-clause-leaves c = (let left = c in
@@ -48,7 +47,7 @@ returns-in-Accepted-clause-leaves c = (let left = c in
     accepted-returns (lent (goal.at.returns-in-Accepted-clause-leaves c).Start) (space (goal.at.returns-in-Accepted-clause-leaves c).Start) s.args.limit s.args.text.now
     read.read-reading.ensures.answer read.read-reading.ensures.tables _ accepted.in-Accepted.is _ _ _
     (search rules) (search rules) (search rules) (search rules)
-    built.build_read.ensures.answer built.build_read.ensures.tables built.build_read.ensures.leaves).2
+    built.build_read.ensures.answer built.build_read.ensures.tables built.build_read.ensures.leaves).1.1.0
 
 pub returns-in-Accepted-clause-demand : goal.returns-in-Accepted-clause-demand
 returns-in-Accepted-clause-demand c = (let left = c in
@@ -59,7 +58,7 @@ returns-in-Accepted-clause-demand c = (let left = c in
     accepted-returns (lent (goal.at.returns-in-Accepted-clause-demand c).Start) (space (goal.at.returns-in-Accepted-clause-demand c).Start) s.args.limit s.args.text.now
     read.read-reading.ensures.answer read.read-reading.ensures.tables _ accepted.in-Accepted.is _ _ _
     (search rules) (search rules) (search rules) (search rules)
-    built.build_read.ensures.answer built.build_read.ensures.tables built.build_read.ensures.leaves).3
+    built.build_read.ensures.answer built.build_read.ensures.tables built.build_read.ensures.leaves).1.1.1.0
 
 pub returns-in-Accepted-clause-ending : goal.returns-in-Accepted-clause-ending
 returns-in-Accepted-clause-ending c = (let left = c in
@@ -70,7 +69,7 @@ returns-in-Accepted-clause-ending c = (let left = c in
     accepted-returns (lent (goal.at.returns-in-Accepted-clause-ending c).Start) (space (goal.at.returns-in-Accepted-clause-ending c).Start) s.args.limit s.args.text.now
     read.read-reading.ensures.answer read.read-reading.ensures.tables _ accepted.in-Accepted.is _ _ _
     (search rules) (search rules) (search rules) (search rules)
-    built.build_read.ensures.answer built.build_read.ensures.tables built.build_read.ensures.leaves).4
+    built.build_read.ensures.answer built.build_read.ensures.tables built.build_read.ensures.leaves).1.1.1.1
 
 pub returns-in-Refused-clause-answer : goal.returns-in-Refused-clause-answer
 returns-in-Refused-clause-answer c = (let third = c in
@@ -92,7 +91,7 @@ returns-in-Refused-clause-tables c = (let third = c in
     let s = read in
     refused-returns (lent (goal.at.returns-in-Refused-clause-tables c).Start) (space (goal.at.returns-in-Refused-clause-tables c).Start) s.args.limit s.args.text.now
     read.read-reading.ensures.answer read.read-reading.ensures.tables _ refused.in-Refused.is _ _ _
-    first.clear_wide_words.ensures second.clear_wide_words-in-Refused.ensures third.clear_words.ensures).1
+    first.clear_wide_words.ensures second.clear_wide_words-in-Refused.ensures third.clear_words.ensures).1.0
 
 pub returns-in-Refused-clause-leaves : goal.returns-in-Refused-clause-leaves
 returns-in-Refused-clause-leaves c = (let third = c in
@@ -103,7 +102,7 @@ returns-in-Refused-clause-leaves c = (let third = c in
     let s = read in
     refused-returns (lent (goal.at.returns-in-Refused-clause-leaves c).Start) (space (goal.at.returns-in-Refused-clause-leaves c).Start) s.args.limit s.args.text.now
     read.read-reading.ensures.answer read.read-reading.ensures.tables _ refused.in-Refused.is _ _ _
-    first.clear_wide_words.ensures second.clear_wide_words-in-Refused.ensures third.clear_words.ensures).2
+    first.clear_wide_words.ensures second.clear_wide_words-in-Refused.ensures third.clear_words.ensures).1.1.0
 
 pub returns-in-Refused-clause-demand : goal.returns-in-Refused-clause-demand
 returns-in-Refused-clause-demand c = (let third = c in
@@ -114,7 +113,7 @@ returns-in-Refused-clause-demand c = (let third = c in
     let s = read in
     refused-returns (lent (goal.at.returns-in-Refused-clause-demand c).Start) (space (goal.at.returns-in-Refused-clause-demand c).Start) s.args.limit s.args.text.now
     read.read-reading.ensures.answer read.read-reading.ensures.tables _ refused.in-Refused.is _ _ _
-    first.clear_wide_words.ensures second.clear_wide_words-in-Refused.ensures third.clear_words.ensures).3
+    first.clear_wide_words.ensures second.clear_wide_words-in-Refused.ensures third.clear_words.ensures).1.1.1.0
 
 pub returns-in-Refused-clause-ending : goal.returns-in-Refused-clause-ending
 returns-in-Refused-clause-ending c = (let third = c in
@@ -125,4 +124,4 @@ returns-in-Refused-clause-ending c = (let third = c in
     let s = read in
     refused-returns (lent (goal.at.returns-in-Refused-clause-ending c).Start) (space (goal.at.returns-in-Refused-clause-ending c).Start) s.args.limit s.args.text.now
     read.read-reading.ensures.answer read.read-reading.ensures.tables _ refused.in-Refused.is _ _ _
-    first.clear_wide_words.ensures second.clear_wide_words-in-Refused.ensures third.clear_words.ensures).4
+    first.clear_wide_words.ensures second.clear_wide_words-in-Refused.ensures third.clear_words.ensures).1.1.1.1

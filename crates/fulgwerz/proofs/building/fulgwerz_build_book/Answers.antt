@@ -37,7 +37,7 @@ returns-clause-tables c = (let tables = c in
           ),
         ),
       ),
-    )).1
+    )).1.0
 
 pub returns-clause-leaves : goal.returns-clause-leaves
 returns-clause-leaves c = (let tables = c in
@@ -54,7 +54,7 @@ returns-clause-leaves c = (let tables = c in
           ),
         ),
       ),
-    )).2
+    )).1.1.0
 
 pub returns-clause-demand : goal.returns-clause-demand
 returns-clause-demand c = (let tables = c in
@@ -71,7 +71,7 @@ returns-clause-demand c = (let tables = c in
           ),
         ),
       ),
-    )).3
+    )).1.1.1.0
 
 pub returns-clause-ending : goal.returns-clause-ending
 returns-clause-ending c = (let tables = c in
@@ -88,4 +88,4 @@ returns-clause-ending c = (let tables = c in
           ),
         ),
       ),
-    )).4
+    )).1.1.1.1

@@ -1,10 +1,8 @@
 -- `reader::read_lines` meets its contract. The loop's invariant: the first `i` lines were taken.
-use Prim.Native.Nat.{◌-◌, ◌/◌}
 use native.Mathlib.Omega.{arith}
-use lib.ListN.{length}
 use Rattle.definitions.proofs.Laws.Lists.Tests.{held, failed}
 use Rattle.lines.specs.Laws.Judging.{next-bytes}
-use Rattle.nettext.specs.Laws.Reading.{Turn, first-turn, turn-ready, turn-endable, turn-next}
+use Rattle.nettext.specs.Laws.Reading.{first-turn, turn-ready, turn-endable, turn-next}
 use Rattle.nettext.specs.Laws.Reading.{torn-returns, stop-returns, end_returns}
 use Rattle.std.proofs.lemmas.Bool.{not_from_true}
 use Rattle.std.proofs.lemmas.Bool.{not_from_false}

@@ -7,7 +7,7 @@ use native.Mathlib.Omega.{arith}
 use lib.ListN.{length, take, drop}
 use Rattle.definitions.specs.Arcs.{arc_size}
 use Rattle.definitions.proofs.Laws.Networks.KnownNetworks.{arcs-length}
-use Rattle.lines.specs.Laws.Filling.{Filled, filled-start, filled-end}
+use Rattle.lines.specs.Laws.Filling.{filled-start, filled-end}
 use Rattle.writing.specs.Laws.WrittenLines.{part-put}
 use Rattle.arcs.specs.Whole.{all_arcs}
 use Rattle.nettext.specs.Laws.Writing.{arcs_text, texts-length, arc-written}

@@ -1,6 +1,6 @@
 -- `collecting::collect` meets its contract. The measure is the number of nodes from the node on: a child is a
 -- greater node. A leaf asks for nothing; a question for its own set, then for those of its sides.
-use Prim.Native.Nat.{ℕ, suc, ◌+◌, ◌-◌, ◌≤◌, ◌<◌}
+use Prim.Native.Nat.{ℕ, suc, ◌+◌, ◌≤◌}
 use native.Mathlib.Omega.{arith}
 use lib.ListN.{length}
 use Rattle.definitions.specs.PlainForm.{sets_in}

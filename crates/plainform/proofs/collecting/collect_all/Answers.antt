@@ -1,11 +1,9 @@
 -- `collecting::collect_all` meets its contract. The loop's invariant: the sets of the first `i` trees are noted, and
 -- those of the others are left.
-use Prim.Native.Nat.{◌-◌}
 use native.Mathlib.Omega.{arith}
-use lib.ListN.{length}
 use Rattle.plainform.specs.LentTrees.{tree_in}
 use Rattle.plainform.specs.Laws.LentTrees.{root-known}
-use Rattle.plainform.specs.Laws.Collecting.{Gathered, gathered-start, gathered-room, gathered-more}
+use Rattle.plainform.specs.Laws.Collecting.{gathered-start, gathered-room, gathered-more}
 use Rattle.plainform.specs.Laws.Collecting.{gathered-end}
 use Rattle.plainform.proofs.collecting.collect_all.Goals as goal
 

@@ -1,7 +1,7 @@
 -- `numbering::number` meets its contract. The measure is the number of nodes from the node on: a child is a
 -- greater node. A leaf is put as it is; a question's record is put between the records of its sides.
 use mathlib.Core.Path.{◌≡◌}
-use Prim.Native.Nat.{ℕ, suc, ◌+◌, ◌-◌, ◌<◌}
+use Prim.Native.Nat.{ℕ, suc, ◌+◌}
 use native.Mathlib.Omega.{arith}
 use Rattle.definitions.specs.PlainForm.{Tree, size_of}
 use Rattle.definitions.proofs.Spelling.TreeShapes.{some-node}

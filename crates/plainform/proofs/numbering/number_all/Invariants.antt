@@ -1,11 +1,9 @@
 -- `numbering::number_all` meets its contract. The loop's invariant: what is left to put from root `i` on, put into
 -- the tables as they are, gives what all trees put into the tables at the start give.
 use Prim.Native.Nat.{◌-◌}
-use native.Mathlib.Omega.{arith}
 use lib.ListN.{length}
 use Rattle.plainform.specs.LentTrees.{tree_in}
-use Rattle.plainform.specs.Laws.LentTrees.{root-known}
-use Rattle.plainform.specs.Laws.Numbering.{AllNumbered, all_start, own_room, all_more, all_end}
+use Rattle.plainform.specs.Laws.Numbering.{AllNumbered}
 use Rattle.plainform.proofs.numbering.number_all.Given as goal
 
 abbrev pub invariant-loop-i : goal.invariant-loop-i

@@ -1,8 +1,6 @@
 -- `sets::place_of` meets its contract. The loop's invariant: the sets up to `i` are others.
-use Prim.Native.Nat.{◌-◌}
 use native.Mathlib.Omega.{arith}
-use lib.ListN.{length}
-use Rattle.plainform.specs.Laws.Sets.{FoundFrom, found-start, found_here, found-later, found_nowhere}
+use Rattle.plainform.specs.Laws.Sets.{found-start, found_here, found-later, found_nowhere}
 use Rattle.plainform.proofs.sets.place_of.Goals as goal
 
 pub loop-i-init : goal.loop-i-init

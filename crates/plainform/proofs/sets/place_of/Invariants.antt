@@ -1,8 +1,7 @@
 -- `sets::place_of` meets its contract. The loop's invariant: the sets up to `i` are others.
 use Prim.Native.Nat.{◌-◌}
-use native.Mathlib.Omega.{arith}
 use lib.ListN.{length}
-use Rattle.plainform.specs.Laws.Sets.{FoundFrom, found-start, found_here, found-later, found_nowhere}
+use Rattle.plainform.specs.Laws.Sets.{FoundFrom}
 use Rattle.plainform.proofs.sets.place_of.Given as goal
 
 abbrev pub invariant-loop-i : goal.invariant-loop-i

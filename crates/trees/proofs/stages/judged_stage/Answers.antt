@@ -33,19 +33,17 @@ returns-then-wide c = rw (known (goal.at.returns-then-wide c).Else-not-record_kn
 pub returns-then-not-is_context : goal.returns-then-not-is_context
 unfolding judged_stage
 returns-then-not-is_context c =
-    let tested = c in
     rw (
       known (goal.at.returns-then-not-is_context c).Else-not-record_known,
       le-ltb _ _ (last (goal.at.returns-then-not-is_context c).Else-wide),
-      failed tested.is_context.ensures (not_from_false _ c.if-not-is_context.true),
+      failed c.is_context.ensures (not_from_false _ c.if-not-is_context.true),
     ) c.refused_stage-then-not-is_context.ensures
 
 pub returns : goal.returns
 unfolding judged_stage
 returns c =
-    let tested = c in
     rw (
       known (goal.at.returns c).Else-not-record_known,
       le-ltb _ _ (last (goal.at.returns c).Else-wide),
-      held tested.is_context.ensures (not_from_true _ c.if-not-is_context.false),
+      held c.is_context.ensures (not_from_true _ c.if-not-is_context.false),
     )

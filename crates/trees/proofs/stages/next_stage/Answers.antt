@@ -8,8 +8,7 @@ use Rattle.trees.proofs.stages.next_stage.Goals as goal
 pub walked_stage-requires : goal.walked_stage-requires
 unfolding passed
 walked_stage-requires c =
-    let start = c in
-    subst (λ (s : Stage). passed s < 4096) c.in-Walking.is start.requires
+    subst (λ (s : Stage). passed s < 4096) c.in-Walking.is c.requires
 
 pub returns-in-Judging : goal.returns-in-Judging
 unfolding next_stage

@@ -14,10 +14,9 @@ answer : (c : goal.After-has_phone)
     ≡ c.has_phone.result
 unfolding answers
 answer c =
-    let word = c in
-    let place = ap (λ (i : ℕ). c.args.context.now ! i) word.wide.ensures in
-    let set = word.set_of-set in
-    sym (c.has_phone.ensures ∙ ap₂ has (word.word_at-phone.ensures ∙ place) set.ensures)
+    let place = ap (λ (i : ℕ). c.args.context.now ! i) c.wide.ensures in
+    let set = c.set_of-set in
+    sym (c.has_phone.ensures ∙ ap₂ has (c.word_at-phone.ensures ∙ place) set.ensures)
 
 child : (c : goal.After-has_phone) (b : Bool) → c.has_phone.result ≡ b
     → (if b then c.args.node.yes else c.args.node.no)

@@ -23,18 +23,16 @@ loop-questions-init c = start-walking _ _ _ _ (node-records-length _ _) _ (searc
 
 pub returns-then-record-ne1 : goal.returns-then-record-ne1
 returns-then-record-ne1 c =
-    let read = c in
-    let w = read.loop-questions.invariant in (
-      stops _ _ _ _ _ read.node_at-record.result (own (goal.at.returns-then-record-ne1 c).After-node_at-record) _ _ w c.if-record-ne1.true,
+    let w = c.loop-questions.invariant in (
+      stops _ _ _ _ _ c.node_at-record.result (own (goal.at.returns-then-record-ne1 c).After-node_at-record) _ _ w c.if-record-ne1.true,
       w.listed,
-      λ k. c.if-record-ne1.true (rw read.node_at-record.ensures k),
+      λ k. c.if-record-ne1.true (rw c.node_at-record.ensures k),
     )
 
 pub loop-questions-preserved : goal.loop-questions-preserved
 loop-questions-preserved c =
-    let read = c in
-    goes_on _ _ _ _ _ read.node_at-record.result (own (goal.at.loop-questions-preserved c).After-node_at-record) c.if-record-ne1.false (read).requires.0
-    c.child_of-node.result c.child_of-node.ensures _ _ read.loop-questions.invariant
+    goes_on _ _ _ _ _ c.node_at-record.result (own (goal.at.loop-questions-preserved c).After-node_at-record) c.if-record-ne1.false (c).requires.0
+    c.child_of-node.result c.child_of-node.ensures _ _ c.loop-questions.invariant
 
 pub returns : goal.returns
 returns c =
