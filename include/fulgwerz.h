@@ -1,7 +1,7 @@
 /*
  * Fulgwerz: reads tree books, builds speech recognition networks, joins them with words, and puts all to work.
  *
- * These are the entries of libfulgwerz.a, which `rt staticlib fulgwerz` proves and writes. Each calls one proved
+ * These are the entries of libfulgwerz.a, which `rt lib` in crates/fulgwerz proves and writes. Each calls one proved
  * function and is proved to answer what that function answers. What a book, a network and their numbers mean is
  * said in docs/document-01.md, what a book's plain form, its boundary phones, a word book, a joined network and the
  * number of questions are in docs/document-02.md (P1, P2, P4, P5).
@@ -37,8 +37,8 @@
  *   as long as none fills a buffer that another uses.
  *   fulgwerz_combine, fulgwerz_build and fulgwerz_build_book keep their working space on the stack of the calling
  *   thread, about 3.6 million bytes at most; fulgwerz_join takes about 1.4 million there and fulgwerz_write_book about
- *   500,000, the others take less than 100,000. (Measured, not proved.) A main thread with the usual 8 MiB has enough;
- *   other threads may have less unless they are given more.
+ *   500,000, the others take less than 100,000. (Measured with an older kit, not proved.) A main thread with the usual
+ *   8 MiB has enough; other threads may have less unless they are given more.
  */
 #ifndef FULGWERZ_H
 #define FULGWERZ_H

@@ -1,4 +1,4 @@
-//! Links the archive that `rt staticlib fulgwerz` writes. FULGWERZ_LIB names another folder that holds it.
+//! Links the archive that `host/build` writes. FULGWERZ_LIB names another folder that holds it.
 use std::env;
 use std::path::PathBuf;
 

@@ -68,45 +68,37 @@ matrix c =
 
 pub enter-step-requires : goal.enter-step-requires
 enter-step-requires c =
-    let met = c in
-    let turn = met in
     let s = c.requires in
     let connectable = s.searchable.connectable in
     record {
       connectable = connectable;
-      underway = followed-underway turn.loop-number.invariant;
+      underway = followed-underway c.loop-number.invariant;
       listed = here c.args.header c.args.combinations.now c.loop-number-test.true c.count_of-count.ensures;
       shaped =
-          follower-width connectable.usable s.shaped (here c.args.header c.args.combinations.now c.loop-number-test.true c.count_of-count.ensures) met.matrix_of-own.ensures
-          (turn.loop-number.invariant.found (here c.args.header c.args.combinations.now c.loop-number-test.true c.count_of-count.ensures)) (width c.wide.ensures) met.meet-meeting.ensures.matrix;
+          follower-width connectable.usable s.shaped (here c.args.header c.args.combinations.now c.loop-number-test.true c.count_of-count.ensures) c.matrix_of-own.ensures
+          (c.loop-number.invariant.found (here c.args.header c.args.combinations.now c.loop-number-test.true c.count_of-count.ensures)) (width c.wide.ensures) c.meet-meeting.ensures.matrix;
     }
 
 pub returns-in-Stop : goal.returns-in-Stop
 returns-in-Stop c =
-    let call = c in
-    let turn = call in
-    followed-stop turn.loop-number.invariant (here c.args.header c.args.combinations.now c.loop-number-test.true c.count_of-count.ensures) (matrix (goal.at.returns-in-Stop c).After-meet-meeting) call.enter-step.ensures
+    followed-stop c.loop-number.invariant (here c.args.header c.args.combinations.now c.loop-number-test.true c.count_of-count.ensures) (matrix (goal.at.returns-in-Stop c).After-meet-meeting) c.enter-step.ensures
     c.in-Stop.is
 
 pub overflow_add-number : goal.overflow_add-number
 overflow_add-number c =
-    let turn = c in
     omega (arith, here c.args.header c.args.combinations.now c.loop-number-test.true c.count_of-count.ensures, c.requires.searchable.connectable.usable.few)
 
 pub next_follower-number-requires-in-loop-number : goal.next_follower-number-requires-in-loop-number
 next_follower-number-requires-in-loop-number c =
-    let turn = c in
     record {
       seeking = seeks c.requires;
       within = omega (arith, here c.args.header c.args.combinations.now c.loop-number-test.true c.count_of-count.ensures);
-      admitting = turn.rows_for-rows.ensures;
+      admitting = c.rows_for-rows.ensures;
     }
 
 pub loop-number-preserved : goal.loop-number-preserved
 loop-number-preserved c =
-    let call = c in
-    let turn = call in
-    followed-next turn.loop-number.invariant (here c.args.header c.args.combinations.now c.loop-number-test.true c.count_of-count.ensures) (matrix (goal.at.loop-number-preserved c).After-meet-meeting) call.enter-step.ensures
+    followed-next c.loop-number.invariant (here c.args.header c.args.combinations.now c.loop-number-test.true c.count_of-count.ensures) (matrix (goal.at.loop-number-preserved c).After-meet-meeting) c.enter-step.ensures
     c.in-Next.is c.next_follower-number-in-loop-number.ensures
 
 pub returns : goal.returns

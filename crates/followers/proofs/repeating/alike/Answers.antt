@@ -15,15 +15,13 @@ loop-c-init c =
 
 pub returns-then-a-c : goal.returns-then-a-c
 returns-then-a-c c =
-    let turn = c in
-    let sized : length turn.args.a.columns ≡ 7 = search rules in
-    alike-stop turn.loop-c.invariant (omega (arith, sized, turn.loop-c-test.true)) c.if-a-c.true
+    let sized : length c.args.a.columns ≡ 7 = search rules in
+    alike-stop c.loop-c.invariant (omega (arith, sized, c.loop-c-test.true)) c.if-a-c.true
 
 pub loop-c-preserved : goal.loop-c-preserved
 loop-c-preserved c =
-    let turn = c in
-    let sized : length turn.args.a.columns ≡ 7 = search rules in
-    alike-more turn.loop-c.invariant (omega (arith, sized, turn.loop-c-test.true)) c.if-a-c.false
+    let sized : length c.args.a.columns ≡ 7 = search rules in
+    alike-more c.loop-c.invariant (omega (arith, sized, c.loop-c-test.true)) c.if-a-c.false
 
 pub returns : goal.returns
 returns c =

@@ -8,18 +8,15 @@ loop-i-init c = copied_none c.requires _
 
 pub copy_arc-requires : goal.copy_arc-requires
 copy_arc-requires c =
-    let turn = c in
-    let s = turn.requires in
-    let sized = copied-sized s _ turn.loop-i.invariant in
+    let s = c.requires in
+    let sized = copied-sized s _ c.loop-i.invariant in
     let test = c.loop-i-test.true in
     (omega (arith, sized, test, s.within, s.room), omega (arith, sized, test, s.room))
 
 pub loop-i-preserved : goal.loop-i-preserved
 loop-i-preserved c =
-    let copy = c in
-    let turn = copy in
-    copied_more turn.requires _ turn.loop-i.invariant copy.loop-i-test.true
-    copy.copy_arc.ensures
+    copied_more c.requires _ c.loop-i.invariant c.loop-i-test.true
+    c.copy_arc.ensures
 
 pub shape_of-arcs : goal.shape_of-arcs
 shape_of-arcs c = copied-sized c.requires _ c.loop-i.invariant

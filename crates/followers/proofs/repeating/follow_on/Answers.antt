@@ -20,16 +20,14 @@ thin c = narrow (between c).searchable.connectable.usable
 
 pub slot_for-slot-requires : goal.slot_for-slot-requires
 slot_for-slot-requires c =
-    let start = c in (thin (goal.at.slot_for-slot-requires c).Start, (between (goal.at.slot_for-slot-requires c).Start).slots)
+    (thin (goal.at.slot_for-slot-requires c).Start, (between (goal.at.slot_for-slot-requires c).Start).slots)
 
 pub last_state-from-requires : goal.last_state-from-requires
 last_state-from-requires c =
-    let start = c in
-    ((between (goal.at.last_state-from-requires c).Start).searchable.connectable.usable.header-known, place_few start.requires.expandable)
+    ((between (goal.at.last_state-from-requires c).Start).searchable.connectable.usable.header-known, place_few c.requires.expandable)
 
 pub repeats-requires : goal.repeats-requires
 repeats-requires c =
-    let slot = c in
     (thin (goal.at.repeats-requires c).Start, c.slot_for-slot.ensures.0)
 
 pub overflow_add-at-then-repeats : goal.overflow_add-at-then-repeats
@@ -42,10 +40,8 @@ offset_bounds-spans-at-then-repeats c =
 
 pub repeat-requires : goal.repeat-requires
 repeat-requires c =
-    let test = c in
-    let slot = test in
     let s = c.requires in
-    let (other, is, alike) = test.repeats.ensures test.if-repeats.true in
+    let (other, is, alike) = c.repeats.ensures c.if-repeats.true in
     record {
       held = s.expandable.between.underway.kept.arc-words;
       order =
@@ -61,53 +57,37 @@ repeat-requires c =
 
 pub returns-then-repeats : goal.returns-then-repeats
 returns-then-repeats c =
-    let copy = c in
-    let second = copy in
-    let test = second in
-    let slot = test in
-    let (other, is, alike) = test.repeats.ensures test.if-repeats.true in
-    repeated-on c.requires _ c.slot_for-slot.ensures.0 is alike second.wide.ensures
-    second.wide-then-repeats.ensures test.last_state-from.ensures
-    copy.repeat.ensures
+    let (other, is, alike) = c.repeats.ensures c.if-repeats.true in
+    repeated-on c.requires _ c.slot_for-slot.ensures.0 is alike c.wide.ensures
+    c.wide-then-repeats.ensures c.last_state-from.ensures
+    c.repeat.ensures
 
 pub follow-step-requires : goal.follow-step-requires
 follow-step-requires c =
-    let start = c in
     record {
       searchable = (between (goal.at.follow-step-requires c).Start).searchable;
       underway = (between (goal.at.follow-step-requires c).Start).underway;
-      shaped = start.requires.shaped;
+      shaped = c.requires.shaped;
     }
 
 pub note_span-requires : goal.note_span-requires
 note_span-requires c =
-    let arm = c in
-    let call = arm in
-    let slot = call in
-    let start = c in
-    let last = call in
     record {
       within = c.slot_for-slot.ensures.0;
-      place_few = place_few start.requires.expandable;
-      first_few = omega (arith, arcs-fit start.requires.expandable);
+      place_few = place_few c.requires.expandable;
+      first_few = omega (arith, arcs-fit c.requires.expandable);
       end_few =
-          followed-few start.requires last.last_state-from.ensures call.follow-step.ensures arm.in-Next.is;
+          followed-few c.requires c.last_state-from.ensures c.follow-step.ensures c.in-Next.is;
     }
 
 pub returns-in-Next : goal.returns-in-Next
 returns-in-Next c =
-    let noted = c in
-    let arm = noted in
-    let call = arm in
-    let slot = call in
-    let at = call.last_state-from.ensures in
-    followed-noted c.requires at call.follow-step.ensures _ c.slot_for-slot.ensures.0 arm.in-Next.is
-    noted.note_span.ensures
+    let at = c.last_state-from.ensures in
+    followed-noted c.requires at c.follow-step.ensures _ c.slot_for-slot.ensures.0 c.in-Next.is
+    c.note_span.ensures
 
 pub returns-in-Stop : goal.returns-in-Stop
 returns-in-Stop c =
-    let arm = c in
-    let call = arm in
-    let at = call.last_state-from.ensures in
-    followed-refused c.requires at call.follow-step.ensures
-    arm.in-Stop.is
+    let at = c.last_state-from.ensures in
+    followed-refused c.requires at c.follow-step.ensures
+    c.in-Stop.is

@@ -10,8 +10,7 @@ use Rattle.followers.proofs.repeating.repeat.Goals as goal
 
 pub returns-then-arc_room-sizes : goal.returns-then-arc_room-sizes
 returns-then-arc_room-sizes c =
-    let start = c in
-    let a = start.args in
+    let a = c.args in
     let over : leb (a.sizes.arcs + (a.end - a.first)) (arc_room a.arcs.now) ≡ false =
     lt-leb (a.sizes.arcs + (a.end - a.first)) (arc_room a.arcs.now)
     (omega (arith, c.if-arc_room-sizes.true, c.arc_room.ensures)) in
@@ -19,11 +18,8 @@ returns-then-arc_room-sizes c =
 
 pub returns : goal.returns
 returns c =
-    let copy = c in
-    let test = copy in
-    let start = test in
-    let a = start.args in
+    let a = c.args in
     let fits : leb (a.sizes.arcs + (a.end - a.first)) (arc_room a.arcs.now) ≡ true =
     le-leb (a.sizes.arcs + (a.end - a.first)) (arc_room a.arcs.now)
-    (omega (arith, test.if-arc_room-sizes.false, test.arc_room.ensures)) in
-    record { answers = rw fits; words = rw fits copy.copy_span.ensures }
+    (omega (arith, c.if-arc_room-sizes.false, c.arc_room.ensures)) in
+    record { answers = rw fits; words = rw fits c.copy_span.ensures }

@@ -17,26 +17,18 @@ returns-then-metastates-metastate_size c = λ e. absurd (subst T (sym e) tt)
 
 pub metastate_at-q-requires : goal.metastate_at-q-requires
 metastate_at-q-requires c =
-    let sized = c in
-    let start = sized in
-    let place : ℕ = sized.wide-place.result in
-    let words = start.args.metastates.now in
-    let listed : place ≤ length words / metastate_size start.args.header.half =
-    subst (λ (n : ℕ). place ≤ length words / n) sized.metastate_size.ensures c.if-metastates-metastate_size.false in (
-      start.requires.0,
-      record-within (metastate_size start.args.header.half) (place - 1)
-          (omega (arith, listed, sized.if-place-eq0.false)),
+    let place : ℕ = c.wide-place.result in
+    let words = c.args.metastates.now in
+    let listed : place ≤ length words / metastate_size c.args.header.half =
+    subst (λ (n : ℕ). place ≤ length words / n) c.metastate_size.ensures c.if-metastates-metastate_size.false in (
+      c.requires.0,
+      record-within (metastate_size c.args.header.half) (place - 1)
+          (omega (arith, listed, c.if-place-eq0.false)),
     )
 
 pub returns : goal.returns
 returns c =
-    let shifted = c in
-    let half = shifted in
-    let phones = half in
-    let m = phones in
-    let listed = m in
-    let test = listed in
-    let a = test.args in
+    let a = c.args in
     alike-repeats a.header a.metastates.now a.spans.now a.slot a.shifted.columns
-    test.wide-place.ensures test.if-place-eq0.false m.metastate_at-q.ensures.columns_are
-    phones.all_phones-all.ensures half.wide.ensures shifted.shift.ensures c.alike.ensures
+    c.wide-place.ensures c.if-place-eq0.false c.metastate_at-q.ensures.columns_are
+    c.all_phones-all.ensures c.wide.ensures c.shift.ensures c.alike.ensures

@@ -31,18 +31,17 @@ tried-small c h =
 
 pub nonzero_rem-own : goal.nonzero_rem-own
 nonzero_rem-own c =
-    let start = c in some-slots (length start.args.spans.now) c.requires.1
+    some-slots (length c.args.spans.now) c.requires.1
 
 pub overflow_add-slot : goal.overflow_add-slot
 overflow_add-slot c =
-    let head = c in
-    let size = length head.args.spans.now in
-    let own = mod-le head.key_of.result (size / 3) in
-    record { fits = omega (arith, own, head.key_of.ensures.1, c.loop-i-test.true) }
+    let size = length c.args.spans.now in
+    let own = mod-le c.key_of.result (size / 3) in
+    record { fits = omega (arith, own, c.key_of.ensures.1, c.loop-i-test.true) }
 
 pub nonzero_rem-slot : goal.nonzero_rem-slot
 nonzero_rem-slot c =
-    let start = c in some-slots (length start.args.spans.now) c.requires.1
+    some-slots (length c.args.spans.now) c.requires.1
 
 pub overflow_mul-slot : goal.overflow_mul-slot
 overflow_mul-slot c = record { fits = omega (arith, tried-small (goal.at.overflow_mul-slot c).At-loop-i c.loop-i-test.true) }
@@ -55,25 +54,21 @@ bounds-spans-slot c = omega (arith, tried-within (goal.at.bounds-spans-slot c).A
 
 pub returns-then-spans-slot-eq0 : goal.returns-then-spans-slot-eq0
 returns-then-spans-slot-eq0 c =
-    let turn = c in
-    (tried-within (goal.at.returns-then-spans-slot-eq0 c).At-loop-i, tried-small (goal.at.returns-then-spans-slot-eq0 c).At-loop-i turn.loop-i-test.true)
+    (tried-within (goal.at.returns-then-spans-slot-eq0 c).At-loop-i, tried-small (goal.at.returns-then-spans-slot-eq0 c).At-loop-i c.loop-i-test.true)
 
 pub repeats-requires : goal.repeats-requires
 repeats-requires c =
-    let head = c in
-    let (half, some) = head.requires in
+    let (half, some) = c.requires in
     (half, tried-within (goal.at.repeats-requires c).At-loop-i)
 
 pub returns-then-repeats : goal.returns-then-repeats
 returns-then-repeats c =
-    let turn = c in
-    (tried-within (goal.at.returns-then-repeats c).At-loop-i, tried-small (goal.at.returns-then-repeats c).At-loop-i turn.loop-i-test.true)
+    (tried-within (goal.at.returns-then-repeats c).At-loop-i, tried-small (goal.at.returns-then-repeats c).At-loop-i c.loop-i-test.true)
 
 pub returns : goal.returns
 returns c =
-    let head = c in
-    let size = length head.args.spans.now in
-    let own = head.key_of.result in (
+    let size = length c.args.spans.now in
+    let own = c.key_of.result in (
       slot-within own size c.requires.1,
-      omega (arith, mod-le own (size / 3), head.key_of.ensures.1),
+      omega (arith, mod-le own (size / 3), c.key_of.ensures.1),
     )

@@ -5,87 +5,13 @@ use Rattle.fulgwerz.specs.Answers.{build_answer}
 use Rattle.fulgwerz.specs.Laws.Made.{finished-made}
 use Rattle.fulgwerz.proofs.building.fulgwerz_build_book.Goals as goal
 
-pub returns-clause-answer : goal.returns-clause-answer
-returns-clause-answer c = (let tables = c in
-    let called = tables in
-    let left = (called.build_book.ensures.tables, (called.build_book.ensures.leaves, (called.build_book.ensures.demand, called.build_book.ensures.ending))) in (
-      c.build_answer.ensures ∙ ap build_answer called.build_book.ensures.answer,
-      (
-        left.0,
-        (
-          left.1.0,
-          rw c.build_answer.ensures (
-            finished-made _ _ left.1.1.0,
-            finished-made _ _ left.1.1.1,
-          ),
-        ),
-      ),
-    )).0
-
-pub returns-clause-tables : goal.returns-clause-tables
-returns-clause-tables c = (let tables = c in
-    let called = tables in
-    let left = (called.build_book.ensures.tables, (called.build_book.ensures.leaves, (called.build_book.ensures.demand, called.build_book.ensures.ending))) in (
-      c.build_answer.ensures ∙ ap build_answer called.build_book.ensures.answer,
-      (
-        left.0,
-        (
-          left.1.0,
-          rw c.build_answer.ensures (
-            finished-made _ _ left.1.1.0,
-            finished-made _ _ left.1.1.1,
-          ),
-        ),
-      ),
-    )).1.0
-
-pub returns-clause-leaves : goal.returns-clause-leaves
-returns-clause-leaves c = (let tables = c in
-    let called = tables in
-    let left = (called.build_book.ensures.tables, (called.build_book.ensures.leaves, (called.build_book.ensures.demand, called.build_book.ensures.ending))) in (
-      c.build_answer.ensures ∙ ap build_answer called.build_book.ensures.answer,
-      (
-        left.0,
-        (
-          left.1.0,
-          rw c.build_answer.ensures (
-            finished-made _ _ left.1.1.0,
-            finished-made _ _ left.1.1.1,
-          ),
-        ),
-      ),
-    )).1.1.0
-
-pub returns-clause-demand : goal.returns-clause-demand
-returns-clause-demand c = (let tables = c in
-    let called = tables in
-    let left = (called.build_book.ensures.tables, (called.build_book.ensures.leaves, (called.build_book.ensures.demand, called.build_book.ensures.ending))) in (
-      c.build_answer.ensures ∙ ap build_answer called.build_book.ensures.answer,
-      (
-        left.0,
-        (
-          left.1.0,
-          rw c.build_answer.ensures (
-            finished-made _ _ left.1.1.0,
-            finished-made _ _ left.1.1.1,
-          ),
-        ),
-      ),
-    )).1.1.1.0
-
-pub returns-clause-ending : goal.returns-clause-ending
-returns-clause-ending c = (let tables = c in
-    let called = tables in
-    let left = (called.build_book.ensures.tables, (called.build_book.ensures.leaves, (called.build_book.ensures.demand, called.build_book.ensures.ending))) in (
-      c.build_answer.ensures ∙ ap build_answer called.build_book.ensures.answer,
-      (
-        left.0,
-        (
-          left.1.0,
-          rw c.build_answer.ensures (
-            finished-made _ _ left.1.1.0,
-            finished-made _ _ left.1.1.1,
-          ),
-        ),
-      ),
-    )).1.1.1.1
+pub returns : goal.returns
+returns c =
+    let left = c.build_book.ensures in
+    record {
+      answer = c.build_answer.ensures ∙ ap build_answer left.answer;
+      tables = left.tables;
+      leaves = left.leaves;
+      demand = rw c.build_answer.ensures (finished-made _ _ left.demand);
+      ending = rw c.build_answer.ensures (finished-made _ _ left.ending);
+    }

@@ -7,8 +7,7 @@ returns-then-index-at c = place-beyond _ _ _ c.if-index-at.true
 
 pub returns : goal.returns
 returns c =
-    let start = c in
-    let a = start.args in
-    place_set a.index.now a.at a.place c.alone.result start.requires
+    let a = c.args in
+    place_set a.index.now a.at a.place c.alone.result c.requires
     c.if-index-at.false
     c.alone.ensures

@@ -12,24 +12,20 @@ loop-number-init c = all_none _ _ _
 
 pub mark_columns-requires : goal.mark_columns-requires
 mark_columns-requires c =
-    let turn = c in
-    let start = turn in
-    let (narrow, few) = start.requires in
-    let count = turn.count_of-count.ensures in
-    let listed : turn.loop-number.number < count_in start.args.header.half start.args.combinations.now =
-    omega (arith, turn.loop-number-test.true, count) in
+    let (narrow, few) = c.requires in
+    let count = c.count_of-count.ensures in
+    let listed : c.loop-number.number < count_in c.args.header.half c.args.combinations.now =
+    omega (arith, c.loop-number-test.true, count) in
     record {
       narrow = narrow;
-      blocks_few = omega (arith, turn.blocks_in-blocks.ensures, few);
+      blocks_few = omega (arith, c.blocks_in-blocks.ensures, few);
       number_few = omega (arith, listed, few);
-      within = record-within (combination_size start.args.header.half) turn.loop-number.number listed;
+      within = record-within (combination_size c.args.header.half) c.loop-number.number listed;
     }
 
 pub loop-number-preserved : goal.loop-number-preserved
 loop-number-preserved c =
-    let marked = c in
-    let loop = marked in
-    all_more loop.loop-number.invariant loop.blocks_in-blocks.ensures marked.mark_columns.ensures
+    all_more c.loop-number.invariant c.blocks_in-blocks.ensures c.mark_columns.ensures
 
 pub shape_of-index : goal.shape_of-index
 shape_of-index c = c.loop-number.invariant.marking.sized

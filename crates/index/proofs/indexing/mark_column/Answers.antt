@@ -26,14 +26,11 @@ next_member-phone-requires-in-loop-phone c =
 
 pub loop-phone-smaller : goal.loop-phone-smaller
 loop-phone-smaller c =
-    let turn = c in
-    omega (arith, c.next_member-phone-in-loop-phone.ensures.after, turn.loop-phone-test.true)
+    omega (arith, c.next_member-phone-in-loop-phone.ensures.after, c.loop-phone-test.true)
 
 pub loop-phone-preserved : goal.loop-phone-preserved
 loop-phone-preserved c =
-    let marked = c in
-    let row = marked in
-    phones-next row.loop-phone.invariant row.row_at.ensures.0 refl marked.mark.ensures
+    phones-next c.loop-phone.invariant c.row_at.ensures.0 refl c.mark.ensures
     c.next_member-phone-in-loop-phone.ensures
 
 pub shape_of-index : goal.shape_of-index

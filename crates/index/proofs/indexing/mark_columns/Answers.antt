@@ -22,9 +22,8 @@ record_is c = cut-is c.combination_size.ensures c.record_at-record.ensures
 
 pub record_at-record-requires : goal.record_at-record-requires
 record_at-record-requires c =
-    let start = c in
-    cut-within c.combination_size.ensures start.args.combinations.now start.args.number
-    start.requires.within
+    cut-within c.combination_size.ensures c.args.combinations.now c.args.number
+    c.requires.within
 
 pub loop-column-init : goal.loop-column-init
 loop-column-init c = columns-none _
@@ -38,43 +37,38 @@ overflow_add-column c =
 
 pub bounds-record-column : goal.bounds-record-column
 bounds-record-column c =
-    let turn = c in
-    let pre = turn.requires in
+    let pre = c.requires in
     omega (
       arith,
-      turn.loop-column-test.true,
-      turn.wide.ensures,
+      c.loop-column-test.true,
+      c.wide.ensures,
       columns-held _ pre.narrow.half_few,
       (record_is (goal.at.bounds-record-column c).After-record_at-record).sized,
     )
 
 pub mark_column-requires : goal.mark_column-requires
 mark_column-requires c =
-    let turn = c in
-    let pre = turn.requires in (
+    let pre = c.requires in (
       record {
         phones_few = pre.narrow.phones_few;
         blocks_few = pre.blocks_few;
-        left = omega (arith, turn.loop-column-test.true, turn.wide.ensures, pre.narrow.half_few);
+        left = omega (arith, c.loop-column-test.true, c.wide.ensures, pre.narrow.half_few);
       },
       pre.number_few,
     )
 
 pub loop-column-smaller : goal.loop-column-smaller
 loop-column-smaller c =
-    let turn = c in
-    omega (arith, turn.loop-column-test.true, turn.wide.ensures)
+    omega (arith, c.loop-column-test.true, c.wide.ensures)
 
 pub loop-column-preserved : goal.loop-column-preserved
 loop-column-preserved c =
-    let marked = c in
-    let turn = marked in
-    let a = turn.args in
+    let a = c.args in
     let own = record_of (combination_size a.header.half) a.combinations.now a.number in
-    columns-more turn.loop-column.invariant
-    (ap (λ (l : List ℕ). l ! (4 + turn.loop-column.column)) (record_is (goal.at.loop-column-preserved c).After-record_at-record).is
-    ∙ sym (get_or-drop 4 own turn.loop-column.column 0))
-    marked.mark_column.ensures
+    columns-more c.loop-column.invariant
+    (ap (λ (l : List ℕ). l ! (4 + c.loop-column.column)) (record_is (goal.at.loop-column-preserved c).After-record_at-record).is
+    ∙ sym (get_or-drop 4 own c.loop-column.column 0))
+    c.mark_column.ensures
 
 pub shape_of-index : goal.shape_of-index
 shape_of-index c = c.loop-column.invariant.marking.sized

@@ -7,9 +7,8 @@ use Rattle.index.proofs.indexing.next_member.Goals as goal
 
 pub returns-then-from-gt64 : goal.returns-then-from-gt64
 returns-then-from-gt64 c =
-    let start = c in
-    let (some, within) = start.requires in
-    next_past start.args.set start.args.from some c.if-from-gt64.true within
+    let (some, within) = c.requires in
+    next_past c.args.set c.args.from some c.if-from-gt64.true within
 
 pub overflow_add-next : goal.overflow_add-next
 overflow_add-next c =
@@ -19,12 +18,10 @@ overflow_add-next c =
 
 pub returns-then-next-gt64 : goal.returns-then-next-gt64
 returns-then-next-gt64 c =
-    let start = c in
-    let (some, within) = start.requires in
-    next-none start.args.set start.args.from some c.if-from-gt64.false c.if-next-gt64.true
+    let (some, within) = c.requires in
+    next-none c.args.set c.args.from some c.if-from-gt64.false c.if-next-gt64.true
 
 pub returns : goal.returns
 returns c =
-    let start = c in
-    let (some, within) = start.requires in
-    next-found start.args.set start.args.from some c.if-next-gt64.false
+    let (some, within) = c.requires in
+    next-found c.args.set c.args.from some c.if-next-gt64.false

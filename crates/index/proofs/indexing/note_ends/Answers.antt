@@ -8,15 +8,13 @@ loop-i-init c = noted-none _ _
 
 pub bounds-index-i : goal.bounds-index-i
 bounds-index-i c =
-    let turn = c in
-    let (sized, room) = turn.requires in
-    omega (arith, turn.loop-i.invariant.sized, room, turn.loop-i-test.true)
+    let (sized, room) = c.requires in
+    omega (arith, c.loop-i.invariant.sized, room, c.loop-i-test.true)
 
 pub loop-i-preserved : goal.loop-i-preserved
 loop-i-preserved c =
-    let turn = c in
-    let (sized, room) = turn.requires in
-    noted_more turn.loop-i.invariant turn.loop-i-test.true room c.wide.ensures
+    let (sized, room) = c.requires in
+    noted_more c.loop-i.invariant c.loop-i-test.true room c.wide.ensures
 
 pub shape_of-index : goal.shape_of-index
 shape_of-index c = c.loop-i.invariant.sized

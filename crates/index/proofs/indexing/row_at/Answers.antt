@@ -11,28 +11,23 @@ near c = let (row, few) = c.requires in row_near row c.args.phone few
 
 pub overflow_mul-result : goal.overflow_mul-result
 overflow_mul-result c =
-    let start = c in
     record { fits = rw c.wide.ensures (omega (arith, (near (goal.at.overflow_mul-result c).Start).0)) }
 
 pub overflow_add-result : goal.overflow_add-result
 overflow_add-result c =
-    let start = c in
-    let (row, few) = start.requires in
+    let (row, few) = c.requires in
     record { fits = rw (c.wide.ensures, c.wide-2.ensures) (omega (arith, (near (goal.at.overflow_add-result c).Start).0, few)) }
 
 pub overflow_mul-result-2 : goal.overflow_mul-result-2
 overflow_mul-result-2 c =
-    let start = c in
     record { fits = rw (c.wide.ensures, c.wide-2.ensures) (omega (arith, (near (goal.at.overflow_mul-result-2 c).Start).1)) }
 
 pub overflow_add-result-2 : goal.overflow_add-result-2
 overflow_add-result-2 c =
-    let start = c in
     record { fits = rw (c.wide.ensures, c.wide-2.ensures) (omega (arith, (near (goal.at.overflow_add-result-2 c).Start).1)) }
 
 pub returns : goal.returns
-returns c =
-    let start = c in (
-      rw (c.wide.ensures, c.wide-2.ensures),
-      rw (c.wide.ensures, c.wide-2.ensures) (omega (arith, (near (goal.at.returns c).Start).1)),
-    )
+returns c = (
+  rw (c.wide.ensures, c.wide-2.ensures),
+  rw (c.wide.ensures, c.wide-2.ensures) (omega (arith, (near (goal.at.returns c).Start).1)),
+)

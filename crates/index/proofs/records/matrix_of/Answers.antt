@@ -19,9 +19,8 @@ own c = cut-is c.combination_size.ensures c.record_at.ensures
 
 pub record_at-requires : goal.record_at-requires
 record_at-requires c =
-    let start = c in
-    cut-within c.combination_size.ensures start.args.combinations.now start.args.number
-    start.requires
+    cut-within c.combination_size.ensures c.args.combinations.now c.args.number
+    c.requires
 
 pub returns : goal.returns
 returns c = c.matrix_at.ensures ∙ ap (λ (l : List ℕ). first_seven (drop 4 l)) (own (goal.at.returns c).After-record_at).is

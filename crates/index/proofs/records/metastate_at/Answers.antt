@@ -21,8 +21,7 @@ own c = cut-is c.metastate_size.ensures c.record_at-record.ensures
 
 pub record_at-record-requires : goal.record_at-record-requires
 record_at-record-requires c =
-    let start = c in
-    cut-within c.metastate_size.ensures start.args.metastates.now start.args.place start.requires.1
+    cut-within c.metastate_size.ensures c.args.metastates.now c.args.place c.requires.1
 
 pub bounds-record-0 : goal.bounds-record-0
 bounds-record-0 c = omega (arith, (own (goal.at.bounds-record-0 c).After-record_at-record).sized)

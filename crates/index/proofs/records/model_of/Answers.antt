@@ -33,9 +33,8 @@ word-is c =
 
 pub record_at-record-requires : goal.record_at-record-requires
 record_at-record-requires c =
-    let start = c in
-    cut-within c.combination_size.ensures start.args.combinations.now start.args.number
-    start.requires.within
+    cut-within c.combination_size.ensures c.args.combinations.now c.args.number
+    c.requires.within
 
 pub bounds-record-state : goal.bounds-record-state
 bounds-record-state c = omega (arith, (own (goal.at.bounds-record-state c).After-record_at-record).sized, c.requires.states)
@@ -45,6 +44,5 @@ overflow_cast-record c = record { fits = omega (arith, word-is (goal.at.overflow
 
 pub returns : goal.returns
 returns c =
-    let read = c in
     ap (λ (node : Node). node.value) c.node_at-leaf.ensures
-    ∙ ap (λ (k : ℕ). (node_of (drop (node_size * k) read.args.nodes.now)).value) (word-is (goal.at.returns c).After-record_at-record)
+    ∙ ap (λ (k : ℕ). (node_of (drop (node_size * k) c.args.nodes.now)).value) (word-is (goal.at.returns c).After-record_at-record)

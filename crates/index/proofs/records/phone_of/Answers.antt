@@ -19,9 +19,8 @@ own c = cut-is c.combination_size.ensures c.record_at.ensures
 
 pub record_at-requires : goal.record_at-requires
 record_at-requires c =
-    let start = c in
-    cut-within c.combination_size.ensures start.args.combinations.now start.args.number
-    start.requires.within
+    cut-within c.combination_size.ensures c.args.combinations.now c.args.number
+    c.requires.within
 
 pub bounds-record_at-0 : goal.bounds-record_at-0
 bounds-record_at-0 c = omega (arith, (own (goal.at.bounds-record_at-0 c).After-record_at).sized)

@@ -4,9 +4,7 @@ use Rattle.index.proofs.rows.marked_in.Goals as goal
 
 pub returns : goal.returns
 returns c =
-    let second = c in
-    let first = second in
     λ p a b all.
-    in_all p first.row_word-first.result second.row_word-second.result c.row_word-third.result
-    (first.row_word-first.ensures p a b all.first) (second.row_word-second.ensures p a b all.second)
+    in_all p c.row_word-first.result c.row_word-second.result c.row_word-third.result
+    (c.row_word-first.ensures p a b all.first) (c.row_word-second.ensures p a b all.second)
     (c.row_word-third.ensures p a b all.third)

@@ -10,22 +10,19 @@ loop-number-init c = marked_start c.requires.within
 
 pub marked_in-requires : goal.marked_in-requires
 marked_in-requires c =
-    let start = c in
-    (start.requires.near, omega (arith, c.loop-number-test.true, start.requires.few))
+    (c.requires.near, omega (arith, c.loop-number-test.true, c.requires.few))
 
 pub overflow_mul-other : goal.overflow_mul-other
 overflow_mul-other c =
-    let turn = c in
-    record { fits = omega (arith, turn.loop-number-test.true, turn.requires.few) }
+    record { fits = omega (arith, c.loop-number-test.true, c.requires.few) }
 
 pub overflow_add-other : goal.overflow_add-other
 overflow_add-other c =
-    let turn = c in
     record {
       fits = omega (
         arith,
-        turn.loop-number-test.true,
-        turn.requires.few,
+        c.loop-number-test.true,
+        c.requires.few,
         c.wide.ensures,
         c.next_member-next.ensures.within,
       );
@@ -36,41 +33,29 @@ overflow_sub-other c = omega (arith, c.wide.ensures, c.next_member-next.ensures.
 
 pub returns-then-count-other : goal.returns-then-count-other
 returns-then-count-other c =
-    let wide = c in
-    let member = wide in
-    let turn = member in
-    marked_next turn.loop-number.invariant refl refl member.marked_in.ensures
-    member.next_member-next.ensures _
-    (omega arith) (omega (arith, turn.loop-number-test.true)) (omega (arith, c.if-count-other.true, wide.wide.ensures))
+    marked_next c.loop-number.invariant refl refl c.marked_in.ensures
+    c.next_member-next.ensures _
+    (omega arith) (omega (arith, c.loop-number-test.true)) (omega (arith, c.if-count-other.true, c.wide.ensures))
 
 pub returns-then-next-le64 : goal.returns-then-next-le64
 returns-then-next-le64 c =
-    let wide = c in
-    let member = wide in
-    let turn = member in
-    marked_next turn.loop-number.invariant refl refl member.marked_in.ensures
-    member.next_member-next.ensures _
+    marked_next c.loop-number.invariant refl refl c.marked_in.ensures
+    c.next_member-next.ensures _
     (omega (arith, c.if-count-other.false))
-    (omega (arith, wide.wide.ensures, member.next_member-next.ensures.after))
-    (omega (arith, wide.wide.ensures))
+    (omega (arith, c.wide.ensures, c.next_member-next.ensures.after))
+    (omega (arith, c.wide.ensures))
 
 pub loop-number-smaller : goal.loop-number-smaller
 loop-number-smaller c =
-    let wide = c in
-    let member = wide in
-    let turn = member in
-    omega (arith, c.if-next-le64.false, wide.wide.ensures, turn.loop-number-test.true)
+    omega (arith, c.if-next-le64.false, c.wide.ensures, c.loop-number-test.true)
 
 pub loop-number-preserved : goal.loop-number-preserved
 loop-number-preserved c =
-    let wide = c in
-    let member = wide in
-    let turn = member in
-    marked_next turn.loop-number.invariant refl refl member.marked_in.ensures
-    member.next_member-next.ensures _
+    marked_next c.loop-number.invariant refl refl c.marked_in.ensures
+    c.next_member-next.ensures _
     (omega (arith, c.if-count-other.false))
-    (omega (arith, wide.wide.ensures, member.next_member-next.ensures.after))
-    (omega (arith, wide.wide.ensures))
+    (omega (arith, c.wide.ensures, c.next_member-next.ensures.after))
+    (omega (arith, c.wide.ensures))
 
 pub returns : goal.returns
 returns c = c.loop-number.invariant

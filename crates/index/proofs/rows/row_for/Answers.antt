@@ -15,10 +15,8 @@ returns-then-set-alone c =
 
 pub row_at-requires : goal.row_at-requires
 row_at-requires c =
-    let alone = c in
-    let start = alone in
-    let a = start.args in
-    let (s, left) = start.requires in (
+    let a = c.args in
+    let (s, left) = c.requires in (
       record {
         phones_few = (header-ranges a.header s.usable.header-known).phones_range.high;
         blocks_few =
@@ -30,18 +28,13 @@ row_at-requires c =
             );
         left = left;
       },
-      alone.next_member-phone.ensures.within,
+      c.next_member-phone.ensures.within,
     )
 
 pub returns : goal.returns
 returns c =
-    let blocks = c in
-    let test = blocks in
-    let alone = test in
-    let member = alone in
-    let left = member in
-    let (s, few) = left.requires in
+    let (s, few) = c.requires in
     row-admits s
-    (omega (arith, left.if-wide-column.false, left.wide.ensures)) member.next_member-phone.ensures.after
-    alone.alone.ensures test.if-set-alone.false blocks.blocks_in.ensures c.row_at.ensures.0
+    (omega (arith, c.if-wide-column.false, c.wide.ensures)) c.next_member-phone.ensures.after
+    c.alone.ensures c.if-set-alone.false c.blocks_in.ensures c.row_at.ensures.0
     c.row_at.ensures.1

@@ -45,48 +45,33 @@ next_member-next-requires c = (omega arith, omega (arith, phone-few (goal.at.nex
 
 pub returns-then-header-next : goal.returns-then-header-next
 returns-then-header-next c =
-    let member = c in
-    let left = member in
-    let tested = left in
-    let known = tested in
-    let start = known in
-    let a = start.args in
-    let s = start.requires.seeking in
+    let a = c.args in
+    let s = c.requires.seeking in
     subst (λ (n : ℕ).
     Beyond (matrix_in a.header.half a.shifted.columns) (combinations_in a.header a.combinations.now)
     a.number n)
     (combinations-length a.header a.combinations.now ∙ sym c.count_of.ensures)
-    (beyond-all s.usable s.shaped s.indexed start.requires.listed known.phone_of-phone.ensures
-    known.wide.ensures (sym tested.has_phone.ensures ∙ left.if-has_phone.false)
-    member.next_member-next.ensures c.if-header-next.true)
+    (beyond-all s.usable s.shaped s.indexed c.requires.listed c.phone_of-phone.ensures
+    c.wide.ensures (sym c.has_phone.ensures ∙ c.if-has_phone.false)
+    c.next_member-next.ensures c.if-header-next.true)
 
 pub overflow_sub-result : goal.overflow_sub-result
 overflow_sub-result c = omega (arith, c.wide-2.ensures, c.next_member-next.ensures.after)
 
 pub bounds-index-wide : goal.bounds-index-wide
 bounds-index-wide c =
-    let widened = c in
-    let member = widened in
-    let start = member in
     omega (
       arith,
-      widened.wide-2.ensures,
-      member.next_member-next.ensures.within,
-      member.next_member-next.ensures.after,
-      start.requires.seeking.indexed.sized,
+      c.wide-2.ensures,
+      c.next_member-next.ensures.within,
+      c.next_member-next.ensures.after,
+      c.requires.seeking.indexed.sized,
     )
 
 pub returns : goal.returns
 returns c =
-    let widened = c in
-    let test = widened in
-    let member = test in
-    let left = member in
-    let tested = left in
-    let known = tested in
-    let start = known in
-    let s = start.requires.seeking in
-    beyond-phones s.usable s.shaped s.indexed start.requires.listed known.phone_of-phone.ensures
-    known.wide.ensures (sym tested.has_phone.ensures ∙ left.if-has_phone.false)
-    member.next_member-next.ensures test.if-header-next.false
-    (ap (λ (k : ℕ). start.args.index.now ! (k - 1)) widened.wide-2.ensures)
+    let s = c.requires.seeking in
+    beyond-phones s.usable s.shaped s.indexed c.requires.listed c.phone_of-phone.ensures
+    c.wide.ensures (sym c.has_phone.ensures ∙ c.if-has_phone.false)
+    c.next_member-next.ensures c.if-header-next.false
+    (ap (λ (k : ℕ). c.args.index.now ! (k - 1)) c.wide-2.ensures)

@@ -11,21 +11,17 @@ use Rattle.index.proofs.searching.is_follower.Goals as goal
 
 pub bounds-shifted-n : goal.bounds-shifted-n
 bounds-shifted-n c =
-    let start = c in
-    omega (arith, c.wide-n.ensures, narrow start.requires.usable)
+    omega (arith, c.wide-n.ensures, narrow c.requires.usable)
 
 pub phone_of-requires : goal.phone_of-requires
 phone_of-requires c =
-    let start = c in
-    has-phone _ _ start.requires.usable _ start.requires.listed
+    has-phone _ _ c.requires.usable _ c.requires.listed
 
 pub returns-then-not-has_phone : goal.returns-then-not-has_phone
 returns-then-not-has_phone c =
-    let tested = c in
-    let known = tested in
-    let tried = known.requires in
-    sym (not-following tried.usable tried.shaped tried.listed known.phone_of.ensures
-    known.wide-n.ensures (failed tested.has_phone.ensures (not_from_false _ c.if-not-has_phone.true)))
+    let tried = c.requires in
+    sym (not-following tried.usable tried.shaped tried.listed c.phone_of.ensures
+    c.wide-n.ensures (failed c.has_phone.ensures (not_from_false _ c.if-not-has_phone.true)))
 
 pub matrix_of-own-requires : goal.matrix_of-own-requires
 matrix_of-own-requires c = let tried = c.requires in is-listed _ _ tried.usable _ tried.listed
@@ -35,10 +31,9 @@ meets-requires c = omega arith
 
 pub returns : goal.returns
 returns c =
-    let own = c in
-    let tried = own.requires in
-    let wide = own.wide-n in
-    let width : 2 * wide.result + 1 ≡ width_of own.args.header.half =
+    let tried = c.requires in
+    let wide = c.wide-n in
+    let width : 2 * wide.result + 1 ≡ width_of c.args.header.half =
     omega (arith, wide.ensures) in
-    following-valid tried.usable tried.shaped tried.listed own.matrix_of-own.ensures width
+    following-valid tried.usable tried.shaped tried.listed c.matrix_of-own.ensures width
     c.meets.ensures

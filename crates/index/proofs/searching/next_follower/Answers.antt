@@ -20,12 +20,11 @@ counted header combinations e = e ∙ sym (combinations-length header combinatio
 
 pub next_marked-number-requires : goal.next_marked-number-requires
 next_marked-number-requires c =
-    let start = c in
     let few = counted c.args.header c.args.combinations.now c.count_of-count.ensures in
     record {
-      near = admitting-near start.requires.admitting;
-      within = omega (arith, few, start.requires.within);
-      few = omega (arith, few, start.requires.seeking.usable.few);
+      near = admitting-near c.requires.admitting;
+      within = omega (arith, few, c.requires.within);
+      few = omega (arith, few, c.requires.seeking.usable.few);
     }
 
 pub loop-number-init : goal.loop-number-init
@@ -44,34 +43,29 @@ returns-then-is_follower c = none_found c.loop-number.invariant
 
 pub after-next-requires : goal.after-next-requires
 after-next-requires c =
-    let turn = c in
     record {
-      seeking = turn.requires.seeking;
+      seeking = c.requires.seeking;
       listed = omega (arith, c.loop-number-test.true, counted c.args.header c.args.combinations.now c.count_of-count.ensures);
       fails = sym c.is_follower.ensures ∙ c.if-is_follower.false;
     }
 
 pub next_marked-number-requires-in-loop-number : goal.next_marked-number-requires-in-loop-number
 next_marked-number-requires-in-loop-number c =
-    let head = c in
-    let start = head in
     let few = counted c.args.header c.args.combinations.now c.count_of-count.ensures in
     record {
-      near = admitting-near start.requires.admitting;
+      near = admitting-near c.requires.admitting;
       within = omega (arith, few, c.after-next.ensures.1.within);
-      few = omega (arith, few, start.requires.seeking.usable.few);
+      few = omega (arith, few, c.requires.seeking.usable.few);
     }
 
 pub loop-number-smaller : goal.loop-number-smaller
 loop-number-smaller c =
-    let turn = c in
-    omega (arith, c.after-next.ensures.0, c.next_marked-number-in-loop-number.ensures.after, turn.loop-number-test.true)
+    omega (arith, c.after-next.ensures.0, c.next_marked-number-in-loop-number.ensures.after, c.loop-number-test.true)
 
 pub loop-number-preserved : goal.loop-number-preserved
 loop-number-preserved c =
-    let turn = c in
-    none_more (none_more turn.loop-number.invariant c.after-next.ensures.1)
-    (marked-none turn.requires.admitting (counted c.args.header c.args.combinations.now c.count_of-count.ensures)
+    none_more (none_more c.loop-number.invariant c.after-next.ensures.1)
+    (marked-none c.requires.admitting (counted c.args.header c.args.combinations.now c.count_of-count.ensures)
     c.next_marked-number-in-loop-number.ensures)
 
 pub returns : goal.returns

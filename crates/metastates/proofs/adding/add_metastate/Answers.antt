@@ -20,8 +20,7 @@ within : (c : goal.After-metastate_size-size)
     → c.metastate_size-size.result * c.args.place + c.metastate_size-size.result
     ≤ length c.args.metastates.now
 within c =
-    let start = c in
-    cut-within c.metastate_size-size.ensures start.args.metastates.now start.args.place start.requires.within
+    cut-within c.metastate_size-size.ensures c.args.metastates.now c.args.place c.requires.within
 
 pub overflow_mul-at : goal.overflow_mul-at
 overflow_mul-at c = let inside = within (goal.at.overflow_mul-at c).After-metastate_size-size in search rules
@@ -37,30 +36,26 @@ slice_bounds-put_numbered-end c = within (goal.at.slice_bounds-put_numbered-end 
 
 pub link-requires : goal.link-requires
 link-requires c =
-    let start = c in
-    (start.requires.link, omega (arith, start.requires.few))
+    (c.requires.link, omega (arith, c.requires.few))
 
 pub returns : goal.returns
 returns c =
-    let keyed = c in
-    let put = keyed in
-    let sized = put in
-    let a = sized.args in
-    let size : ℕ = sized.metastate_size-size.result in
+    let a = c.args in
+    let size : ℕ = c.metastate_size-size.result in
     let from : ℕ = size * a.place in
     let words = a.metastates.now in
     let row : List ℕ = a.follower.number ∷ a.follower.met.columns in
     let long : length (take (from + size - from) (drop from words)) ≡ size =
     part_length words from size refl (within (goal.at.returns c).After-metastate_size-size) in
     let few : size ≤ length row =
-    omega (arith, seven (goal.at.returns c).Start, sized.metastate_size-size.ensures, words-few _ sized.requires.narrow) in
+    omega (arith, seven (goal.at.returns c).Start, c.metastate_size-size.ensures, words-few _ c.requires.narrow) in
     record {
       put =
-          part-put words _ _ from size refl (put.put_numbered.ensures ∙ overwritten-all _ row long few)
+          part-put words _ _ from size refl (c.put_numbered.ensures ∙ overwritten-all _ row long few)
           ∙ ap (λ (n : ℕ). take (n * a.place) words ++ take n row ++ drop (n * a.place + n) words)
-          sized.metastate_size-size.ensures;
+          c.metastate_size-size.ensures;
       linked =
           c.link.ensures
           ∙ ap (λ (k : ℕ). linked_to (heads_in a.chains.now) a.chains.now a.place k)
-          keyed.key_of.ensures.0;
+          c.key_of.ensures.0;
     }

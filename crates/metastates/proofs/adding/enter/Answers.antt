@@ -46,9 +46,8 @@ slice_bounds-find-end-2 c =
 
 pub find-found-requires : goal.find-found-requires
 find-found-requires c =
-    let known = c in
-    let a = known.args in
-    let s = known.requires in
+    let a = c.args in
+    let s = c.requires in
     let findable =
     subst (λ (n : ℕ). Findable (metastate_code a.header.half)
     (take (n * a.sizes.table) a.metastates.now) a.chains.now) (sym c.metastate_size.ensures)
@@ -57,47 +56,35 @@ find-found-requires c =
 
 pub enter_at-requires : goal.enter_at-requires
 enter_at-requires c =
-    let test = c in
-    let start = c in
     record {
-      placed = enter-placed start.requires start.args.from (found_in (goal.at.enter_at-requires c).After-find-found) test.if-found-ne0.true;
-      fit = enter-arcs start.requires;
+      placed = enter-placed c.requires c.args.from (found_in (goal.at.enter_at-requires c).After-find-found) c.if-found-ne0.true;
+      fit = enter-arcs c.requires;
     }
 
 pub returns-then-found-ne0 : goal.returns-then-found-ne0
 returns-then-found-ne0 c =
-    let call = c in
-    let test = call in
-    let start = c in
-    enter-known start.requires start.args.from (found_in (goal.at.returns-then-found-ne0 c).After-find-found) test.if-found-ne0.true
-    call.enter_at.ensures
+    enter-known c.requires c.args.from (found_in (goal.at.returns-then-found-ne0 c).After-find-found) c.if-found-ne0.true
+    c.enter_at.ensures
 
 pub returns-then-metastate_room-place : goal.returns-then-metastate_room-place
 returns-then-metastate_room-place c =
-    let test = c in
-    let start = c in
-    let a = start.args in
+    let a = c.args in
     let room : metastate_room a.header.half a.metastates.now ≤ a.sizes.table =
     omega (arith, c.if-metastate_room-place.true, c.metastate_room.ensures) in
-    enter-crowded start.requires a.from (found_in (goal.at.returns-then-metastate_room-place c).After-find-found) test.if-found-ne0.false room
+    enter-crowded c.requires a.from (found_in (goal.at.returns-then-metastate_room-place c).After-find-found) c.if-found-ne0.false room
 
 pub add_metastate-requires : goal.add_metastate-requires
 add_metastate-requires c =
-    let test = c in
-    let start = c in
-    let a = start.args in
+    let a = c.args in
     let room : a.sizes.table < metastate_room a.header.half a.metastates.now =
-    omega (arith, test.if-metastate_room-place.false, test.metastate_room.ensures) in
-    enter-place-for start.requires room
+    omega (arith, c.if-metastate_room-place.false, c.metastate_room.ensures) in
+    enter-place-for c.requires room
 
 pub enter_at-requires-2 : goal.enter_at-requires-2
 enter_at-requires-2 c =
-    let test = c in
-    let room = test in
-    let start = c in
-    let s = start.requires in
-    let few : start.args.sizes.table < 65535 =
-    omega (arith, test.if-metastate_room-place.false, room.metastate_room.ensures) in
+    let s = c.requires in
+    let few : c.args.sizes.table < 65535 =
+    omega (arith, c.if-metastate_room-place.false, c.metastate_room.ensures) in
     record {
       placed = record { connectable = s.connectable; listed = s.listed; few = few };
       fit = enter-arcs s;
@@ -105,13 +92,8 @@ enter_at-requires-2 c =
 
 pub returns : goal.returns
 returns c =
-    let call = c in
-    let add = call in
-    let test = add in
-    let found = test in
-    let start = c in
-    let a = start.args in
+    let a = c.args in
     let room : a.sizes.table < metastate_room a.header.half a.metastates.now =
-    omega (arith, test.if-metastate_room-place.false, test.metastate_room.ensures) in
-    enter-new start.requires a.from (found_in (goal.at.returns c).After-find-found) found.if-found-ne0.false room
-    add.add_metastate.ensures call.enter_at-2.ensures
+    omega (arith, c.if-metastate_room-place.false, c.metastate_room.ensures) in
+    enter-new c.requires a.from (found_in (goal.at.returns c).After-find-found) c.if-found-ne0.false room
+    c.add_metastate.ensures c.enter_at-2.ensures

@@ -11,10 +11,9 @@ use Rattle.metastates.proofs.adding.enter_at.Goals.{After-wide}
 -- the states before the metastate's first
 few : (c : goal.After-wide) → c.args.place * c.wide.result ≤ 196605
 few c =
-    let start = c in
-    let placed = start.requires.placed in
-    states-few start.args.header placed.connectable.usable.header-known c.wide.ensures
-    start.args.place (omega (arith, placed.few))
+    let placed = c.requires.placed in
+    states-few c.args.header placed.connectable.usable.header-known c.wide.ensures
+    c.args.place (omega (arith, placed.few))
 
 pub overflow_mul-to : goal.overflow_mul-to
 overflow_mul-to c = let states = few (goal.at.overflow_mul-to c).After-wide in search rules
@@ -24,17 +23,15 @@ overflow_add-to c = let states = few (goal.at.overflow_add-to c).After-wide in s
 
 pub model_of-model-requires : goal.model_of-model-requires
 model_of-model-requires c =
-    let start = c in
-    let a = start.args in
-    let placed = start.requires.placed in
+    let a = c.args in
+    let placed = c.requires.placed in
     has-leaf a.header a.combinations.now placed.connectable.usable a.number placed.listed
     a.nodes.now placed.connectable.modelled 0 (first-state placed)
 
 pub phone_of-phone-requires : goal.phone_of-phone-requires
 phone_of-phone-requires c =
-    let start = c in
-    let a = start.args in
-    let placed = start.requires.placed in
+    let a = c.args in
+    let placed = c.requires.placed in
     has-phone a.header a.combinations.now placed.connectable.usable a.number placed.listed
 
 pub overflow_cast-to : goal.overflow_cast-to
@@ -45,9 +42,5 @@ add_arc-requires c = c.requires.fit
 
 pub returns : goal.returns
 returns c =
-    let call = c in
-    let phoned = call in
-    let widened = phoned in
-    let start = widened in
-    into-added start.requires.placed start.args.from widened.wide.ensures phoned.model_of-model.ensures
-    phoned.phone_of-phone.ensures call.add_arc.ensures
+    into-added c.requires.placed c.args.from c.wide.ensures c.model_of-model.ensures
+    c.phone_of-phone.ensures c.add_arc.ensures

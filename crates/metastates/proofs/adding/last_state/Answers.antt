@@ -7,9 +7,8 @@ use Rattle.metastates.proofs.adding.last_state.Goals.{After-wide}
 
 few : (c : goal.After-wide) → (c.args.place + 1) * c.wide.result ≤ 196605
 few c =
-    let start = c in
-    let (known, below) = start.requires in
-    states-few start.args.header known c.wide.ensures (start.args.place + 1) (omega (arith, below))
+    let (known, below) = c.requires in
+    states-few c.args.header known c.wide.ensures (c.args.place + 1) (omega (arith, below))
 
 pub overflow_mul-last : goal.overflow_mul-last
 overflow_mul-last c = omega (arith, few (goal.at.overflow_mul-last c).After-wide)
@@ -22,6 +21,5 @@ overflow_cast-result c = omega (arith, few (goal.at.overflow_cast-result c).Afte
 
 pub returns : goal.returns
 returns c =
-    let start = c in
-    let (known, below) = start.requires in
-    last-state start.args.header known c.wide.ensures start.args.place
+    let (known, below) = c.requires in
+    last-state c.args.header known c.wide.ensures c.args.place

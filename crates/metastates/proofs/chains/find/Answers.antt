@@ -49,51 +49,39 @@ bounds-chains-head_of c =
 
 pub loop-at-init : goal.loop-at-init
 loop-at-init c =
-    let start = c in
-    let headed = c in
-    find-start start.requires.0.linked (metastate_with c.args.half c.args.number c.args.m.columns)
-    (headed.head_of.ensures.0
-    ∙ ap (head_of (heads_in start.args.chains.now)) (headed.key_of.ensures.0 ∙ metastate-key c.args.half c.args.number c.args.m.columns c.requires.2 c.requires.1))
+    find-start c.requires.0.linked (metastate_with c.args.half c.args.number c.args.m.columns)
+    (c.head_of.ensures.0
+    ∙ ap (head_of (heads_in c.args.chains.now)) (c.key_of.ensures.0 ∙ metastate-key c.args.half c.args.number c.args.m.columns c.requires.2 c.requires.1))
     c.wide-at.ensures
 
 pub record_at-requires : goal.record_at-requires
 record_at-requires c =
-    let start = c in
-    cut-within c.metastate_size-size.ensures start.args.metastates.now (c.loop-at.at - 1)
-    (part-within start.requires.0.flat (own c.args.half c.args.number c.args.m.columns c.requires.2 c.requires.1) c.loop-at.invariant c.loop-at-test.true)
+    cut-within c.metastate_size-size.ensures c.args.metastates.now (c.loop-at.at - 1)
+    (part-within c.requires.0.flat (own c.args.half c.args.number c.args.m.columns c.requires.2 c.requires.1) c.loop-at.invariant c.loop-at-test.true)
 
 pub returns-then-is_numbered : goal.returns-then-is_numbered
 returns-then-is_numbered c =
-    let turn = c in
-    let inv = turn.loop-at.invariant in
-    let start = turn in
-    find-here start.requires.0.linked (metastate_with c.args.half c.args.number c.args.m.columns) inv turn.loop-at-test.true
-    (part-is start.requires.0.flat (own c.args.half c.args.number c.args.m.columns c.requires.2 c.requires.1) inv turn.loop-at-test.true (compared (goal.at.returns-then-is_numbered c).After-is_numbered) c.if-is_numbered.true)
+    let inv = c.loop-at.invariant in
+    find-here c.requires.0.linked (metastate_with c.args.half c.args.number c.args.m.columns) inv c.loop-at-test.true
+    (part-is c.requires.0.flat (own c.args.half c.args.number c.args.m.columns c.requires.2 c.requires.1) inv c.loop-at-test.true (compared (goal.at.returns-then-is_numbered c).After-is_numbered) c.if-is_numbered.true)
 
 pub bounds-chains-heads : goal.bounds-chains-heads
 bounds-chains-heads c =
-    let turn = c in
-    let start = turn in
-    link-within start.requires.0.linked (metastate_with c.args.half c.args.number c.args.m.columns) turn.loop-at.invariant
+    link-within c.requires.0.linked (metastate_with c.args.half c.args.number c.args.m.columns) c.loop-at.invariant
 
 pub loop-at-smaller : goal.loop-at-smaller
 loop-at-smaller c =
-    let turn = c in
-    let start = turn in
-    find-less start.requires.0.linked (metastate_with c.args.half c.args.number c.args.m.columns) turn.loop-at.invariant
-    turn.loop-at-test.true c.wide-at-in-loop-at.ensures
+    find-less c.requires.0.linked (metastate_with c.args.half c.args.number c.args.m.columns) c.loop-at.invariant
+    c.loop-at-test.true c.wide-at-in-loop-at.ensures
 
 pub loop-at-preserved : goal.loop-at-preserved
 loop-at-preserved c =
-    let turn = c in
-    let inv = turn.loop-at.invariant in
-    let start = turn in
-    find-next start.requires.0.linked (metastate_with c.args.half c.args.number c.args.m.columns) inv turn.loop-at-test.true c.wide-at-in-loop-at.ensures
-    (part-other start.requires.0.flat (own c.args.half c.args.number c.args.m.columns c.requires.2 c.requires.1) inv turn.loop-at-test.true
+    let inv = c.loop-at.invariant in
+    find-next c.requires.0.linked (metastate_with c.args.half c.args.number c.args.m.columns) inv c.loop-at-test.true c.wide-at-in-loop-at.ensures
+    (part-other c.requires.0.flat (own c.args.half c.args.number c.args.m.columns c.requires.2 c.requires.1) inv c.loop-at-test.true
     (compared (goal.at.loop-at-preserved c).After-is_numbered) c.if-is_numbered.false)
 
 pub returns : goal.returns
 returns c =
-    let start = c in
-    find-end start.requires.0.linked (metastate_with c.args.half c.args.number c.args.m.columns) c.loop-at.invariant
+    find-end c.requires.0.linked (metastate_with c.args.half c.args.number c.args.m.columns) c.loop-at.invariant
     c.loop-at-test.false

@@ -11,10 +11,9 @@ loop-c-init c = keyed-start c.args.number c.args.m.columns
 
 pub loop-c-preserved : goal.loop-c-preserved
 loop-c-preserved c =
-    let turn = c in
-    let a = turn.args in
+    let a = c.args in
     let sized : length a.m.columns ≡ 7 = search rules in
-    keyed-more turn.loop-c.invariant (omega (arith, sized, c.loop-c-test.true)) c.loop-c-test.true
+    keyed-more c.loop-c.invariant (omega (arith, sized, c.loop-c-test.true)) c.loop-c-test.true
 
 pub returns : goal.returns
 returns c =

@@ -4,63 +4,41 @@ use Rattle.network.proofs.building.build.Goals as goal
 
 pub connect_in-requires : goal.connect_in-requires
 connect_in-requires c =
-    let chosen = c in
-    let after = chosen in
-    let words = after in
-    let sets = words in
-    let a = sets.args in
+    let a = c.args in
     connect-ready a.header a.nodes.now a.classes.now a.roots.now a.plains.now
-    a.combinations.now a.metastates.now a.arcs.now sets.clear_wide_words.ensures
-    words.clear_words.ensures
-    after.combine-by_phone.ensures.answer after.combine-by_phone.ensures.ends after.combine-by_phone.ensures.leaves
-    _ chosen.in-Combinations.is
+    a.combinations.now a.metastates.now a.arcs.now c.clear_wide_words.ensures
+    c.clear_words.ensures
+    c.combine-by_phone.ensures.answer c.combine-by_phone.ensures.ends c.combine-by_phone.ensures.leaves
+    _ c.in-Combinations.is
 
 pub returns-in-Combinations-clause-answer : goal.returns-in-Combinations-clause-answer
-returns-in-Combinations-clause-answer c = (let connected = c in
-    let chosen = connected in
-    let after = chosen in
-    let words = after in
-    let sets = words in
-    let a = sets.args in
+returns-in-Combinations-clause-answer c = (let a = c.args in
     connect-returns a.header a.nodes.now a.classes.now a.roots.now a.plains.now
-    a.combinations.now a.metastates.now a.arcs.now sets.clear_wide_words.ensures
-    words.clear_words.ensures
-    after.combine-by_phone.ensures.answer after.combine-by_phone.ensures.ends after.combine-by_phone.ensures.leaves
-    _ chosen.in-Combinations.is a.limit connected.connect_in.ensures).0
+    a.combinations.now a.metastates.now a.arcs.now c.clear_wide_words.ensures
+    c.clear_words.ensures
+    c.combine-by_phone.ensures.answer c.combine-by_phone.ensures.ends c.combine-by_phone.ensures.leaves
+    _ c.in-Combinations.is a.limit c.connect_in.ensures).0
 
 pub returns-in-Combinations-clause-leaves : goal.returns-in-Combinations-clause-leaves
-returns-in-Combinations-clause-leaves c = (let connected = c in
-    let chosen = connected in
-    let after = chosen in
-    let words = after in
-    let sets = words in
-    let a = sets.args in
+returns-in-Combinations-clause-leaves c = (let a = c.args in
     connect-returns a.header a.nodes.now a.classes.now a.roots.now a.plains.now
-    a.combinations.now a.metastates.now a.arcs.now sets.clear_wide_words.ensures
-    words.clear_words.ensures
-    after.combine-by_phone.ensures.answer after.combine-by_phone.ensures.ends after.combine-by_phone.ensures.leaves
-    _ chosen.in-Combinations.is a.limit connected.connect_in.ensures).1
+    a.combinations.now a.metastates.now a.arcs.now c.clear_wide_words.ensures
+    c.clear_words.ensures
+    c.combine-by_phone.ensures.answer c.combine-by_phone.ensures.ends c.combine-by_phone.ensures.leaves
+    _ c.in-Combinations.is a.limit c.connect_in.ensures).1
 
 pub returns-in-Refused-clause-answer : goal.returns-in-Refused-clause-answer
-returns-in-Refused-clause-answer c = (let refused = c in
-    let after = refused in
-    let words = after in
-    let sets = words in
-    let a = sets.args in
+returns-in-Refused-clause-answer c = (let a = c.args in
     combine-returns a.header a.nodes.now a.classes.now a.roots.now a.plains.now
-    a.combinations.now a.metastates.now a.arcs.now sets.clear_wide_words.ensures
-    words.clear_words.ensures
-    after.combine-by_phone.ensures.answer after.combine-by_phone.ensures.ends after.combine-by_phone.ensures.leaves
-    a.limit _ refused.in-Refused.is).0
+    a.combinations.now a.metastates.now a.arcs.now c.clear_wide_words.ensures
+    c.clear_words.ensures
+    c.combine-by_phone.ensures.answer c.combine-by_phone.ensures.ends c.combine-by_phone.ensures.leaves
+    a.limit _ c.in-Refused.is).0
 
 pub returns-in-Refused-clause-leaves : goal.returns-in-Refused-clause-leaves
-returns-in-Refused-clause-leaves c = (let refused = c in
-    let after = refused in
-    let words = after in
-    let sets = words in
-    let a = sets.args in
+returns-in-Refused-clause-leaves c = (let a = c.args in
     combine-returns a.header a.nodes.now a.classes.now a.roots.now a.plains.now
-    a.combinations.now a.metastates.now a.arcs.now sets.clear_wide_words.ensures
-    words.clear_words.ensures
-    after.combine-by_phone.ensures.answer after.combine-by_phone.ensures.ends after.combine-by_phone.ensures.leaves
-    a.limit _ refused.in-Refused.is).1
+    a.combinations.now a.metastates.now a.arcs.now c.clear_wide_words.ensures
+    c.clear_words.ensures
+    c.combine-by_phone.ensures.answer c.combine-by_phone.ensures.ends c.combine-by_phone.ensures.leaves
+    a.limit _ c.in-Refused.is).1

@@ -48,30 +48,22 @@ slice_bounds-connect-end-2 c =
 
 pub connect-answer-requires : goal.connect-answer-requires
 connect-answer-requires c =
-    let known = c in
-    let a = known.args in
+    let a = c.args in
     subst (λ (n : ℕ). Ready a.header a.nodes.now (take (n * a.count) a.combinations.now) a.ends.now
-    a.metastates.now a.arcs.now) (sym c.combination_size.ensures) known.requires.1
+    a.metastates.now a.arcs.now) (sym c.combination_size.ensures) c.requires.1
 
 pub returns-in-Finished : goal.returns-in-Finished
 returns-in-Finished c =
-    let connected = c in
-    finished-returns (connected-as connected.connect-answer.ensures (same_outcome (goal.at.returns-in-Finished c).After-combination_size)) _
+    finished-returns (connected-as c.connect-answer.ensures (same_outcome (goal.at.returns-in-Finished c).After-combination_size)) _
     c.in-Finished.is
 
 pub returns-in-Stopped : goal.returns-in-Stopped
 returns-in-Stopped c =
-    let connected = c in
-    stopped-returns (connected-as connected.connect-answer.ensures (same_outcome (goal.at.returns-in-Stopped c).After-combination_size)) _
+    stopped-returns (connected-as c.connect-answer.ensures (same_outcome (goal.at.returns-in-Stopped c).After-combination_size)) _
     c.in-Stopped.is
 
 pub returns-in-Refused : goal.returns-in-Refused
 returns-in-Refused c =
-    let third = c in
-    let second = third in
-    let first = second in
-    let refused = first in
-    let connected = refused in
-    refused-returns (connected-as connected.connect-answer.ensures (same_outcome (goal.at.returns-in-Refused c).After-combination_size)) _
-    refused.in-Refused.is
-    first.clear_wide_words.ensures second.clear_wide_words-in-Refused.ensures third.clear_words.ensures
+    refused-returns (connected-as c.connect-answer.ensures (same_outcome (goal.at.returns-in-Refused c).After-combination_size)) _
+    c.in-Refused.is
+    c.clear_wide_words.ensures c.clear_wide_words-in-Refused.ensures c.clear_words.ensures

@@ -5,12 +5,11 @@ use Rattle.network.specs.Laws.Connecting.{cleared-workspace}
 use Rattle.network.proofs.connecting.connect.Goals as goal
 
 pub connect_with-requires : goal.connect_with-requires
-connect_with-requires c =
-    let test = c in (
-      test.requires,
-      cleared-workspace 8192 12288 4096 (omega (arith, test.if-metastate_room-lt-FEW.true, test.metastate_room.ensures))
-          (omega arith) (omega arith) (omega arith),
-    )
+connect_with-requires c = (
+  c.requires,
+  cleared-workspace 8192 12288 4096 (omega (arith, c.if-metastate_room-lt-FEW.true, c.metastate_room.ensures))
+      (omega arith) (omega arith) (omega arith),
+)
 
 pub connect_with-requires-2 : goal.connect_with-requires-2
 connect_with-requires-2 c = (

@@ -21,21 +21,15 @@ start-step-requires c = ready (goal.at.start-step-requires c).After-fill_index
 
 pub take_turns-requires : goal.take_turns-requires
 take_turns-requires c =
-    let arm = c in
-    let call = arm in
-    let (given, work) = call.requires in
-    start_between (ready (goal.at.take_turns-requires c).After-fill_index) call.start-step.ensures arm.in-Next.is work
+    let (given, work) = c.requires in
+    start_between (ready (goal.at.take_turns-requires c).After-fill_index) c.start-step.ensures c.in-Next.is work
 
 pub returns-in-Next : goal.returns-in-Next
 returns-in-Next c =
-    let turned = c in
-    let arm = turned in
-    let call = arm in
-    connected (ready (goal.at.returns-in-Next c).After-fill_index) call.start-step.ensures arm.in-Next.is
-    call.args.limit turned.take_turns.ensures
+    connected (ready (goal.at.returns-in-Next c).After-fill_index) c.start-step.ensures c.in-Next.is
+    c.args.limit c.take_turns.ensures
 
 pub returns-in-Stop : goal.returns-in-Stop
 returns-in-Stop c =
-    let call = c in
-    start-refused (ready (goal.at.returns-in-Stop c).After-fill_index) call.start-step.ensures call.args.limit
+    start-refused (ready (goal.at.returns-in-Stop c).After-fill_index) c.start-step.ensures c.args.limit
     c.in-Stop.is

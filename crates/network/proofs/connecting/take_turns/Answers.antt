@@ -1,9 +1,9 @@
 -- `connecting::take_turns` meets its contract. The loop's invariant: after `turns` turns, what the words
 -- hold, and what is left of the build.
 use mathlib.Core.Path.{◌∙◌}
-use Prim.Native.Nat.{◌-◌, ◌<◌}
+use Prim.Native.Nat.{◌<◌}
 use native.Mathlib.Omega.{arith}
-use Rattle.network.specs.Laws.Turning.{Turned, turned_none, metastates-word, arcs-word, turn-finished}
+use Rattle.network.specs.Laws.Turning.{turned_none, metastates-word, arcs-word, turn-finished}
 use Rattle.network.specs.Laws.Turning.{turn_stopped, turned_more, turn-refused}
 use borrow.Author.Rules.{rules}
 use Rattle.network.proofs.connecting.take_turns.Goals as goal
@@ -18,8 +18,7 @@ words c = (metastates-word c.loop-turns.invariant, arcs-word c.loop-turns.invari
 listed : (c : goal.After-wide-in-loop-turns)
     → c.wide-in-loop-turns.result < c.loop-turns.now.table
 listed c =
-    let left = c in
-    omega (arith, c.wide-in-loop-turns.ensures, left.wide.ensures, left.if-now-wide.false)
+    omega (arith, c.wide-in-loop-turns.ensures, c.wide.ensures, c.if-now-wide.false)
 
 pub loop-turns-init : goal.loop-turns-init
 loop-turns-init c = turned_none c.requires
@@ -41,9 +40,7 @@ shape_of-spans-then-now-wide c = c.loop-turns.invariant.spans_sized
 
 pub returns-then-now-wide : goal.returns-then-now-wide
 returns-then-now-wide c =
-    let test = c in
-    let head = test in
-    turn-finished head.loop-turns.invariant test.wide.ensures c.if-now-wide.true
+    turn-finished c.loop-turns.invariant c.wide.ensures c.if-now-wide.true
     c.totals.ensures
 
 pub expand-step-requires : goal.expand-step-requires
@@ -52,34 +49,27 @@ expand-step-requires c =
 
 pub shape_of-chains-in-Stop : goal.shape_of-chains-in-Stop
 shape_of-chains-in-Stop c =
-    let call = c in
-    call.expand-step.ensures.left.step.chains_sized
-    ∙ call.loop-turns.invariant.chains_sized
+    c.expand-step.ensures.left.step.chains_sized
+    ∙ c.loop-turns.invariant.chains_sized
 
 pub shape_of-spans-in-Stop : goal.shape_of-spans-in-Stop
 shape_of-spans-in-Stop c =
-    let call = c in
-    call.expand-step.ensures.spans_sized ∙ call.loop-turns.invariant.spans_sized
+    c.expand-step.ensures.spans_sized ∙ c.loop-turns.invariant.spans_sized
 
 pub returns-in-Stop : goal.returns-in-Stop
 returns-in-Stop c =
-    let call = c in
-    let turn = call in
-    turn-refused turn.loop-turns.invariant turn.loop-turns-test.true
-    call.wide-in-loop-turns.ensures (listed (goal.at.returns-in-Stop c).After-wide-in-loop-turns) call.expand-step.ensures
+    turn-refused c.loop-turns.invariant c.loop-turns-test.true
+    c.wide-in-loop-turns.ensures (listed (goal.at.returns-in-Stop c).After-wide-in-loop-turns) c.expand-step.ensures
     c.in-Stop.is
 
 pub overflow_add-turns : goal.overflow_add-turns
 overflow_add-turns c =
-    let turn = c in
-    search (rules, turn.loop-turns-test.true, turn.ranges.limit)
+    search (rules, c.loop-turns-test.true, c.ranges.limit)
 
 pub loop-turns-preserved : goal.loop-turns-preserved
 loop-turns-preserved c =
-    let call = c in
-    let turn = call in
-    turned_more turn.loop-turns.invariant turn.loop-turns-test.true call.wide-in-loop-turns.ensures
-    (listed (goal.at.loop-turns-preserved c).After-wide-in-loop-turns) call.expand-step.ensures c.in-Next.is
+    turned_more c.loop-turns.invariant c.loop-turns-test.true c.wide-in-loop-turns.ensures
+    (listed (goal.at.loop-turns-preserved c).After-wide-in-loop-turns) c.expand-step.ensures c.in-Next.is
 
 pub totals-requires-then-now-wide-2 : goal.totals-requires-then-now-wide-2
 totals-requires-then-now-wide-2 c = words (goal.at.totals-requires-then-now-wide-2 c).At-loop-turns
@@ -98,8 +88,7 @@ shape_of-spans-then-now-wide-2 c = c.loop-turns.invariant.spans_sized
 
 pub returns-then-now-wide-2 : goal.returns-then-now-wide-2
 returns-then-now-wide-2 c =
-    let test = c in
-    turn-finished test.loop-turns.invariant test.wide-2.ensures
+    turn-finished c.loop-turns.invariant c.wide-2.ensures
     c.if-now-wide-2.true c.totals-then-now-wide-2.ensures
 
 pub totals-requires-2 : goal.totals-requires-2
@@ -119,7 +108,5 @@ shape_of-spans c = c.loop-turns.invariant.spans_sized
 
 pub returns : goal.returns
 returns c =
-    let test = c in
-    let ended = test in
-    turn_stopped ended.loop-turns.invariant test.wide-2.ensures
-    ended.loop-turns-test.false c.if-now-wide-2.false c.totals-2.ensures
+    turn_stopped c.loop-turns.invariant c.wide-2.ensures
+    c.loop-turns-test.false c.if-now-wide-2.false c.totals-2.ensures

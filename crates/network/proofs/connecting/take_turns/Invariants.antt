@@ -1,10 +1,7 @@
 -- `connecting::take_turns` meets its contract. The loop's invariant: after `turns` turns, what the words
 -- hold, and what is left of the build.
-use mathlib.Core.Path.{◌∙◌}
-use Prim.Native.Nat.{◌-◌, ◌<◌}
-use native.Mathlib.Omega.{arith}
-use Rattle.network.specs.Laws.Turning.{Turned, turned_none, metastates-word, arcs-word, turn-finished}
-use Rattle.network.specs.Laws.Turning.{turn_stopped, turned_more, turn-refused}
+use Prim.Native.Nat.{◌-◌}
+use Rattle.network.specs.Laws.Turning.{Turned}
 use Rattle.network.proofs.connecting.take_turns.Given as goal
 
 abbrev pub invariant-loop-turns : goal.invariant-loop-turns

@@ -6,6 +6,7 @@ use Rattle.program.specs.Laws.Demand.{prints-demand}
 use Rattle.program.specs.Laws.Printing.{cleared-empty, prints-same, prints-fit}
 use Rattle.program.specs.Laws.Reading.{prints-input}
 use borrow.Author.Rules.{rules}
+use Rattle.std.proofs.Common.{◌≡◌, length}
 use Rattle.program.proofs.running.run.Goals as goal
 
 pub print_all-length-requires : goal.print_all-length-requires
@@ -17,6 +18,6 @@ returns c =
     let s = read in
     let printed = prints-same _ _ _ _ (ap program read.bytes_read.ensures) c.print_all-length.ensures in
     let (sized, fits) = prints-fit _ _ _ printed (search rules) in
-    let room = read.bytes_read-arg-1.given.0 in
+    let room : length s.args.buffer.now ≡ 65537 = search rules in
     let whole = prints-input s.args.buffer.now s.args.got _ _ room printed in
     record { prints = printed; demand = prints-demand _ _ _ printed; fits = (sized, fits); whole = whole }

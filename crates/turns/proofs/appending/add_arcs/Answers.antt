@@ -15,13 +15,12 @@ returns-then-arc_room-count c =
 
 pub returns : goal.returns
 returns c =
-    let test = c in
-    let a = test.args in
+    let a = c.args in
     let n = 4 * a.new.count in
-    let room = test.arc_room.ensures in
-    let fits : 4 * a.count + n ≤ length a.arcs.now = omega (arith, test.if-arc_room-count.false, room) in
+    let room = c.arc_room.ensures in
+    let fits : 4 * a.count + n ≤ length a.arcs.now = omega (arith, c.if-arc_room-count.false, room) in
     let copy = c.copy_arcs in record {
-      room = sym (le-leb (a.count + a.new.count) _ (omega (arith, test.if-arc_room-count.false, room)));
+      room = sym (le-leb (a.count + a.new.count) _ (omega (arith, c.if-arc_room-count.false, room)));
       words = part-put a.arcs.now copy.new.words (take n a.new.words) (4 * a.count) n refl
           (copy.ensures
           ∙ ap (λ (k : ℕ). take k a.new.words) (part_length a.arcs.now (4 * a.count) n refl fits));

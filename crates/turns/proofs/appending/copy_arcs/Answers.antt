@@ -13,14 +13,13 @@ loop-i-init c = filled-start _ _
 
 pub loop-i-preserved : goal.loop-i-preserved
 loop-i-preserved c =
-    let turn = c in
-    let a = turn.args in
-    let inv = turn.loop-i.invariant in
+    let a = c.args in
+    let inv = c.loop-i.invariant in
     let sized : length a.new.words ≡ 12 = search rules in
     let n = length a.words.now in
     let test = c.loop-i-test.true in
-    filled_more (length-take-le n a.new.words (omega (arith, sized, turn.requires))) inv test
-    (sym (get_or-take n a.new.words turn.loop-i.i 0 (omega (arith, test, inv.sized))))
+    filled_more (length-take-le n a.new.words (omega (arith, sized, c.requires))) inv test
+    (sym (get_or-take n a.new.words c.loop-i.i 0 (omega (arith, test, inv.sized))))
 
 pub returns : goal.returns
 returns c =

@@ -17,28 +17,20 @@ plain_arcs-new-requires c = expand-placed c.requires c.metastate_at-q.ensures
 
 pub add_arcs-requires : goal.add_arcs-requires
 add_arcs-requires c =
-    let m = c in
-    let start = c in
-    (arcs-fit start.requires, new-few start.requires m.metastate_at-q.ensures c.plain_arcs-new.ensures)
+    (arcs-fit c.requires, new-few c.requires c.metastate_at-q.ensures c.plain_arcs-new.ensures)
 
 pub returns-then-not-add_arcs : goal.returns-then-not-add_arcs
 returns-then-not-add_arcs c =
-    let added = c in
-    let m = added in
-    let start = c in
-    let e = added.add_arcs.ensures in
-    turn-stops start.requires m.metastate_at-q.ensures added.plain_arcs-new.ensures e.room e.words
+    let e = c.add_arcs.ensures in
+    turn-stops c.requires c.metastate_at-q.ensures c.plain_arcs-new.ensures e.room e.words
     (not_from_false _ c.if-not-add_arcs.true)
 
 pub overflow_add-next : goal.overflow_add-next
 overflow_add-next c =
-    let added = c in
-    let m = added in
-    let start = c in
     omega (
       arith,
-      arcs-fit start.requires,
-      new-few start.requires m.metastate_at-q.ensures added.plain_arcs-new.ensures,
+      arcs-fit c.requires,
+      new-few c.requires c.metastate_at-q.ensures c.plain_arcs-new.ensures,
     )
 
 pub overflow_mul-wide : goal.overflow_mul-wide
@@ -48,28 +40,15 @@ overflow_mul-wide c =
 
 pub follow_on-requires : goal.follow_on-requires
 follow_on-requires c =
-    let shifted = c in
-    let phones = shifted in
-    let half = phones in
-    let enough = half in
-    let added = enough in
-    let m = added in
-    let e = added.add_arcs.ensures in
-    next-onward c.requires m.metastate_at-q.ensures added.plain_arcs-new.ensures
+    let e = c.add_arcs.ensures in
+    next-onward c.requires c.metastate_at-q.ensures c.plain_arcs-new.ensures
     e.room e.words
-    (not_from_true _ enough.if-not-add_arcs.false) half.wide.ensures phones.all_phones.ensures shifted.shift-shifted.ensures
+    (not_from_true _ c.if-not-add_arcs.false) c.wide.ensures c.all_phones.ensures c.shift-shifted.ensures
 
 pub returns : goal.returns
 returns c =
-    let followed = c in
-    let shifted = followed in
-    let phones = shifted in
-    let half = phones in
-    let enough = half in
-    let added = enough in
-    let m = added in
-    let e = added.add_arcs.ensures in
-    turn-goes c.requires m.metastate_at-q.ensures added.plain_arcs-new.ensures
+    let e = c.add_arcs.ensures in
+    turn-goes c.requires c.metastate_at-q.ensures c.plain_arcs-new.ensures
     e.room e.words
-    (not_from_true _ enough.if-not-add_arcs.false) half.wide.ensures phones.all_phones.ensures shifted.shift-shifted.ensures
-    followed.follow_on.ensures
+    (not_from_true _ c.if-not-add_arcs.false) c.wide.ensures c.all_phones.ensures c.shift-shifted.ensures
+    c.follow_on.ensures

@@ -37,9 +37,8 @@ loop-state-init c =
 
 pub model_of-model-requires : goal.model_of-model-requires
 model_of-model-requires c =
-    let start = c in
-    let p = start.requires in
-    let a = start.args in
+    let p = c.requires in
+    let a = c.args in
     let here : c.loop-state.state < a.header.states =
     omega (arith, c.loop-state-test.true, c.wide-states.ensures) in
     has-leaf a.header a.combinations.now p.connectable.usable a.number p.listed
@@ -51,11 +50,10 @@ fits : (c : goal.After-model_of-model)
     → 2 + c.args.place * c.wide-states.result
     + c.loop-state.state < 4294967296
 fits c =
-    let head = c in
     omega (
       arith,
       few c.requires c.wide-states.ensures,
-      head.wide-states.ensures,
+      c.wide-states.ensures,
       c.loop-state-test.true,
       (ranges c.requires).states_range.high,
     )
@@ -71,12 +69,11 @@ overflow_add-first-in-loop-state-2 c = omega (arith, fits (goal.at.overflow_add-
 
 pub with_arc-new-requires : goal.with_arc-new-requires
 with_arc-new-requires c =
-    let head = c in
-    let few-arcs : head.loop-state.new.count < 3 =
+    let few-arcs : c.loop-state.new.count < 3 =
     omega (
       arith,
-      own-count _ _ _ head.loop-state.invariant,
-      head.wide-states.ensures,
+      own-count _ _ _ c.loop-state.invariant,
+      c.wide-states.ensures,
       c.loop-state-test.true,
       (ranges c.requires).states_range.high,
     ) in
@@ -84,12 +81,10 @@ with_arc-new-requires c =
 
 pub loop-state-preserved : goal.loop-state-preserved
 loop-state-preserved c =
-    let head = c in
-    own-more _ _ _ head.loop-state.invariant c.loop-state-test.true c.model_of-model.ensures
+    own-more _ _ _ c.loop-state.invariant c.loop-state-test.true c.model_of-model.ensures
     c.with_arc-new.ensures
 
 pub returns : goal.returns
 returns c =
-    let start = c in
-    own-are (record { number = start.args.number; carried = [] }) start.requires
+    own-are (record { number = c.args.number; carried = [] }) c.requires
     c.wide-states.ensures c.loop-state.invariant c.loop-state-test.false

@@ -26,16 +26,13 @@ phone_of-requires c =
 
 pub returns-then-phone_of-ne1 : goal.returns-then-phone_of-ne1
 returns-then-phone_of-ne1 c =
-    let start = c in
-    plain_other (subject (goal.at.returns-then-phone_of-ne1 c).Start) start.requires c.phone_of.ensures c.if-phone_of-ne1.true
+    plain_other (subject (goal.at.returns-then-phone_of-ne1 c).Start) c.requires c.phone_of.ensures c.if-phone_of-ne1.true
     c.own_arcs-own.ensures
 
 pub returns-then-not-ends_here : goal.returns-then-not-ends_here
 returns-then-not-ends_here c =
-    let first = c in
-    let start = first in
-    plain-inside (subject (goal.at.returns-then-not-ends_here c).Start) start.requires c.ends_here.ensures (not_from_false _ c.if-not-ends_here.true)
-    first.own_arcs-own.ensures
+    plain-inside (subject (goal.at.returns-then-not-ends_here c).Start) c.requires c.ends_here.ensures (not_from_false _ c.if-not-ends_here.true)
+    c.own_arcs-own.ensures
 
 pub last_state-requires : goal.last_state-requires
 last_state-requires c =
@@ -44,21 +41,14 @@ last_state-requires c =
 
 pub with_arc-requires : goal.with_arc-requires
 with_arc-requires c =
-    let own = c in
-    let start = own in
     record {
-      few = own-count-few (subject (goal.at.with_arc-requires c).Start) start.requires own.own_arcs-own.ensures;
+      few = own-count-few (subject (goal.at.with_arc-requires c).Start) c.requires c.own_arcs-own.ensures;
       from_word = search rules;
       to_word = omega arith;
     }
 
 pub returns : goal.returns
 returns c =
-    let wide = c in
-    let state = wide in
-    let ends = state in
-    let phone = ends in
-    let start = wide in
-    plain-final (subject (goal.at.returns c).Start) start.requires phone.phone_of.ensures ends.if-phone_of-ne1.false
-    ends.ends_here.ensures (not_from_true _ state.if-not-ends_here.false) (wide.wide.ensures ∙ state.last_state.ensures)
-    phone.own_arcs-own.ensures c.with_arc.ensures
+    plain-final (subject (goal.at.returns c).Start) c.requires c.phone_of.ensures c.if-phone_of-ne1.false
+    c.ends_here.ensures (not_from_true _ c.if-not-ends_here.false) (c.wide.ensures ∙ c.last_state.ensures)
+    c.own_arcs-own.ensures c.with_arc.ensures

@@ -5,5 +5,4 @@ use Rattle.turns.proofs.expanding.with_arc.Goals as goal
 
 pub returns : goal.returns
 returns c arcs are =
-    let start = c in
-    arc-stored start.args.new arcs _ _ _ (search rules) start.requires.few are
+    arc-stored c.args.new arcs _ _ _ (search rules) c.requires.few are
