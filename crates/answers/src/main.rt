@@ -7,27 +7,28 @@ ghost use Rattle.program.specs.Reading.{ReadInto};
 use program::running::run;
 use program::{BUFFER_SIZE, LONGEST_INPUT};
 use showing::printing::{print, print_number};
+use showing::reading::{INPUT_SIZE, read_full};
 use showing::titles::{end_of, text_of, title_of};
+use std::io;
 
 // What the program prints; of a network of more than 48 lines the first 48, and how many bytes there are.
-fn show_run(buffer: &[u8; BUFFER_SIZE], got: usize) {
+fn show_run(rt: &impl Print, buffer: &[u8; BUFFER_SIZE], got: usize) -> io::Result<()> {
     let output = run(buffer, got);
     let bytes = output.bytes;
     let length = output.length;
     if length <= 1536 {
-        print(&bytes[0..length]);
-        return;
+        return print(rt, &bytes[0..length]);
     }
-    print(&bytes[0..1536]);
-    print(b"..");
-    print_number(length as u64);
-    print(b" bytes\n");
+    print(rt, &bytes[0..1536])?;
+    print(rt, b"..")?;
+    print_number(rt, length as u64)?;
+    print(rt, b" bytes\n")
 }
 
-fn show_title(title: &[u8]) {
-    print(b"=");
-    print(title);
-    print(b"\n");
+fn show_title(rt: &impl Print, title: &[u8]) -> io::Result<()> {
+    print(rt, b"=")?;
+    print(rt, title)?;
+    print(rt, b"\n")
 }
 
 // Reads an input into a buffer, until it ends or the buffer is full, and counts the bytes.
@@ -45,29 +46,30 @@ fn read_into(input: &[u8], buffer: &mut [u8]) -> usize
     at
 }
 
-fn show_book(book: &[u8]) {
+fn show_book(rt: &impl Print, book: &[u8]) -> io::Result<()> {
     let mut buffer = [0u8; BUFFER_SIZE];
     let got = read_into(book, &mut buffer);
-    show_run(&buffer, got);
+    show_run(rt, &buffer, got)
 }
 
-fn show_all(text: &[u8]) {
+fn show_all(rt: &impl Print, text: &[u8]) -> io::Result<()> {
     let mut at = 1;
     while at < text.len() {
         let rest = &text[at..];
-        show_title(title_of(rest));
-        show_book(text_of(rest));
+        show_title(rt, title_of(rest))?;
+        show_book(rt, text_of(rest))?;
         at += end_of(rest) + 1;
     }
+    Ok(())
 }
 
-fn main() {
-    let mut text = io::large_buffer();
-    let got = io::read_full(0, &mut text);
-    show_all(&text[..got]);
+fn main(rt: HostRuntime) -> io::Result<()> {
+    let mut text = [0u8; INPUT_SIZE];
+    let got = read_full(&mut rt.stdin(), &mut text)?;
+    show_all(&rt, &text[..got])?;
     let long = [b' '; BUFFER_SIZE];
-    show_title(b" 22 before 11: 65537 blanks");
-    show_run(&long, BUFFER_SIZE);
-    show_title(b" 11: 65536 blanks");
-    show_run(&long, LONGEST_INPUT);
+    show_title(&rt, b" 22 before 11: 65537 blanks")?;
+    show_run(&rt, &long, BUFFER_SIZE)?;
+    show_title(&rt, b" 11: 65536 blanks")?;
+    show_run(&rt, &long, LONGEST_INPUT)
 }

@@ -10,11 +10,13 @@ mod joins;
 mod texts;
 
 use definitions::Counts;
+use showing::reading::{INPUT_SIZE, read_full};
 use showing::titles::{end_of, text_of, title_of};
+use std::io;
 use texts::show_text;
 
 // There is space for twelve arcs and two words. Before the first network no arcs are counted.
-fn show_all(text: &[u8]) {
+fn show_all(rt: &impl Print, text: &[u8]) -> io::Result<()> {
     let mut arcs = [0u32; 50];
     let mut counts = Counts {
         states: 0,
@@ -24,13 +26,14 @@ fn show_all(text: &[u8]) {
     let mut at = 1;
     while at < text.len() {
         let rest = &text[at..];
-        counts = show_text(title_of(rest), text_of(rest), counts, &mut arcs);
+        counts = show_text(rt, title_of(rest), text_of(rest), counts, &mut arcs)?;
         at += end_of(rest) + 1;
     }
+    Ok(())
 }
 
-fn main() {
-    let mut text = io::large_buffer();
-    let got = io::read_full(0, &mut text);
-    show_all(&text[..got]);
+fn main(rt: HostRuntime) -> io::Result<()> {
+    let mut text = [0u8; INPUT_SIZE];
+    let got = read_full(&mut rt.stdin(), &mut text)?;
+    show_all(&rt, &text[..got])
 }

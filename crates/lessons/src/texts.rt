@@ -4,6 +4,7 @@ use definitions::Counts;
 use nettext::Reading;
 use nettext::reader::read;
 use showing::printing::{print, print_refusal, print_word};
+use std::io;
 
 fn begins_with(text: &[u8], byte: u8) -> bool {
     if text.len() == 0 {
@@ -13,36 +14,42 @@ fn begins_with(text: &[u8], byte: u8) -> bool {
 }
 
 // Reads a network, and answers its counts, or no counts where it is refused.
-fn show_network(text: &[u8], arcs: &mut [u32]) -> Counts {
+fn show_network(rt: &impl Print, text: &[u8], arcs: &mut [u32]) -> io::Result<Counts> {
     match read(text, arcs) {
         Reading::Accepted(counts) => {
-            print(b" network, counts");
-            print_word(counts.states);
-            print_word(counts.metastates);
-            print_word(counts.arcs);
-            print(b"\n");
-            counts
+            print(rt, b" network, counts")?;
+            print_word(rt, counts.states)?;
+            print_word(rt, counts.metastates)?;
+            print_word(rt, counts.arcs)?;
+            print(rt, b"\n")?;
+            Ok(counts)
         }
         Reading::Refused(refusal) => {
-            print_refusal(refusal);
-            print(b"\n");
-            Counts {
+            print_refusal(rt, refusal)?;
+            print(rt, b"\n")?;
+            Ok(Counts {
                 states: 0,
                 metastates: 0,
                 arcs: 0,
-            }
+            })
         }
     }
 }
 
 // Answers the counts of the network last read, and leaves its arcs.
-pub fn show_text(title: &[u8], text: &[u8], counts: Counts, arcs: &mut [u32]) -> Counts {
-    print(b"=");
-    print(title);
-    print(b":");
+pub fn show_text(
+    rt: &impl Print,
+    title: &[u8],
+    text: &[u8],
+    counts: Counts,
+    arcs: &mut [u32],
+) -> io::Result<Counts> {
+    print(rt, b"=")?;
+    print(rt, title)?;
+    print(rt, b":")?;
     if begins_with(text, b'W') {
-        return show_network(text, arcs);
+        return show_network(rt, text, arcs);
     }
-    show_book(text, counts, arcs, begins_with(title, b'+'));
-    counts
+    show_book(rt, text, counts, arcs, begins_with(title, b'+'))?;
+    Ok(counts)
 }

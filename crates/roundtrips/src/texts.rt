@@ -5,36 +5,37 @@ use nettext::Reading;
 use nettext::reader::read;
 use showing::comparing::used_words;
 use showing::printing::{print, print_refusal, print_used_words, print_word};
+use std::io;
 
-fn print_counts(counts: Counts) {
-    print(b"  counts");
-    print_word(counts.states);
-    print_word(counts.metastates);
-    print_word(counts.arcs);
-    print(b"\n");
+fn print_counts(rt: &impl Print, counts: Counts) -> io::Result<()> {
+    print(rt, b"  counts")?;
+    print_word(rt, counts.states)?;
+    print_word(rt, counts.metastates)?;
+    print_word(rt, counts.arcs)?;
+    print(rt, b"\n")
 }
 
 // Reads a text into space for twelve arcs and two words, where something stood before.
-pub fn show_text(title: &[u8], text: &[u8]) {
+pub fn show_text(rt: &impl Print, title: &[u8], text: &[u8]) -> io::Result<()> {
     let mut arcs = [7u32; 50];
-    print(b"=");
-    print(title);
-    print(b":");
+    print(rt, b"=")?;
+    print(rt, title)?;
+    print(rt, b":")?;
     match read(text, &mut arcs) {
         Reading::Accepted(counts) => {
-            print(b" accepted\n");
-            print_counts(counts);
-            print(b"  arcs");
-            print_used_words(&arcs);
-            show_again(counts, &arcs, text);
-            show_foreign(counts, &mut arcs);
+            print(rt, b" accepted\n")?;
+            print_counts(rt, counts)?;
+            print(rt, b"  arcs")?;
+            print_used_words(rt, &arcs)?;
+            show_again(rt, counts, &arcs, text)?;
+            show_foreign(rt, counts, &mut arcs)
         }
         Reading::Refused(refusal) => {
-            print_refusal(refusal);
+            print_refusal(rt, refusal)?;
             if used_words(&arcs) == 0 {
-                print(b", arcs cleared");
+                print(rt, b", arcs cleared")?;
             }
-            print(b"\n");
+            print(rt, b"\n")
         }
     }
 }

@@ -1,4 +1,3 @@
--- What comparing and cutting answer, and the laws about them.
+-- What comparing and cutting answer.
 pub mod Used
 pub mod Titles
-pub mod Laws

@@ -7,20 +7,23 @@ mod books;
 mod spelled;
 
 use books::show_book;
+use showing::reading::{INPUT_SIZE, read_full};
 use showing::titles::{end_of, text_of, title_of};
+use std::io;
 
-fn show_all(text: &[u8]) {
+fn show_all(rt: &impl Print, text: &[u8]) -> io::Result<()> {
     let mut other = [0u8; 512];
     let mut at = 1;
     while at < text.len() {
         let rest = &text[at..];
-        show_book(title_of(rest), text_of(rest), &mut other);
+        show_book(rt, title_of(rest), text_of(rest), &mut other)?;
         at += end_of(rest) + 1;
     }
+    Ok(())
 }
 
-fn main() {
-    let mut text = io::large_buffer();
-    let got = io::read_full(0, &mut text);
-    show_all(&text[..got]);
+fn main(rt: HostRuntime) -> io::Result<()> {
+    let mut text = [0u8; INPUT_SIZE];
+    let got = read_full(&mut rt.stdin(), &mut text)?;
+    show_all(&rt, &text[..got])
 }

@@ -1,0 +1,2 @@
+-- The laws about what comparing and cutting answer.
+pub mod Laws

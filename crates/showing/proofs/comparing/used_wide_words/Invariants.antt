@@ -1,0 +1,9 @@
+-- `comparing::used_wide_words` meets its contract. The loop's invariant: what is used lies before `used`.
+use Rattle.showing.proofs.Laws.Comparing.{UsedBefore}
+use Rattle.showing.proofs.comparing.used_wide_words.Given as goal
+
+abbrev pub invariant-loop-used : goal.invariant-loop-used
+invariant-loop-used l = UsedBefore l.wide l.used
+
+abbrev pub decreases-loop-used : goal.decreases-loop-used
+decreases-loop-used l = l.used

@@ -1,0 +1,24 @@
+// Bytes of standard input.
+ghost use Rattle.std.specs.Prelude.{◌≡◌, ◌≤◌, length, IfOk};
+
+use std::io;
+use std::io::Read;
+
+// As many bytes of standard input as the example programs read.
+pub const INPUT_SIZE: usize = 65536;
+
+// Reads until the buffer is full or the input ends, and counts the bytes; or answers the error of a read that fails.
+pub fn read_full(input: &mut impl Read, buffer: &mut [u8]) -> io::Result<usize>
+    ensures within { IfOk result (λ got. got ≤ length buffer.new) }
+    ensures whole { length buffer.new ≡ length buffer.old }
+{
+    let mut got = 0;
+    while got < buffer.len() {
+        let more = input.read(&mut buffer[got..])?;
+        if more == 0 {
+            return Ok(got);
+        }
+        got += more;
+    }
+    Ok(got)
+}
