@@ -1,5 +1,5 @@
 -- `comparing::used_bytes` meets its contract. The loop's invariant: what is used lies before `used`.
-use Rattle.showing.proofs.Laws.Comparing.{UsedBefore}
+use Rattle.showing.specs.Laws.Comparing.{UsedBefore}
 use Rattle.showing.proofs.comparing.used_bytes.Given as goal
 
 abbrev pub invariant-loop-used : goal.invariant-loop-used

@@ -1,5 +1,5 @@
 -- `comparing::used_wide_words` meets its contract.
-use Rattle.showing.proofs.Laws.Comparing.{used_start, used-here, used-less, used-end}
+use Rattle.showing.specs.Laws.Comparing.{used_start, used-here, used-less, used-end}
 use Rattle.showing.proofs.comparing.used_wide_words.Goals as goal
 
 pub loop-used-init : goal.loop-used-init

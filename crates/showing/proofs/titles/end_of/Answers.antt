@@ -1,5 +1,5 @@
 -- `titles::end_of` meets its contract: the next '=' is looked for below the line feed.
-use Rattle.showing.proofs.Laws.Titles.{end-found}
+use Rattle.showing.specs.Laws.Titles.{end-found}
 use Rattle.showing.proofs.titles.end_of.Goals as goal
 
 pub returns-clause-found : goal.returns-clause-found

@@ -1,6 +1,6 @@
 -- `titles::place` meets its contract.
 use Rattle.std.proofs.Common.{sym, ◌∙◌, arith}
-use Rattle.showing.proofs.Laws.Titles.{byte-passed, byte-found, bytes-end}
+use Rattle.showing.specs.Laws.Titles.{byte-passed, byte-found, bytes-end}
 use Rattle.showing.proofs.titles.place.Goals as goal
 
 pub returns-then-text-i-clause-found : goal.returns-then-text-i-clause-found

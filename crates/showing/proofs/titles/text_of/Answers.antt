@@ -1,5 +1,5 @@
 -- `titles::text_of` meets its contract: where there is a line feed, what stands below it is cut out.
-use Rattle.showing.proofs.Laws.Titles.{text-cut, text-none}
+use Rattle.showing.specs.Laws.Titles.{text-cut, text-none}
 use Rattle.showing.proofs.titles.text_of.Goals as goal
 
 pub returns-then-line-end : goal.returns-then-line-end

@@ -1,2 +1,0 @@
--- The laws about what comparing and cutting answer.
-pub mod Laws
