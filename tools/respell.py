@@ -2,8 +2,9 @@
 """Respells the repository's own definitions, lemmas and modules of specs/ and proofs/: words in snake case, types and
 modules in camel case. Run once, at the top, after the kit's port.py: python3 tools/respell.py
 
-Functions, types and files of src/ keep their names, and so do strings, inputs, outputs and names for C. It stops, with
-nothing written, where two names would fall together."""
+Functions, types and files of src/ keep their names, and so do strings, inputs, outputs and names for C. It prints the
+names that fall together with one that is there; `--dry` prints alone. APART keeps those apart that one file would have
+both of."""
 
 import os
 import re
