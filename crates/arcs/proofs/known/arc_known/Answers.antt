@@ -14,14 +14,11 @@ returns-then-not-arc_ranged c = arc-misranged _ _ (failed c.arc_ranged.ensures (
 pub returns-then-not-is_state : goal.returns-then-not-is_state
 unfolding arc_of arc_words
 returns-then-not-is_state c =
-    let first = c in
-    arc-adrift _ _ (held first.arc_ranged.ensures (not_from_true _ first.if-not-arc_ranged.false))
+    arc-adrift _ _ (held c.arc_ranged.ensures (not_from_true _ c.if-not-arc_ranged.false))
     (failed c.is_state.ensures (not_from_false _ c.if-not-is_state.true))
 
 pub returns : goal.returns
 unfolding arc_of arc_words
 returns c =
-    let second = c in
-    let first = second in
-    c.is_state-2.ensures ∙ arc-judged _ _ (held first.arc_ranged.ensures (not_from_true _ first.if-not-arc_ranged.false))
-    (held second.is_state.ensures (not_from_true _ second.if-not-is_state.false))
+    c.is_state-2.ensures ∙ arc-judged _ _ (held c.arc_ranged.ensures (not_from_true _ c.if-not-arc_ranged.false))
+    (held c.is_state.ensures (not_from_true _ c.if-not-is_state.false))

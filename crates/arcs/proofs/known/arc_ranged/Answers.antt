@@ -10,20 +10,14 @@ returns-then-arc-gt-MOST_STATE c = source-far (arc_of c.args.arc.now) c.if-arc-g
 pub returns-then-arc-gt-MOST_STATE-2 : goal.returns-then-arc-gt-MOST_STATE-2
 unfolding arc_of arc_words
 returns-then-arc-gt-MOST_STATE-2 c =
-    let first = c in
-    target-far (arc_of first.args.arc.now) first.if-arc-gt-MOST_STATE.false c.if-arc-gt-MOST_STATE-2.true
+    target-far (arc_of c.args.arc.now) c.if-arc-gt-MOST_STATE.false c.if-arc-gt-MOST_STATE-2.true
 
 pub returns-then-arc-gt-MOST_MODEL : goal.returns-then-arc-gt-MOST_MODEL
 unfolding arc_of arc_words
 returns-then-arc-gt-MOST_MODEL c =
-    let second = c in
-    let first = second in
-    model-far (arc_of first.args.arc.now) first.if-arc-gt-MOST_STATE.false second.if-arc-gt-MOST_STATE-2.false c.if-arc-gt-MOST_MODEL.true
+    model-far (arc_of c.args.arc.now) c.if-arc-gt-MOST_STATE.false c.if-arc-gt-MOST_STATE-2.false c.if-arc-gt-MOST_MODEL.true
 
 pub returns : goal.returns
 unfolding arc_of arc_words
 returns c =
-    let third = c in
-    let second = third in
-    let first = second in
-    by-phone (arc_of first.args.arc.now) first.if-arc-gt-MOST_STATE.false second.if-arc-gt-MOST_STATE-2.false third.if-arc-gt-MOST_MODEL.false
+    by-phone (arc_of c.args.arc.now) c.if-arc-gt-MOST_STATE.false c.if-arc-gt-MOST_STATE-2.false c.if-arc-gt-MOST_MODEL.false

@@ -16,23 +16,17 @@ arc_known-requires c = lent-sized _ _ c.loop-i-test.true
 
 pub returns-then-not-arc_known : goal.returns-then-not-arc_known
 returns-then-not-arc_known c =
-    let called = c in
-    let turn = called in
-    tested-foreign turn.loop-i.invariant turn.loop-i-test.true
-    (failed called.arc_known.ensures (not_from_false _ c.if-not-arc_known.true))
+    tested-foreign c.loop-i.invariant c.loop-i-test.true
+    (failed c.arc_known.ensures (not_from_false _ c.if-not-arc_known.true))
 
 pub returns-then-from-last : goal.returns-then-from-last
 returns-then-from-last c =
-    let turn = c in
-    tested-descends turn.loop-i.invariant turn.loop-i-test.true c.if-from-last.true
+    tested-descends c.loop-i.invariant c.loop-i-test.true c.if-from-last.true
 
 pub loop-i-preserved : goal.loop-i-preserved
 loop-i-preserved c =
-    let passed = c in
-    let called = passed in
-    let turn = called in
-    tested-more turn.loop-i.invariant turn.loop-i-test.true
-    (held called.arc_known.ensures (not_from_true _ passed.if-not-arc_known.false)) c.if-from-last.false
+    tested-more c.loop-i.invariant c.loop-i-test.true
+    (held c.arc_known.ensures (not_from_true _ c.if-not-arc_known.false)) c.if-from-last.false
 
 pub returns : goal.returns
 returns c = tested-end c.loop-i.invariant (search rules)

@@ -17,8 +17,6 @@ returns-then-wide-lt2 c = state_low _ (omega (arith, c.wide-3.ensures, c.if-wide
 
 pub returns : goal.returns
 returns c =
-    let passed = c in
-    let counted = passed in
     rw c.wide-4.ensures
-    (state_high _ counted.wide.ensures counted.wide-2.ensures
-    (omega (arith, passed.wide-3.ensures, passed.if-wide-lt2.false)))
+    (state_high _ c.wide.ensures c.wide-2.ensures
+    (omega (arith, c.wide-3.ensures, c.if-wide-lt2.false)))

@@ -12,15 +12,12 @@ returns-then-not-counts_known c = network-miscounted _ _ (failed c.counts_known.
 
 pub returns-then-not-holds_only : goal.returns-then-not-holds_only
 returns-then-not-holds_only c =
-    let counted = c in
-    let passed = counted in
-    network-unheld _ _ counted.wide-used.ensures (failed c.holds_only.ensures (not_from_false _ c.if-not-holds_only.true))
-    (held passed.counts_known.ensures (not_from_true _ passed.if-not-counts_known.false))
+    network-unheld _ _ c.wide-used.ensures (failed c.holds_only.ensures (not_from_false _ c.if-not-holds_only.true))
+    (held c.counts_known.ensures (not_from_true _ c.if-not-counts_known.false))
 
 pub slice_bounds-arcs_known-end : goal.slice_bounds-arcs_known-end
 slice_bounds-arcs_known-end c =
-    let passed = c in
-    holds-taken _ _ (held passed.holds_only.ensures (not_from_true _ passed.if-not-holds_only.false))
+    holds-taken _ _ (held c.holds_only.ensures (not_from_true _ c.if-not-holds_only.false))
 
 pub returns : goal.returns
 returns c =

@@ -10,19 +10,13 @@ loop-low-init c = bracket-from _ (search rules)
 
 pub loop-low-preserved-then-wide-state : goal.loop-low-preserved-then-wide-state
 loop-low-preserved-then-wide-state c =
-    let read = c in
-    let turn = read in
-    let start = turn in
-    bracket-up start.requires turn.loop-low.invariant (search rules)
-    (omega (arith, read.wide.ensures, c.if-wide-state.true))
+    bracket-up c.requires c.loop-low.invariant (search rules)
+    (omega (arith, c.wide.ensures, c.if-wide-state.true))
 
 pub loop-low-preserved : goal.loop-low-preserved
 loop-low-preserved c =
-    let read = c in
-    let turn = read in
-    let start = turn in
-    bracket-down start.requires turn.loop-low.invariant (search rules)
-    (omega (arith, read.wide.ensures, c.if-wide-state.false))
+    bracket-down c.requires c.loop-low.invariant (search rules)
+    (omega (arith, c.wide.ensures, c.if-wide-state.false))
 
 pub returns : goal.returns
 returns c = bracket-end c.loop-low.invariant (search rules)

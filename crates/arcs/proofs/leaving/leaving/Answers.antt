@@ -25,38 +25,17 @@ offset_bounds-arcs-start c = omega (arith, found (goal.at.offset_bounds-arcs-sta
 pub slice_bounds-result-end : goal.slice_bounds-result-end
 slice_bounds-result-end c = found (goal.at.slice_bounds-result-end c).In-Part
 
-pub returns-in-Part-clause-fault : goal.returns-in-Part-clause-fault
-returns-in-Part-clause-fault c = (handed-part c.args.arcs.now c.args.arcs.ref_ptr (leaving c.args.counts c.args.arcs.now c.args.state)
-    (sym c.in-Part.is ∙ standing-told _ c.part_leaving-standing.ensures)).0
+pub returns-in-Part : goal.returns-in-Part
+returns-in-Part c =
+    let all =
+    handed-part c.args.arcs.now c.args.arcs.ref_ptr (leaving c.args.counts c.args.arcs.now c.args.state)
+    (sym c.in-Part.is ∙ standing-told _ c.part_leaving-standing.ensures) in
+    record { fault = all.0; line = all.1.0; address = all.1.1.0; part = all.1.1.1 }
 
-pub returns-in-Part-clause-line : goal.returns-in-Part-clause-line
-returns-in-Part-clause-line c = (handed-part c.args.arcs.now c.args.arcs.ref_ptr (leaving c.args.counts c.args.arcs.now c.args.state)
-    (sym c.in-Part.is ∙ standing-told _ c.part_leaving-standing.ensures)).1.0
-
-pub returns-in-Part-clause-address : goal.returns-in-Part-clause-address
-returns-in-Part-clause-address c = (handed-part c.args.arcs.now c.args.arcs.ref_ptr (leaving c.args.counts c.args.arcs.now c.args.state)
-    (sym c.in-Part.is ∙ standing-told _ c.part_leaving-standing.ensures)).1.1.0
-
-pub returns-in-Part-clause-part : goal.returns-in-Part-clause-part
-returns-in-Part-clause-part c = (handed-part c.args.arcs.now c.args.arcs.ref_ptr (leaving c.args.counts c.args.arcs.now c.args.state)
-    (sym c.in-Part.is ∙ standing-told _ c.part_leaving-standing.ensures)).1.1.1
-
-pub returns-in-Refused-clause-fault : goal.returns-in-Refused-clause-fault
-returns-in-Refused-clause-fault c = (handed-nothing c.args.arcs.now c.args.arcs.ref_ptr (leaving c.args.counts c.args.arcs.now c.args.state)
+pub returns-in-Refused : goal.returns-in-Refused
+returns-in-Refused c =
+    let all =
+    handed-nothing c.args.arcs.now c.args.arcs.ref_ptr (leaving c.args.counts c.args.arcs.now c.args.state)
     (sym c.in-Refused.is ∙ standing-told _ c.part_leaving-standing.ensures)
-    c.number.ensures refl).0
-
-pub returns-in-Refused-clause-line : goal.returns-in-Refused-clause-line
-returns-in-Refused-clause-line c = (handed-nothing c.args.arcs.now c.args.arcs.ref_ptr (leaving c.args.counts c.args.arcs.now c.args.state)
-    (sym c.in-Refused.is ∙ standing-told _ c.part_leaving-standing.ensures)
-    c.number.ensures refl).1.0
-
-pub returns-in-Refused-clause-address : goal.returns-in-Refused-clause-address
-returns-in-Refused-clause-address c = (handed-nothing c.args.arcs.now c.args.arcs.ref_ptr (leaving c.args.counts c.args.arcs.now c.args.state)
-    (sym c.in-Refused.is ∙ standing-told _ c.part_leaving-standing.ensures)
-    c.number.ensures refl).1.1.0
-
-pub returns-in-Refused-clause-part : goal.returns-in-Refused-clause-part
-returns-in-Refused-clause-part c = (handed-nothing c.args.arcs.now c.args.arcs.ref_ptr (leaving c.args.counts c.args.arcs.now c.args.state)
-    (sym c.in-Refused.is ∙ standing-told _ c.part_leaving-standing.ensures)
-    c.number.ensures refl).1.1.1
+    c.number.ensures refl in
+    record { fault = all.0; line = all.1.0; address = all.1.1.0; part = all.1.1.1 }

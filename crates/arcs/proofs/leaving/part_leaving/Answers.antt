@@ -13,58 +13,43 @@ use Rattle.arcs.proofs.leaving.part_leaving.Goals.{After-arcs_below-end}
 
 pub returns-then-not-network_known : goal.returns-then-not-network_known
 returns-then-not-network_known c =
-    let refused = c in
     standing-said _ (c.no_part.ensures
-    ∙ standing-foreign _ _ _ (failed refused.network_known.ensures (not_from_false _ refused.if-not-network_known.true)))
+    ∙ standing-foreign _ _ _ (failed c.network_known.ensures (not_from_false _ c.if-not-network_known.true)))
 
 pub returns-then-not-is_state : goal.returns-then-not-is_state
 returns-then-not-is_state c =
-    let refused = c in
-    let passed = refused in
     standing-said _ (c.no_part-then-not-is_state.ensures
-    ∙ standing-beyond _ _ _ (held passed.network_known.ensures (not_from_true _ passed.if-not-network_known.false))
-    (failed refused.is_state.ensures (not_from_false _ refused.if-not-is_state.true)))
+    ∙ standing-beyond _ _ _ (held c.network_known.ensures (not_from_true _ c.if-not-network_known.false))
+    (failed c.is_state.ensures (not_from_false _ c.if-not-is_state.true)))
 
 pub slice_bounds-arcs_below-end : goal.slice_bounds-arcs_below-end
 slice_bounds-arcs_below-end c =
-    let counted = c in
-    let passed = counted in
-    known-taken _ _ counted.wide-used.ensures
-    (held passed.network_known.ensures (not_from_true _ passed.if-not-network_known.false))
+    known-taken _ _ c.wide-used.ensures
+    (held c.network_known.ensures (not_from_true _ c.if-not-network_known.false))
 
 pub arcs_below-first-requires : goal.arcs_below-first-requires
 arcs_below-first-requires c =
-    let counted = c in
-    let passed = counted in
-    known-order _ _ counted.wide-used.ensures
-    (held passed.network_known.ensures (not_from_true _ passed.if-not-network_known.false))
+    known-order _ _ c.wide-used.ensures
+    (held c.network_known.ensures (not_from_true _ c.if-not-network_known.false))
 
 pub slice_bounds-arcs_below-end-2 : goal.slice_bounds-arcs_below-end-2
 slice_bounds-arcs_below-end-2 c =
-    let counted = c in
-    let passed = counted in
-    known-taken _ _ counted.wide-used.ensures
-    (held passed.network_known.ensures (not_from_true _ passed.if-not-network_known.false))
+    known-taken _ _ c.wide-used.ensures
+    (held c.network_known.ensures (not_from_true _ c.if-not-network_known.false))
 
 pub arcs_below-end-requires : goal.arcs_below-end-requires
 arcs_below-end-requires c =
-    let counted = c in
-    let passed = counted in
-    known-order _ _ counted.wide-used.ensures
-    (held passed.network_known.ensures (not_from_true _ passed.if-not-network_known.false))
+    known-order _ _ c.wide-used.ensures
+    (held c.network_known.ensures (not_from_true _ c.if-not-network_known.false))
 
 -- both searches done
 parted : (c : goal.After-arcs_below-end) → Searched c.args.counts c.args.arcs.now
     c.args.state c.arcs_below-first.result c.arcs_below-end.result
 parted c =
-    let first = c in
-    let counted = first in
-    let listed = counted in
-    let passed = listed in
-    searched _ _ (held passed.network_known.ensures (not_from_true _ passed.if-not-network_known.false))
-    (held listed.is_state.ensures (not_from_true _ listed.if-not-is_state.false))
-    counted.wide-used.ensures first.wide.ensures c.wide-2.ensures
-    first.arcs_below-first.ensures c.arcs_below-end.ensures
+    searched _ _ (held c.network_known.ensures (not_from_true _ c.if-not-network_known.false))
+    (held c.is_state.ensures (not_from_true _ c.if-not-is_state.false))
+    c.wide-used.ensures c.wide.ensures c.wide-2.ensures
+    c.arcs_below-first.ensures c.arcs_below-end.ensures
 
 pub overflow_mul-result : goal.overflow_mul-result
 overflow_mul-result c = omega (arith, part-order (parted (goal.at.overflow_mul-result c).After-arcs_below-end), part_end (parted (goal.at.overflow_mul-result c).After-arcs_below-end), c.well_formed.1.0.0)

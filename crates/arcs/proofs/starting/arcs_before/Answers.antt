@@ -4,6 +4,4 @@ use Rattle.arcs.proofs.starting.arcs_before.Goals as goal
 
 pub returns-then-state-starts : goal.returns-then-state-starts
 returns-then-state-starts c =
-    let test = c in
-    let start = test in
-    c.wide.ensures ∙ start.requires.1.begins start.args.state test.if-state-starts.true
+    c.wide.ensures ∙ c.requires.1.begins c.args.state c.if-state-starts.true

@@ -9,19 +9,13 @@ loop-at-init c = bracket-from _ c.requires.1
 
 pub returns-then-state-wide : goal.returns-then-state-wide
 returns-then-state-wide c =
-    let read = c in
-    let turn = read in
-    let start = turn in
-    bracket-end (bracket-down start.requires.0 turn.loop-at.invariant turn.loop-at-test.true
-    (omega (arith, read.wide.ensures, c.if-state-wide.true))) (search rules)
+    bracket-end (bracket-down c.requires.0 c.loop-at.invariant c.loop-at-test.true
+    (omega (arith, c.wide.ensures, c.if-state-wide.true))) (search rules)
 
 pub loop-at-preserved : goal.loop-at-preserved
 loop-at-preserved c =
-    let read = c in
-    let turn = read in
-    let start = turn in
-    bracket-up start.requires.0 turn.loop-at.invariant turn.loop-at-test.true
-    (omega (arith, read.wide.ensures, c.if-state-wide.false))
+    bracket-up c.requires.0 c.loop-at.invariant c.loop-at-test.true
+    (omega (arith, c.wide.ensures, c.if-state-wide.false))
 
 pub returns : goal.returns
 returns c = bracket-end c.loop-at.invariant c.loop-at-test.false

@@ -16,18 +16,14 @@ returns-then-at-count c = filling-done c.loop-state.invariant
 
 pub overflow_cast-starts : goal.overflow_cast-starts
 overflow_cast-starts c =
-    let call = c in
-    let turn = call in
-    let start = turn in
-    let most = below_all start.args.arcs.now turn.loop-state.state in
-    let few = start.requires.1 in
-    let is = call.counted_on-at.ensures in
+    let most = below_all c.args.arcs.now c.loop-state.state in
+    let few = c.requires.1 in
+    let is = c.counted_on-at.ensures in
     search rules
 
 pub loop-state-preserved : goal.loop-state-preserved
 loop-state-preserved c =
-    let turn = c in
-    filling-more turn.loop-state.invariant turn.loop-state-test.true c.counted_on-at.ensures
+    filling-more c.loop-state.invariant c.loop-state-test.true c.counted_on-at.ensures
 
 pub returns : goal.returns
 returns c = filling-done c.loop-state.invariant

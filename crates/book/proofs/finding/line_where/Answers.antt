@@ -12,15 +12,13 @@ use Rattle.book.specs.Laws.Finding.{passed_none, passed-more, found_here, found-
 use Rattle.book.proofs.finding.line_where.Goals as goal
 use Rattle.book.proofs.finding.line_where.Goals.{After-is_sought}
 
-answered : (c : goal.After-is_sought) → let start = c in
-    sought_in start.args.sought (book_taken (line_bytes start.args.text.now c.loop-i.i))
+answered : (c : goal.After-is_sought) → sought_in c.args.sought (book_taken (line_bytes c.args.text.now c.loop-i.i))
     ≡ c.is_sought.result
 answered c =
     let parse = c.parse-parsed in
-    let start = c in
-    let bytes = next-bytes start.args.text.now c.loop-i.i in
+    let bytes = next-bytes c.args.text.now c.loop-i.i in
     sym (c.is_sought.ensures
-    ∙ ap (sought_in start.args.sought) (c.entry_of-entry.ensures
+    ∙ ap (sought_in c.args.sought) (c.entry_of-entry.ensures
     ∙ ap (λ (p : Parsed). book_line (line_in p.row)) parse.ensures ∙ ap book_taken bytes))
 
 pub loop-i-init : goal.loop-i-init
@@ -31,15 +29,13 @@ entry_of-entry-requires c = whole_row _ c.parse-parsed.ensures
 
 pub returns-then-is_sought : goal.returns-then-is_sought
 returns-then-is_sought c =
-    let turn = c in
-    found_here _ _ _ turn.loop-i.invariant.0 turn.loop-i-test.true (answered (goal.at.returns-then-is_sought c).After-is_sought ∙ c.if-is_sought.true)
+    found_here _ _ _ c.loop-i.invariant.0 c.loop-i-test.true (answered (goal.at.returns-then-is_sought c).After-is_sought ∙ c.if-is_sought.true)
 
 pub loop-i-preserved : goal.loop-i-preserved
 loop-i-preserved c =
-    let turn = c in
-    let next = passed-more _ _ _ turn.loop-i.invariant.0 turn.loop-i-test.true
+    let next = passed-more _ _ _ c.loop-i.invariant.0 c.loop-i-test.true
     (answered (goal.at.loop-i-preserved c).After-is_sought ∙ c.if-is_sought.false) in
-    (next, omega (arith, turn.loop-i-test.true))
+    (next, omega (arith, c.loop-i-test.true))
 
 pub returns : goal.returns
 returns c = found-end _ _ _ c.loop-i.invariant.0 c.loop-i-test.false

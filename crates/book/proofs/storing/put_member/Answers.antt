@@ -5,7 +5,6 @@ use Rattle.book.proofs.storing.put_member.Goals as goal
 
 pub returns : goal.returns
 returns c =
-    let start = c in
-    let (_, _, from, to) = start.requires in
+    let (_, _, from, to) = c.requires in
     rw c.wide-at.ensures
-    (member-put start.args.sets.now (start.args.class - 1) start.args.phone from to)
+    (member-put c.args.sets.now (c.args.class - 1) c.args.phone from to)

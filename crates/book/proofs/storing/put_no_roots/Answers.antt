@@ -20,11 +20,8 @@ slice_bounds-fill_words-end c = rw (c.wide.ensures, c.wide-2.ensures) c.requires
 pub returns : goal.returns
 unfolding root_count
 returns c =
-    let filled = c in
-    let product = filled in
-    let start = product in
-    let count = ap₂ ◌*◌ product.wide.ensures product.wide-2.ensures in
-    let table : List ℕ = start.args.roots.now in
-    let end : ℕ = product.wide.result * product.wide-2.result in
-    first-filled table _ end no_root (rw count start.requires) filled.fill_words.ensures
+    let count = ap₂ ◌*◌ c.wide.ensures c.wide-2.ensures in
+    let table : List ℕ = c.args.roots.now in
+    let end : ℕ = c.wide.result * c.wide-2.result in
+    first-filled table _ end no_root (rw count c.requires) c.fill_words.ensures
     ∙ ap (λ (n : ℕ). put_at 0 (replicate n no_root) table) count

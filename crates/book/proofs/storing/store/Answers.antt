@@ -18,10 +18,9 @@ room_for : (c : goal.After-slice_known-5-1) → let a = c.args in
     → HasRoom a.states (lengths_of a.nodes.now a.classes.now a.roots.now a.plains.now)
     (entry_line entry)
 room_for c entry said =
-    let start = c in
-    let a = start.args in
+    let a = c.args in
     let lent = lengths_of a.nodes.now a.classes.now a.roots.now a.plains.now in
-    subst (λ (e : Entry). HasRoom a.states lent (entry_line e)) said start.requires
+    subst (λ (e : Entry). HasRoom a.states lent (entry_line e)) said c.requires
 
 pub put_no_roots-requires : goal.put_no_roots-requires
 unfolding entry_line header_in
@@ -44,21 +43,18 @@ put_node-requires-in-L c =
 pub bounds-plains-at : goal.bounds-plains-at
 unfolding entry_line
 bounds-plains-at c =
-    let said = c in
-    rw c.from_zero-at.ensures (room_for (goal.at.bounds-plains-at c).After-slice_known-5-1 _ said.in-B.is)
+    rw c.from_zero-at.ensures (room_for (goal.at.bounds-plains-at c).After-slice_known-5-1 _ c.in-B.is)
 
 pub offset_bounds-roots-at : goal.offset_bounds-roots-at
 unfolding entry_line
 offset_bounds-roots-at c =
-    let said = c in
-    let room = room_for (goal.at.offset_bounds-roots-at c).After-slice_known-5-1 _ said.in-R.is in
+    let room = room_for (goal.at.offset_bounds-roots-at c).After-slice_known-5-1 _ c.in-R.is in
     omega (arith, room, c.root_place-at.ensures.place)
 
 pub bounds-roots-at : goal.bounds-roots-at
 unfolding entry_line
 bounds-roots-at c =
-    let said = c in
-    rw c.root_place-at.ensures.place (room_for (goal.at.bounds-roots-at c).After-slice_known-5-1 _ said.in-R.is)
+    rw c.root_place-at.ensures.place (room_for (goal.at.bounds-roots-at c).After-slice_known-5-1 _ c.in-R.is)
 
 pub returns-in-H : goal.returns-in-H
 unfolding entry_line nodes_after classes_after roots_after plains_after counts_after names_in named_all header_in
@@ -75,20 +71,17 @@ returns-in-Q c =
 pub returns-in-N : goal.returns-in-N
 unfolding entry_line nodes_after classes_after roots_after plains_after counts_after names_in named_all header_in
 returns-in-N c =
-    let first = c in
-    let put = first in
-    let words = rw put.question_node.ensures at put.put_node.ensures in
-    let said = put.in-N.is in
-    let no_node : ℕ = put.in-N.no in
-    let named = ap (λ (l : List ℕ). named_again l no_node) first.name_node.ensures in
+    let words = rw c.question_node.ensures at c.put_node.ensures in
+    let said = c.in-N.is in
+    let no_node : ℕ = c.in-N.no in
+    let named = ap (λ (l : List ℕ). named_again l no_node) c.name_node.ensures in
     rw said (record { nodes = words; classes = refl; roots = refl; plains = refl; counts = c.name_node-in-N.ensures ∙ named })
 
 pub returns-in-L : goal.returns-in-L
 unfolding entry_line nodes_after classes_after roots_after plains_after counts_after names_in named_all header_in
 returns-in-L c =
-    let put = c in
-    let words = rw put.leaf_node.ensures at put.put_node-in-L.ensures in
-    rw put.in-L.is (record { nodes = words; classes = refl; roots = refl; plains = refl; counts = refl })
+    let words = rw c.leaf_node.ensures at c.put_node-in-L.ensures in
+    rw c.in-L.is (record { nodes = words; classes = refl; roots = refl; plains = refl; counts = refl })
 
 pub returns-in-B : goal.returns-in-B
 unfolding entry_line nodes_after classes_after roots_after plains_after counts_after names_in named_all header_in
@@ -97,6 +90,5 @@ returns-in-B c = rw (c.in-B.is, c.from_zero-at.ensures) (record { nodes = refl; 
 pub returns-in-R : goal.returns-in-R
 unfolding entry_line nodes_after classes_after roots_after plains_after counts_after names_in named_all header_in
 returns-in-R c =
-    let placed = c in
-    let said = placed.in-R.is in
-    rw (said, placed.root_place-at.ensures.place) (record { nodes = refl; classes = refl; roots = refl; plains = refl; counts = c.name_node-in-R.ensures })
+    let said = c.in-R.is in
+    rw (said, c.root_place-at.ensures.place) (record { nodes = refl; classes = refl; roots = refl; plains = refl; counts = c.name_node-in-R.ensures })

@@ -22,9 +22,8 @@ all_there c = held c.enough.ensures (not_from_true _ c.if-not-enough.false)
 
 pub returns-then-chained : goal.returns-then-chained
 returns-then-chained c =
-    let judged = c in
     rw c.line_where.ensures
-    (finish-chained _ _ _ (all_there (goal.at.returns-then-chained c).Else-not-enough) (sym judged.chained.ensures ∙ c.if-chained.true))
+    (finish-chained _ _ _ (all_there (goal.at.returns-then-chained c).Else-not-enough) (sym c.chained.ensures ∙ c.if-chained.true))
 
 pub slice_bounds-first_misnamed-end : goal.slice_bounds-first_misnamed-end
 slice_bounds-first_misnamed-end c = sym (length-take-le _ _ (omega arith))
@@ -39,12 +38,10 @@ first_is c = rw c.wide-nodes.ensures at c.first_misnamed-node.ensures
 
 pub returns-then-node-nodes : goal.returns-then-node-nodes
 returns-then-node-nodes c =
-    let found = c in
     rw c.line_where-then-node-nodes.ensures
     (finish-orphan _ _ _ _ (all_there (goal.at.returns-then-node-nodes c).Else-not-enough) (plain (goal.at.returns-then-node-nodes c).After-first_misnamed-node) (first_is (goal.at.returns-then-node-nodes c).After-first_misnamed-node)
     (omega (arith, c.if-node-nodes.true)))
 
 pub returns : goal.returns
 returns c =
-    let found = c in
     finish-fine _ _ _ _ (all_there (goal.at.returns c).Else-not-enough) (plain (goal.at.returns c).After-first_misnamed-node) (first_is (goal.at.returns c).After-first_misnamed-node) (omega arith)

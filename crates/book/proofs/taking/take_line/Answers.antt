@@ -41,8 +41,7 @@ returns-then-full c =
 pub returns-then-not-parsed : goal.returns-then-not-parsed
 unfolding where_taken
 returns-then-not-parsed c =
-    let parsed = c in
-    let unformed = none-parsed _ parsed.parse-parsed.ensures (not-true _ c.if-not-parsed.true) in
+    let unformed = none-parsed _ c.parse-parsed.ensures (not-true _ c.if-not-parsed.true) in
     let step = step-failed _ _ _ (verdict-misprint _ _ _ (unfinished (goal.at.returns-then-not-parsed c).After-parse-parsed) unformed) in
     record { step = step; nodes = refl; classes = refl; roots = refl; plains = refl; counts = refl }
 
@@ -52,30 +51,21 @@ entry_of-entry-requires c = whole_row _ c.parse-parsed.ensures
 pub returns-in-Failed : goal.returns-in-Failed
 unfolding where_taken
 returns-in-Failed c =
-    let judged = c in
     let step = step-failed _ _ _ (verdict (goal.at.returns-in-Failed c).After-judge_line ∙ c.in-Failed.is) in
     record { step = step; nodes = refl; classes = refl; roots = refl; plains = refl; counts = refl }
 
 pub store-requires : goal.store-requires
 store-requires c =
-    let passed = c in
-    let judged = passed in
-    rw (judged.entry_of-entry.ensures, judged.parse-parsed.ensures) (passed.requires.room _ (taken (goal.at.store-requires c).After-judge_line c.in_default.is))
+    rw (c.entry_of-entry.ensures, c.parse-parsed.ensures) (c.requires.room _ (taken (goal.at.store-requires c).After-judge_line c.in_default.is))
 
 pub next_state-requires : goal.next_state-requires
-next_state-requires c =
-    let stored = c in
-    let passed = stored in
-    let judged = passed in (
-      passed.requires.counts,
-      rw (judged.entry_of-entry.ensures, judged.parse-parsed.ensures) (passed.requires.phones _ (taken (goal.at.next_state-requires c).After-judge_line c.in_default.is)),
-    )
+next_state-requires c = (
+  c.requires.counts,
+  rw (c.entry_of-entry.ensures, c.parse-parsed.ensures) (c.requires.phones _ (taken (goal.at.next_state-requires c).After-judge_line c.in_default.is)),
+)
 
 pub returns : goal.returns
 unfolding where_taken
 returns c =
-    let stored = c in
-    let passed = stored in
-    let judged = passed in
-    let said = rw judged.parse-parsed.ensures at judged.entry_of-entry.ensures in
-    rw (← said) (record { step = ap Next c.next_state.ensures ∙ rw said (sym (taken (goal.at.returns c).After-judge_line c.in_default.is)); nodes = stored.store.ensures.nodes; classes = stored.store.ensures.classes; roots = stored.store.ensures.roots; plains = stored.store.ensures.plains; counts = stored.store.ensures.counts })
+    let said = rw c.parse-parsed.ensures at c.entry_of-entry.ensures in
+    rw (← said) (record { step = ap Next c.next_state.ensures ∙ rw said (sym (taken (goal.at.returns c).After-judge_line c.in_default.is)); nodes = c.store.ensures.nodes; classes = c.store.ensures.classes; roots = c.store.ensures.roots; plains = c.store.ensures.plains; counts = c.store.ensures.counts })

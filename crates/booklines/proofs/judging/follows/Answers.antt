@@ -16,9 +16,8 @@ returns-then-s-eq0-2 c = rw (c.in-B.is, c.if-s-eq0-2.true)
 pub returns-then-s : goal.returns-then-s
 unfolding follows_in entry_line
 returns-then-s c =
-    let started = c in
-    let said = started.in-B.is in
-    rw (said, above_zero _ started.if-s-eq0-2.false, ne_eqb _ _ c.if-s.true)
+    let said = c.in-B.is in
+    rw (said, above_zero _ c.if-s-eq0-2.false, ne_eqb _ _ c.if-s.true)
 
 pub returns-then-s-eq0-3 : goal.returns-then-s-eq0-3
 unfolding follows_in entry_line
@@ -43,9 +42,8 @@ returns-in-L c = rw c.in-L.is
 pub returns-else-s : goal.returns-else-s
 unfolding follows_in entry_line
 returns-else-s c =
-    let started = c in
-    let said = started.in-B.is in
-    rw (said, above_zero _ started.if-s-eq0-2.false, eq-eqb _ _ c.if-s.false)
+    let said = c.in-B.is in
+    rw (said, above_zero _ c.if-s-eq0-2.false, eq-eqb _ _ c.if-s.false)
 
 pub returns-else-s-eq0-3 : goal.returns-else-s-eq0-3
 unfolding follows_in entry_line

@@ -9,10 +9,9 @@ use Rattle.booklines.proofs.judging.in_order.Goals as goal
 pub root_in_order-requires : goal.root_in_order-requires
 unfolding entry_line
 root_in_order-requires c =
-    let start = c in
     let said = ap entry_line c.in-R.is in
-    let follows = subst (λ l. T (follows_in start.args.s l)) said start.requires.1 in
-    start.requires.0 (root-after-header _ _ _ _ follows)
+    let follows = subst (λ l. T (follows_in c.args.s l)) said c.requires.1 in
+    c.requires.0 (root-after-header _ _ _ _ follows)
 
 pub returns-in-H : goal.returns-in-H
 unfolding entry_line in_order_in

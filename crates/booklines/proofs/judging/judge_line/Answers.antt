@@ -59,9 +59,8 @@ left3 c = test-held (left2 c.before.before.before) c.within_header.ensures (not_
 
 pub in_order-requires : goal.in_order-requires
 in_order-requires c =
-    let at1 = c in
-    let follows = held at1.follows.ensures (not_from_true _ at1.if-not-follows.false) in
-    (at1.requires, subst T (sym follows) tt)
+    let follows = held c.follows.ensures (not_from_true _ c.if-not-follows.false) in
+    (c.requires, subst T (sym follows) tt)
 
 pub returns-then-not-in_order : goal.returns-then-not-in_order
 unfolding tests_in book_tests

@@ -16,25 +16,22 @@ returns-then-header-class c = rw (lt-ltb _ _ c.if-header-node.false, lt-leb _ _ 
 pub returns-then-wide : goal.returns-then-wide
 unfolding within_header
 returns-then-wide c =
-    let second = c in
-    let a = second.args in
+    let a = c.args in
     let far = lt-leb a.position (2 * a.header.half) (omega arith) in
-    rw (lt-ltb _ _ second.if-header-node.false, le-leb _ _ second.if-header-class.false, far)
+    rw (lt-ltb _ _ c.if-header-node.false, le-leb _ _ c.if-header-class.false, far)
 
 pub returns-then-header-yes : goal.returns-then-header-yes
 unfolding within_header
 returns-then-header-yes c =
-    let second = c in
-    let a = second.args in
-    let first = lt-ltb _ _ second.if-header-node.false in
+    let a = c.args in
+    let first = lt-ltb _ _ c.if-header-node.false in
     let near = le-leb a.position (2 * a.header.half) (omega arith) in
-    rw (first, le-leb _ _ second.if-header-class.false, near, le-ltb _ _ c.if-header-yes.true)
+    rw (first, le-leb _ _ c.if-header-class.false, near, le-ltb _ _ c.if-header-yes.true)
 
 pub returns : goal.returns
 unfolding within_header
 returns c =
-    let second = c in
-    let a = second.args in
-    let first = lt-ltb _ _ second.if-header-node.false in
+    let a = c.args in
+    let first = lt-ltb _ _ c.if-header-node.false in
     let near = le-leb a.position (2 * a.header.half) (omega arith) in
-    rw (first, le-leb _ _ second.if-header-class.false, near, lt-ltb _ _ c.if-header-yes.false)
+    rw (first, le-leb _ _ c.if-header-class.false, near, lt-ltb _ _ c.if-header-yes.false)

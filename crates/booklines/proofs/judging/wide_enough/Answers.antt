@@ -26,20 +26,17 @@ overflow_mul-wide-2 c = record { fits = product-fits (omega arith) (omega arith)
 pub returns-then-lengths-wide-3 : goal.returns-then-lengths-wide-3
 unfolding wide_enough root_count
 returns-then-lengths-wide-3 c =
-    let product = c in
-    let a = product.args in
+    let a = c.args in
     let first = le-leb (5 * a.header.nodes) a.lengths.nodes (omega arith) in
     let second = le-leb a.header.classes a.lengths.classes (omega arith) in
-    let third = rw (product.wide-3.ensures, product.wide-4.ensures) at c.if-lengths-wide-3.true in
+    let third = rw (c.wide-3.ensures, c.wide-4.ensures) at c.if-lengths-wide-3.true in
     rw (first, second, lt-leb _ _ third)
 
 pub returns : goal.returns
 unfolding wide_enough root_count
 returns c =
-    let whole = c in
-    let product = whole in
-    let a = product.args in
+    let a = c.args in
     let first = le-leb (5 * a.header.nodes) a.lengths.nodes (omega arith) in
     let second = le-leb a.header.classes a.lengths.classes (omega arith) in
-    let third = rw (product.wide-3.ensures, product.wide-4.ensures) at whole.if-lengths-wide-3.false in
+    let third = rw (c.wide-3.ensures, c.wide-4.ensures) at c.if-lengths-wide-3.false in
     rw (c.wide-5.ensures, first, second, le-leb _ _ third)

@@ -17,45 +17,39 @@ returns-then-to-from c = comes-before _ _ _ _ c.if-from-to.false c.if-to-from.tr
 
 pub returns-then-from-states-ne0 : goal.returns-then-from-states-ne0
 returns-then-from-states-ne0 c =
-    let w = c in
-    let other = w.if-from-to.false in
-    starts-within _ _ _ _ other w.if-to-from.false (rw w.wide-states.ensures at c.if-from-states-ne0.true)
+    let other = c.if-from-to.false in
+    starts-within _ _ _ _ other c.if-to-from.false (rw c.wide-states.ensures at c.if-from-states-ne0.true)
 
 pub returns-then-to-states-ne0 : goal.returns-then-to-states-ne0
 returns-then-to-states-ne0 c =
-    let w = c in
-    let other = w.if-from-to.false in
-    ends-within _ _ _ _ other w.if-to-from.false (rw w.wide-states.ensures at c.if-from-states-ne0.false)
-    (rw w.wide-states.ensures at c.if-to-states-ne0.true)
+    let other = c.if-from-to.false in
+    ends-within _ _ _ _ other c.if-to-from.false (rw c.wide-states.ensures at c.if-from-states-ne0.false)
+    (rw c.wide-states.ensures at c.if-to-states-ne0.true)
 
 pub loop-phone-init : goal.loop-phone-init
 loop-phone-init c =
-    let w = c in
-    let other = w.if-from-to.false in
-    let starts = rw w.wide-states.ensures at c.if-from-states-ne0.false in
-    let ends = rw w.wide-states.ensures at c.if-to-states-ne0.false in
-    rw w.wide-states.ensures (whole-phones _ _ _ _ other w.if-to-from.false starts ends)
+    let other = c.if-from-to.false in
+    let starts = rw c.wide-states.ensures at c.if-from-states-ne0.false in
+    let ends = rw c.wide-states.ensures at c.if-to-states-ne0.false in
+    rw c.wide-states.ensures (whole-phones _ _ _ _ other c.if-to-from.false starts ends)
 
 pub overflow_add-phone : goal.overflow_add-phone
 overflow_add-phone c =
-    let w = c in
-    omega (arith, div-le_self w.args.to w.wide-states.result, c.loop-phone-test.true)
+    omega (arith, div-le_self c.args.to c.wide-states.result, c.loop-phone-test.true)
 
 pub returns-then-not-set_has : goal.returns-then-not-set_has
 returns-then-not-set_has c =
-    let turn = c in
     rw (← c.wide-states.ensures)
-    (next-stays _ _ _ turn.loop-phone-test.true (failed c.set_has.ensures (not_from_false _ c.if-not-set_has.true))
-    ∙ sym turn.loop-phone.invariant)
+    (next-stays _ _ _ c.loop-phone-test.true (failed c.set_has.ensures (not_from_false _ c.if-not-set_has.true))
+    ∙ sym c.loop-phone.invariant)
 
 pub loop-phone-smaller : goal.loop-phone-smaller
 loop-phone-smaller c = omega (arith, c.loop-phone-test.true)
 
 pub loop-phone-preserved : goal.loop-phone-preserved
 loop-phone-preserved c =
-    let turn = c in
-    turn.loop-phone.invariant
-    ∙ next-left _ _ _ turn.loop-phone-test.true (held c.set_has.ensures (not_from_true _ c.if-not-set_has.false))
+    c.loop-phone.invariant
+    ∙ next-left _ _ _ c.loop-phone-test.true (held c.set_has.ensures (not_from_true _ c.if-not-set_has.false))
 
 pub returns : goal.returns
 returns c =

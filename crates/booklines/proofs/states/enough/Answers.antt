@@ -15,12 +15,10 @@ overflow_mul-roots c = record { fits = product-fits (omega arith) (omega arith) 
 
 pub may_leave_out-requires : goal.may_leave_out-requires
 may_leave_out-requires c =
-    let started = c in
-    started.requires (omega (arith, started.if-s-eq0.false))
+    c.requires (omega (arith, c.if-s-eq0.false))
 
 pub returns : goal.returns
 unfolding enough_in left_out_in root_count
 returns c =
-    let product = c in
-    let some = above_zero _ product.if-s-eq0.false in
-    rw some (rw (product.wide.ensures, product.wide-2.ensures) at c.may_leave_out.ensures)
+    let some = above_zero _ c.if-s-eq0.false in
+    rw some (rw (c.wide.ensures, c.wide-2.ensures) at c.may_leave_out.ensures)

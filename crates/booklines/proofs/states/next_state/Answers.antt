@@ -8,9 +8,8 @@ use Rattle.booklines.proofs.states.next_state.Goals as goal
 pub with_boundary-requires : goal.with_boundary-requires
 unfolding entry_line
 with_boundary-requires c =
-    let start = c in
     let said = ap entry_line c.in-B.is in
-    let (boundary, plain) = subst PhonesFit said start.requires.1 in (start.requires.0, boundary, plain)
+    let (boundary, plain) = subst PhonesFit said c.requires.1 in (c.requires.0, boundary, plain)
 
 pub returns-in-H : goal.returns-in-H
 unfolding entry_line next_state header_in

@@ -6,11 +6,10 @@ use Rattle.booklines.proofs.states.with_boundary.Goals as goal
 pub returns : goal.returns
 unfolding with_boundary
 returns c =
-    let start = c in
     rw (
       c.wide.ensures,
       c.alone.ensures,
       c.alone-2.ensures,
-      le-leb _ 64 start.requires.1,
-      le-leb _ 64 start.requires.2,
+      le-leb _ 64 c.requires.1,
+      le-leb _ 64 c.requires.2,
     )

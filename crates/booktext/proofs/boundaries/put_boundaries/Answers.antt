@@ -12,14 +12,12 @@ loop-i-init c =
 pub put_boundary-next-requires : goal.put_boundary-next-requires
 put_boundary-next-requires c =
     let at = c.loop-i in
-    let start = c in
-    left-countable at.invariant (boundaries-next at.i start.args.plains.now (omega arith)) start.requires.1
+    left-countable at.invariant (boundaries-next at.i c.args.plains.now (omega arith)) c.requires.1
 
 pub loop-i-preserved : goal.loop-i-preserved
 loop-i-preserved c =
-    let turn = c in
-    let at = turn.loop-i in
-    let a = turn.args in
+    let at = c.loop-i in
+    let a = c.args in
     let done = c.put_boundary-next in
     left-more at.invariant (boundaries-next at.i a.plains.now (omega arith)) done.auto.text
     done.ensures

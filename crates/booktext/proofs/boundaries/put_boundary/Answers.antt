@@ -15,14 +15,12 @@ returns-then-plain-eq0 c =
 
 pub put_line-requires : goal.put_line-requires
 put_line-requires c =
-    let start = c in
-    let a = start.args in
-    (lit≤ tt, rw (boundary-line a.phone a.plain (ne_eqb a.plain 0 c.if-plain-eq0.false)) at start.requires)
+    let a = c.args in
+    (lit≤ tt, rw (boundary-line a.phone a.plain (ne_eqb a.plain 0 c.if-plain-eq0.false)) at c.requires)
 
 pub returns : goal.returns
 unfolding book_line_for line_in
 returns c =
-    let test = c in
-    let a = test.args in
-    rw (boundary-line a.phone a.plain (ne_eqb a.plain 0 test.if-plain-eq0.false))
+    let a = c.args in
+    rw (boundary-line a.phone a.plain (ne_eqb a.plain 0 c.if-plain-eq0.false))
     c.put_line.ensures

@@ -16,16 +16,14 @@ loop-phone-init c =
 pub put_member-next-requires : goal.put_member-next-requires
 put_member-next-requires c =
     let at = c.loop-phone in
-    let start = c in
-    let a = start.args in
+    let a = c.args in
     left-countable at.invariant (members-next a.class a.set at.phone a.phones (omega arith))
-    start.requires
+    c.requires
 
 pub loop-phone-preserved : goal.loop-phone-preserved
 loop-phone-preserved c =
-    let turn = c in
-    let at = turn.loop-phone in
-    let a = turn.args in
+    let at = c.loop-phone in
+    let a = c.args in
     let done = c.put_member-next in
     left-more at.invariant (members-next a.class a.set at.phone a.phones (omega arith))
     done.auto.text done.ensures

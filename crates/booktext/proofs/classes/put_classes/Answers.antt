@@ -13,15 +13,13 @@ loop-i-init c =
 pub put_class-next-requires : goal.put_class-next-requires
 put_class-next-requires c =
     let at = c.loop-i in
-    let start = c in
-    let a = start.args in
-    left-countable at.invariant (classes-next a.phones at.i a.sets.now (omega arith)) start.requires.1
+    let a = c.args in
+    left-countable at.invariant (classes-next a.phones at.i a.sets.now (omega arith)) c.requires.1
 
 pub loop-i-preserved : goal.loop-i-preserved
 loop-i-preserved c =
-    let turn = c in
-    let at = turn.loop-i in
-    let a = turn.args in
+    let at = c.loop-i in
+    let a = c.args in
     let done = c.put_class-next in
     left-more at.invariant (classes-next a.phones at.i a.sets.now (omega arith))
     done.auto.text done.ensures

@@ -12,20 +12,17 @@ use Rattle.booktext.proofs.classes.put_member.Goals as goal
 pub returns-then-not-has_phone : goal.returns-then-not-has_phone
 unfolding select
 returns-then-not-has_phone c =
-    let asked = c in
-    let a = asked.args in
-    rw (failed asked.has_phone.ensures (not_from_false _ c.if-not-has_phone.true)) (put-none a.text.now a.count)
+    let a = c.args in
+    rw (failed c.has_phone.ensures (not_from_false _ c.if-not-has_phone.true)) (put-none a.text.now a.count)
 
 pub put_line-requires : goal.put_line-requires
 unfolding select
 put_line-requires c =
-    let asked = c in
-    let has = held asked.has_phone.ensures (not_from_true _ c.if-not-has_phone.false) in
-    (lit≤ tt, rw has at asked.requires)
+    let has = held c.has_phone.ensures (not_from_true _ c.if-not-has_phone.false) in
+    (lit≤ tt, rw has at c.requires)
 
 pub returns : goal.returns
 unfolding select book_line_for line_in
 returns c =
-    let asked = c in
-    rw (held asked.has_phone.ensures (not_from_true _ c.if-not-has_phone.false))
+    rw (held c.has_phone.ensures (not_from_true _ c.if-not-has_phone.false))
     c.put_line.ensures

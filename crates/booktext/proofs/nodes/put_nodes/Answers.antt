@@ -13,15 +13,13 @@ loop-node-init c =
 pub put_node-next-requires : goal.put_node-next-requires
 put_node-next-requires c =
     let at = c.loop-node in
-    let start = c in
-    let a = start.args in
-    left-countable at.invariant (nodes-next a.nodes at.node a.words.now (omega arith)) start.requires
+    let a = c.args in
+    left-countable at.invariant (nodes-next a.nodes at.node a.words.now (omega arith)) c.requires
 
 pub loop-node-preserved : goal.loop-node-preserved
 loop-node-preserved c =
-    let turn = c in
-    let at = turn.loop-node in
-    let a = turn.args in
+    let at = c.loop-node in
+    let a = c.args in
     let done = c.put_node-next in
     left-more at.invariant (nodes-next a.nodes at.node a.words.now (omega arith))
     done.auto.text done.ensures

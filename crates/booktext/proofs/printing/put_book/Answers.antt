@@ -18,59 +18,42 @@ few c =
 
 pub put_classes-members-requires : goal.put_classes-members-requires
 put_classes-members-requires c =
-    let first = c in
-    (omega (arith, first.requires.1), omega (arith, first.put_line-heading.ensures.counts, few (goal.at.put_classes-members-requires c).Start))
+    (omega (arith, c.requires.1), omega (arith, c.put_line-heading.ensures.counts, few (goal.at.put_classes-members-requires c).Start))
 
 pub put_nodes-all_nodes-requires : goal.put_nodes-all_nodes-requires
 put_nodes-all_nodes-requires c =
-    let classes = c in
-    let first = classes in
-    omega (arith, first.put_line-heading.ensures.counts, classes.put_classes-members.ensures.counts, few (goal.at.put_nodes-all_nodes-requires c).Start)
+    omega (arith, c.put_line-heading.ensures.counts, c.put_classes-members.ensures.counts, few (goal.at.put_nodes-all_nodes-requires c).Start)
 
 pub put_boundaries-boundaries-requires : goal.put_boundaries-boundaries-requires
-put_boundaries-boundaries-requires c =
-    let nodes = c in
-    let classes = nodes in
-    let first = classes in
-    let start = first in (
-      omega (arith, start.requires.3),
-      omega (
-        arith,
-        first.put_line-heading.ensures.counts,
-        classes.put_classes-members.ensures.counts,
-        nodes.put_nodes-all_nodes.ensures.counts,
-        few (goal.at.put_boundaries-boundaries-requires c).Start,
-      ),
-    )
+put_boundaries-boundaries-requires c = (
+  omega (arith, c.requires.3),
+  omega (
+    arith,
+    c.put_line-heading.ensures.counts,
+    c.put_classes-members.ensures.counts,
+    c.put_nodes-all_nodes.ensures.counts,
+    few (goal.at.put_boundaries-boundaries-requires c).Start,
+  ),
+)
 
 pub put_roots-requires : goal.put_roots-requires
-put_roots-requires c =
-    let boundaries = c in
-    let nodes = boundaries in
-    let classes = nodes in
-    let first = classes in
-    let start = first in (
-      start.requires.0,
-      omega (arith, start.requires.2),
-      omega (
-        arith,
-        first.put_line-heading.ensures.counts,
-        classes.put_classes-members.ensures.counts,
-        nodes.put_nodes-all_nodes.ensures.counts,
-        boundaries.put_boundaries-boundaries.ensures.counts,
-        few (goal.at.put_roots-requires c).Start,
-      ),
-    )
+put_roots-requires c = (
+  c.requires.0,
+  omega (arith, c.requires.2),
+  omega (
+    arith,
+    c.put_line-heading.ensures.counts,
+    c.put_classes-members.ensures.counts,
+    c.put_nodes-all_nodes.ensures.counts,
+    c.put_boundaries-boundaries.ensures.counts,
+    few (goal.at.put_roots-requires c).Start,
+  ),
+)
 
 pub returns : goal.returns
 unfolding book_line_for line_in
 returns c =
-    let roots = c in
-    let boundaries = roots in
-    let nodes = boundaries in
-    let classes = nodes in
-    let first = classes in
-    let a = first.args in
+    let a = c.args in
     put_same (book-parts a.header a.nodes.now a.sets.now a.roots.now a.plains.now)
-    (put_then (put_then (put_then (put_then first.put_line-heading.ensures classes.put_classes-members.ensures)
-    nodes.put_nodes-all_nodes.ensures) boundaries.put_boundaries-boundaries.ensures) roots.put_roots.ensures)
+    (put_then (put_then (put_then (put_then c.put_line-heading.ensures c.put_classes-members.ensures)
+    c.put_nodes-all_nodes.ensures) c.put_boundaries-boundaries.ensures) c.put_roots.ensures)

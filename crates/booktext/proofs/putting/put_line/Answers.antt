@@ -11,7 +11,5 @@ returns-then-text-count c =
 
 pub returns : goal.returns
 returns c =
-    let done = c in
-    let start = done in
-    let a = start.args in
-    line-put a.row a.text.now a.count start.requires.0 (omega arith) (done.write.ensures.answer, done.write.ensures.leaves)
+    let a = c.args in
+    line-put a.row a.text.now a.count c.requires.0 (omega arith) (c.write.ensures.answer, c.write.ensures.leaves)

@@ -22,9 +22,8 @@ returns-then-root-eq-NO_ROOT c =
 few : (c : goal.After-wide-each) → let place = c.args.place in
     (place / c.wide-each.result + 1 < 4294967296) × (place % c.wide-each.result + 1 < 4294967296)
 few c =
-    let start = c in
-    let place = start.args.place in
-    omega (arith, start.requires.1, div-le_self place c.wide-each.result, mod-le place c.wide-each.result)
+    let place = c.args.place in
+    omega (arith, c.requires.1, div-le_self place c.wide-each.result, mod-le place c.wide-each.result)
 
 pub overflow_add-phone : goal.overflow_add-phone
 overflow_add-phone c = omega (arith, few (goal.at.overflow_add-phone c).After-wide-each)
@@ -40,18 +39,14 @@ overflow_cast-state c = omega (arith, few (goal.at.overflow_cast-state c).After-
 
 pub put_line-requires : goal.put_line-requires
 put_line-requires c =
-    let test = c in
-    let start = test in
-    let a = start.args in (
+    let a = c.args in (
       lit≤ tt,
-      rw (root_line a.states a.place a.root (ne_eqb a.root no_root test.if-root-eq-NO_ROOT.false)) at start.requires.2,
+      rw (root_line a.states a.place a.root (ne_eqb a.root no_root c.if-root-eq-NO_ROOT.false)) at c.requires.2,
     )
 
 pub returns : goal.returns
 unfolding book_line_for line_in
 returns c =
-    let sized = c in
-    let test = sized in
-    let a = test.args in
-    rw (root_line a.states a.place a.root (ne_eqb a.root no_root test.if-root-eq-NO_ROOT.false))
-    (rw sized.wide-each.ensures at c.put_line.ensures)
+    let a = c.args in
+    rw (root_line a.states a.place a.root (ne_eqb a.root no_root c.if-root-eq-NO_ROOT.false))
+    (rw c.wide-each.ensures at c.put_line.ensures)

@@ -13,18 +13,16 @@ loop-i-init c =
 pub put_root-next-requires : goal.put_root-next-requires
 put_root-next-requires c =
     let at = c.loop-i in
-    let start = c in
-    let a = start.args in (
-      start.requires.0,
-      omega (arith, start.requires.1),
-      left-countable at.invariant (roots-next a.states at.i a.roots.now (omega arith)) start.requires.2,
+    let a = c.args in (
+      c.requires.0,
+      omega (arith, c.requires.1),
+      left-countable at.invariant (roots-next a.states at.i a.roots.now (omega arith)) c.requires.2,
     )
 
 pub loop-i-preserved : goal.loop-i-preserved
 loop-i-preserved c =
-    let turn = c in
-    let at = turn.loop-i in
-    let a = turn.args in
+    let at = c.loop-i in
+    let a = c.args in
     let done = c.put_root-next in
     left-more at.invariant (roots-next a.states at.i a.roots.now (omega arith))
     done.auto.text done.ensures

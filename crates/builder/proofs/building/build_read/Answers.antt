@@ -12,25 +12,17 @@ tables c =
 
 pub returns-in-Finished : goal.returns-in-Finished
 returns-in-Finished c =
-    let built = c in
-    let k = finished-kept _ _ (tables (goal.at.returns-in-Finished c).After-build-answer) built.build-answer.ensures.answer _ c.in-Finished.is in
-    record { answer = k.0; tables = k.1; leaves = built.build-answer.ensures.leaves }
+    let k = finished-kept _ _ (tables (goal.at.returns-in-Finished c).After-build-answer) c.build-answer.ensures.answer _ c.in-Finished.is in
+    record { answer = k.0; tables = k.1; leaves = c.build-answer.ensures.leaves }
 
 pub returns-in-Stopped : goal.returns-in-Stopped
 returns-in-Stopped c =
-    let built = c in
-    let k = stopped-kept _ _ (tables (goal.at.returns-in-Stopped c).After-build-answer) built.build-answer.ensures.answer _ c.in-Stopped.is in
-    record { answer = k.0; tables = k.1; leaves = built.build-answer.ensures.leaves }
+    let k = stopped-kept _ _ (tables (goal.at.returns-in-Stopped c).After-build-answer) c.build-answer.ensures.answer _ c.in-Stopped.is in
+    record { answer = k.0; tables = k.1; leaves = c.build-answer.ensures.leaves }
 
 pub returns-in-Refused : goal.returns-in-Refused
 returns-in-Refused c =
-    let fourth = c in
-    let third = fourth in
-    let second = third in
-    let first = second in
-    let refused = first in
-    let built = refused in
-    let k = refused-kept _ _ (tables (goal.at.returns-in-Refused c).After-build-answer) built.build-answer.ensures.answer _ refused.in-Refused.is _ _ _ _
-    first.clear_words.ensures second.clear_wide_words.ensures third.clear_words-in-Refused.ensures
-    fourth.clear_words-in-Refused-2.ensures in
-    record { answer = k.0; tables = k.1; leaves = built.build-answer.ensures.leaves }
+    let k = refused-kept _ _ (tables (goal.at.returns-in-Refused c).After-build-answer) c.build-answer.ensures.answer _ c.in-Refused.is _ _ _ _
+    c.clear_words.ensures c.clear_wide_words.ensures c.clear_words-in-Refused.ensures
+    c.clear_words-in-Refused-2.ensures in
+    record { answer = k.0; tables = k.1; leaves = c.build-answer.ensures.leaves }

@@ -12,6 +12,5 @@ returns-in-Stopped c = c.so_far-in-Stopped.ensures ∙ ap (λ x. build_answer (b
 
 pub returns-in-Refused : goal.returns-in-Refused
 returns-in-Refused c =
-    let refused = c in
-    rw (refused.cause_of-cause.ensures.0, refused.cause_of-cause.ensures.1, c.no_counts.ensures)
-    (ap (λ x. build_answer (build_said x)) (sym refused.in-Refused.is))
+    rw (c.cause_of-cause.ensures.0, c.cause_of-cause.ensures.1, c.no_counts.ensures)
+    (ap (λ x. build_answer (build_said x)) (sym c.in-Refused.is))

@@ -9,6 +9,5 @@ returns-in-Accepted c = ap (λ x. network_answer (reading_said x)) (sym c.in-Acc
 
 pub returns-in-Refused : goal.returns-in-Refused
 returns-in-Refused c =
-    let refused = c in
-    rw (refused.cause_of-cause.ensures.0, refused.cause_of-cause.ensures.1, c.no_counts.ensures)
-    (ap (λ x. network_answer (reading_said x)) (sym refused.in-Refused.is))
+    rw (c.cause_of-cause.ensures.0, c.cause_of-cause.ensures.1, c.no_counts.ensures)
+    (ap (λ x. network_answer (reading_said x)) (sym c.in-Refused.is))

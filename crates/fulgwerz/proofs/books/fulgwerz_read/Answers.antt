@@ -6,4 +6,4 @@ use Rattle.fulgwerz.proofs.books.fulgwerz_read.Goals as goal
 
 pub returns : goal.returns
 returns c =
-    let called = c in record { answer = c.read_answer.ensures ∙ ap read_answer called.read.ensures.answer; tables = called.read.ensures.tables }
+    record { answer = c.read_answer.ensures ∙ ap read_answer c.read.ensures.answer; tables = c.read.ensures.tables }

@@ -6,4 +6,4 @@ use Rattle.fulgwerz.proofs.building.fulgwerz_build.Goals as goal
 
 pub returns : goal.returns
 returns c =
-    let called = c in record { answer = c.build_answer.ensures ∙ ap build_answer called.build.ensures.answer; leaves = called.build.ensures.leaves }
+    record { answer = c.build_answer.ensures ∙ ap build_answer c.build.ensures.answer; leaves = c.build.ensures.leaves }

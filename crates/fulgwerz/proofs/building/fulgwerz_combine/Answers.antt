@@ -6,4 +6,4 @@ use Rattle.fulgwerz.proofs.building.fulgwerz_combine.Goals as goal
 
 pub returns : goal.returns
 returns c =
-    let called = c in record { answer = c.combinations_answer.ensures ∙ ap count_answer called.combine-by_phone.ensures.answer; leaves = called.combine-by_phone.ensures.leaves }
+    record { answer = c.combinations_answer.ensures ∙ ap count_answer c.combine-by_phone.ensures.answer; leaves = c.combine-by_phone.ensures.leaves }

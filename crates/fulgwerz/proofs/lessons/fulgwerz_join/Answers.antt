@@ -7,5 +7,4 @@ use Rattle.fulgwerz.proofs.lessons.fulgwerz_join.Goals as goal
 
 pub returns : goal.returns
 returns c =
-    let called = c in
-    record { answer = c.join_answer.ensures ∙ ap join_answer called.join.ensures.answer; states = called.join.ensures.states; joined = called.join.ensures.joined; paths = rw c.join_answer.ensures (joined_made _ _ _ _ _ _ called.join.ensures.paths) }
+    record { answer = c.join_answer.ensures ∙ ap join_answer c.join.ensures.answer; states = c.join.ensures.states; joined = c.join.ensures.joined; paths = rw c.join_answer.ensures (joined_made _ _ _ _ _ _ c.join.ensures.paths) }

@@ -6,4 +6,4 @@ use Rattle.fulgwerz.proofs.lessons.fulgwerz_read_words.Goals as goal
 
 pub returns : goal.returns
 returns c =
-    let called = c in record { answer = c.words_answer.ensures ∙ ap count_answer called.read.ensures.answer; words = called.read.ensures.words }
+    record { answer = c.words_answer.ensures ∙ ap count_answer c.read.ensures.answer; words = c.read.ensures.words }

@@ -5,5 +5,4 @@ use Rattle.fulgwerz.proofs.lookups.fulgwerz_leaf.Goals as goal
 
 pub returns : goal.returns
 returns c =
-    let called = c in
-    c.leaf_answer.ensures ∙ ap leaf_answer called.leaf_of.ensures
+    c.leaf_answer.ensures ∙ ap leaf_answer c.leaf_of.ensures

@@ -6,4 +6,4 @@ use Rattle.fulgwerz.proofs.lookups.fulgwerz_transcribe.Goals as goal
 
 pub returns : goal.returns
 returns c =
-    let called = c in record { answer = c.transcript_answer.ensures ∙ ap transcript_answer called.transcribe.ensures.answer; leaves = called.transcribe.ensures.leaves }
+    record { answer = c.transcript_answer.ensures ∙ ap transcript_answer c.transcribe.ensures.answer; leaves = c.transcribe.ensures.leaves }

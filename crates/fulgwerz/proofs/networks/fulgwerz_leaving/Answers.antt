@@ -5,5 +5,4 @@ use Rattle.fulgwerz.proofs.networks.fulgwerz_leaving.Goals as goal
 
 pub returns : goal.returns
 returns c =
-    let called = c in
-    c.part_answer.ensures ∙ ap part_answer called.part_leaving.ensures
+    c.part_answer.ensures ∙ ap part_answer c.part_leaving.ensures

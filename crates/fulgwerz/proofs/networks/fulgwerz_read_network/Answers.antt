@@ -6,4 +6,4 @@ use Rattle.fulgwerz.proofs.networks.fulgwerz_read_network.Goals as goal
 
 pub returns : goal.returns
 returns c =
-    let called = c in record { answer = c.network_answer.ensures ∙ ap network_answer called.read.ensures.answer; arcs = called.read.ensures.arcs }
+    record { answer = c.network_answer.ensures ∙ ap network_answer c.read.ensures.answer; arcs = c.read.ensures.arcs }

@@ -6,4 +6,4 @@ use Rattle.fulgwerz.proofs.networks.fulgwerz_write.Goals as goal
 
 pub returns : goal.returns
 returns c =
-    let called = c in record { answer = c.bytes_answer.ensures ∙ ap count_answer called.write.ensures.answer; leaves = called.write.ensures.leaves }
+    record { answer = c.bytes_answer.ensures ∙ ap count_answer c.write.ensures.answer; leaves = c.write.ensures.leaves }

@@ -17,9 +17,7 @@ returns-then-arc_room-sizes c =
 pub returns : goal.returns
 unfolding put_at arc_words
 returns c =
-    let put = c in
-    let test = put in
-    let a = test.args in
+    let a = c.args in
     let free : a.sizes.arcs < arc_room a.arcs.now =
-    omega (arith, test.if-arc_room-sizes.false, test.arc_room.ensures) in
-    record { answers = rw (lt-ltb _ _ free); words = rw (lt-ltb _ _ free) put.put_arc.ensures }
+    omega (arith, c.if-arc_room-sizes.false, c.arc_room.ensures) in
+    record { answers = rw (lt-ltb _ _ free); words = rw (lt-ltb _ _ free) c.put_arc.ensures }

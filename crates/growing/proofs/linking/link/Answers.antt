@@ -9,8 +9,7 @@ use Rattle.growing.proofs.linking.link.Goals as goal
 
 pub bounds-chains-head-2 : goal.bounds-chains-head-2
 bounds-chains-head-2 c =
-    let start = c in
-    rw length-set (omega (arith, start.requires.0, c.head_of-head.ensures.1))
+    rw length-set (omega (arith, c.requires.0, c.head_of-head.ensures.1))
 
 pub returns : goal.returns
 returns c =

@@ -6,13 +6,11 @@ use Rattle.joined.proofs.entering.add_joined.Goals as goal
 
 pub returns : goal.returns
 returns c =
-    let call = c in
-    let start = c in
-    let a = start.args in
+    let a = c.args in
     record {
       put = c.put_joined.ensures;
       linked =
-          call.link.ensures
+          c.link.ensures
           ∙ ap (λ (k : ℕ). linked_to (heads_in a.chains.now) a.chains.now a.place k)
-          call.key_of.ensures;
+          c.key_of.ensures;
     }

@@ -24,14 +24,12 @@ loop-i-init c =
 pub returns-then-bytes-i-lt48 : goal.returns-then-bytes-i-lt48
 unfolding field_in
 returns-then-bytes-i-lt48 c =
-    let at = c in
-    sym (digit_low at.loop-i.invariant c.loop-i-test.true c.if-bytes-i-lt48.true)
+    sym (digit_low c.loop-i.invariant c.loop-i-test.true c.if-bytes-i-lt48.true)
 
 pub returns-then-bytes-i-gt57 : goal.returns-then-bytes-i-gt57
 unfolding field_in
 returns-then-bytes-i-gt57 c =
-    let turn = c in
-    sym (digit-high turn.loop-i.invariant turn.loop-i-test.true c.if-bytes-i-gt57.true)
+    sym (digit-high c.loop-i.invariant c.loop-i-test.true c.if-bytes-i-gt57.true)
 
 pub overflow_mul-value : goal.overflow_mul-value
 overflow_mul-value c =
@@ -45,10 +43,9 @@ overflow_add-value c =
 
 pub loop-i-preserved : goal.loop-i-preserved
 loop-i-preserved c =
-    let turn = c in
     let low = c.if-bytes-i-lt48.false in
     let high = c.if-bytes-i-gt57.false in
-    digit-next turn.loop-i.invariant _ turn.loop-i-test.true low high c.digit.ensures
+    digit-next c.loop-i.invariant _ c.loop-i-test.true low high c.digit.ensures
 
 pub returns : goal.returns
 unfolding field_in

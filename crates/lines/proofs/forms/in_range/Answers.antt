@@ -11,10 +11,8 @@ bounds-form-field c = omega (arith, used-few c.args.place c.requires.0)
 
 pub returns-then-n-range : goal.returns-then-n-range
 returns-then-n-range c =
-    let at = c in
-    below-range _ at.requires.0 _ at.args.n at.requires.1 c.if-n-range.true
+    below-range _ c.requires.0 _ c.args.n c.requires.1 c.if-n-range.true
 
 pub returns : goal.returns
 returns c =
-    let at = c in
-    above-lowest _ at.requires.0 _ at.args.n at.requires.1 c.if-n-range.false
+    above-lowest _ c.requires.0 _ c.args.n c.requires.1 c.if-n-range.false

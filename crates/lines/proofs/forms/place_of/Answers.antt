@@ -7,20 +7,18 @@ use Rattle.lines.proofs.forms.place_of.Goals as goal
 
 pub returns-then-form-letter : goal.returns-then-form-letter
 returns-then-form-letter c =
-    let turn = c in
-    let a = turn.args in
-    let tables = turn.block_of-block.ensures.tables in
-    let inv = turn.loop-place.invariant in record {
+    let a = c.args in
+    let tables = c.block_of-block.ensures.tables in
+    let inv = c.loop-place.invariant in record {
       within = omega arith;
-      found = letter-found _ _ _ turn.loop-place-test.true inv.0 c.if-form-letter.true ∙ sym inv.1
+      found = letter-found _ _ _ c.loop-place-test.true inv.0 c.if-form-letter.true ∙ sym inv.1
           ∙ sym (ap (λ f. form_of f a.letter) tables);
     }
 
 pub loop-place-preserved : goal.loop-place-preserved
 loop-place-preserved c =
-    let turn = c in
-    let inv = turn.loop-place.invariant in
-    (inv.0, inv.1 ∙ letter-passed _ _ _ turn.loop-place-test.true inv.0 c.if-form-letter.false)
+    let inv = c.loop-place.invariant in
+    (inv.0, inv.1 ∙ letter-passed _ _ _ c.loop-place-test.true inv.0 c.if-form-letter.false)
 
 pub returns : goal.returns
 returns c =

@@ -38,19 +38,16 @@ letter c = record {
 pub returns-in_default : goal.returns-in_default
 unfolding entry_in
 returns-in_default c =
-    let turn = c in
-    let used = turn in
     let entry = c.entry_at.ensures in
     let wrong = ap entry_in (sym c.in_default.is) ∙ entry in
     c.malformed-in_default.ensures
-    ∙ sym (parsed-wrong (letter (goal.at.returns-in_default c).After-used_at-used) (entry-wrong turn.loop-field.invariant turn.loop-field-test.true wrong))
+    ∙ sym (parsed-wrong (letter (goal.at.returns-in_default c).After-used_at-used) (entry-wrong c.loop-field.invariant c.loop-field-test.true wrong))
 
 pub loop-field-preserved : goal.loop-field-preserved
 unfolding entry_in
 loop-field-preserved c =
-    let turn = c in
     let found = ap entry_in (sym c.in-Value.is) ∙ c.entry_at.ensures in
-    entry_found turn.loop-field.invariant _ turn.loop-field-test.true found
+    entry_found c.loop-field.invariant _ c.loop-field-test.true found
 
 pub returns : goal.returns
 returns c =

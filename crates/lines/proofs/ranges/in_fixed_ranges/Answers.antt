@@ -21,38 +21,32 @@ used_at-used-requires c = omega (arith, c.if-place-eq-NO_LETTER.false)
 
 pub returns-then-row-used : goal.returns-then-row-used
 returns-then-row-used c =
-    let at = c in
-    let known = at.place_of-place.ensures.found in
+    let known = c.place_of-place.ensures.found in
     let used = c.used_at-used.ensures in
-    sym (row-short _ _ _ (omega (arith, at.if-place-eq-NO_LETTER.false)) known (omega (arith, used)))
+    sym (row-short _ _ _ (omega (arith, c.if-place-eq-NO_LETTER.false)) known (omega (arith, used)))
 
 pub loop-field-init : goal.loop-field-init
 loop-field-init c =
-    let at = c in
-    judging-start _ _ _ (omega (arith, at.if-place-eq-NO_LETTER.false)) at.used_at-used.ensures (search rules)
+    judging-start _ _ _ (omega (arith, c.if-place-eq-NO_LETTER.false)) c.used_at-used.ensures (search rules)
 
 pub returns-then-not-in_range : goal.returns-then-not-in_range
 returns-then-not-in_range c =
-    let turn = c in
-    let at = turn in
-    let full = turn.if-row-used.false in
-    let j = turn.loop-field.invariant in
+    let full = c.if-row-used.false in
+    let j = c.loop-field.invariant in
     let out = failed c.in_range.ensures (not_from_false _ c.if-not-in_range.true) in
-    let known = at.place_of-place.ensures.found in
-    sym (row-full _ _ _ j.known known (omega (arith, at.used_at-used.ensures, full))
-    ∙ range-left j turn.loop-field-test.true out)
+    let known = c.place_of-place.ensures.found in
+    sym (row-full _ _ _ j.known known (omega (arith, c.used_at-used.ensures, full))
+    ∙ range-left j c.loop-field-test.true out)
 
 pub loop-field-preserved : goal.loop-field-preserved
 loop-field-preserved c =
-    let turn = c in
     let in-it = held c.in_range.ensures (not_from_true _ c.if-not-in_range.false) in
-    range-passed turn.loop-field.invariant turn.loop-field-test.true in-it
+    range-passed c.loop-field.invariant c.loop-field-test.true in-it
 
 pub returns : goal.returns
 returns c =
-    let at = c in
     let full = c.if-row-used.false in
     let j = c.loop-field.invariant in
-    let known = at.place_of-place.ensures.found in
-    sym (row-full _ _ _ j.known known (omega (arith, at.used_at-used.ensures, full))
+    let known = c.place_of-place.ensures.found in
+    sym (row-full _ _ _ j.known known (omega (arith, c.used_at-used.ensures, full))
     ∙ ranges-end j c.loop-field-test.false)

@@ -12,19 +12,16 @@ use Rattle.marks.proofs.wanting.within.Goals as goal
 
 pub returns-then-mark-ge64 : goal.returns-then-mark-ge64
 returns-then-mark-ge64 c =
-    let start = c in
-    let (lexicon, own) = start.requires in
+    let (lexicon, own) = c.requires in
     leads-past _ _ _ _ c.nothing.ensures own.low
-    (phone-past lexicon own start.args.mark c.if-mark-ge64.true)
+    (phone-past lexicon own c.args.mark c.if-mark-ge64.true)
 
 pub returns : goal.returns
 returns c =
-    let read = c in
-    let start = read in
-    let (lexicon, own) = start.requires in
-    let a = start.args in
+    let (lexicon, own) = c.requires in
+    let a = c.args in
     leads-within _ _ _ _ _ own.low
-    (ap₂ (λ (w m : ℕ). a.words.now ! (word_size * (w - 1) + 1 + m)) read.wide.ensures
-    read.wide-2.ensures
-    ∙ word-phone lexicon own a.mark read.if-mark-ge64.false)
+    (ap₂ (λ (w m : ℕ). a.words.now ! (word_size * (w - 1) + 1 + m)) c.wide.ensures
+    c.wide-2.ensures
+    ∙ word-phone lexicon own a.mark c.if-mark-ge64.false)
     (c.spoken_to.ensures ∙ ap (spoken_to (spelled a.words.now) a.word) (add-one a.mark))

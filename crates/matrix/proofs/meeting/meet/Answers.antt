@@ -27,41 +27,29 @@ ended : (c : goal.At-loop-c)
     (take c.args.width c.args.b.columns))
 ended c = meeting-last c.loop-c.invariant (seven c.before) (same c.before)
 
-pub returns-then-width-c-clause-matrix : goal.returns-then-width-c-clause-matrix
-returns-then-width-c-clause-matrix c = (let head = c in
-    let inv = head.loop-c.invariant in
-    ended (goal.at.returns-then-width-c-clause-matrix c).At-loop-c (rw length-take (omega (arith, c.if-width-c.true, seven (goal.at.returns-then-width-c-clause-matrix c).Start, inv.within, inv.written.within)))).0
+pub returns-then-width-c : goal.returns-then-width-c
+returns-then-width-c c =
+    let inv = c.loop-c.invariant in
+    let all =
+    ended (goal.at.returns-then-width-c c).At-loop-c (rw length-take (omega (arith, c.if-width-c.true, seven (goal.at.returns-then-width-c c).Start, inv.within, inv.written.within))) in
+    record { matrix = all.0; count = all.1 }
 
-pub returns-then-width-c-clause-count : goal.returns-then-width-c-clause-count
-returns-then-width-c-clause-count c = (let head = c in
-    let inv = head.loop-c.invariant in
-    ended (goal.at.returns-then-width-c-clause-count c).At-loop-c (rw length-take (omega (arith, c.if-width-c.true, seven (goal.at.returns-then-width-c-clause-count c).Start, inv.within, inv.written.within)))).1
-
-pub returns-then-both-eq0-clause-matrix : goal.returns-then-both-eq0-clause-matrix
-returns-then-both-eq0-clause-matrix c = (let start = c in
-    let here = c in
-    meeting-empty c.loop-c.invariant (seven (goal.at.returns-then-both-eq0-clause-matrix c).Start) (same (goal.at.returns-then-both-eq0-clause-matrix c).Start) here.if-width-c.false
-    here.loop-c-test.true c.if-both-eq0.true).0
-
-pub returns-then-both-eq0-clause-count : goal.returns-then-both-eq0-clause-count
-returns-then-both-eq0-clause-count c = (let start = c in
-    let here = c in
-    meeting-empty c.loop-c.invariant (seven (goal.at.returns-then-both-eq0-clause-count c).Start) (same (goal.at.returns-then-both-eq0-clause-count c).Start) here.if-width-c.false
-    here.loop-c-test.true c.if-both-eq0.true).1
+pub returns-then-both-eq0 : goal.returns-then-both-eq0
+returns-then-both-eq0 c =
+    let all =
+    meeting-empty c.loop-c.invariant (seven (goal.at.returns-then-both-eq0 c).Start) (same (goal.at.returns-then-both-eq0 c).Start) c.if-width-c.false
+    c.loop-c-test.true c.if-both-eq0.true in
+    record { matrix = all.0; count = all.1 }
 
 pub loop-c-preserved : goal.loop-c-preserved
 loop-c-preserved c =
-    let start = c in
-    let here = c in
-    meeting-more c.loop-c.invariant (seven (goal.at.loop-c-preserved c).Start) (same (goal.at.loop-c-preserved c).Start) here.if-width-c.false
-    here.loop-c-test.true c.if-both-eq0.false
+    meeting-more c.loop-c.invariant (seven (goal.at.loop-c-preserved c).Start) (same (goal.at.loop-c-preserved c).Start) c.if-width-c.false
+    c.loop-c-test.true c.if-both-eq0.false
 
-pub returns-clause-matrix : goal.returns-clause-matrix
-returns-clause-matrix c = (let inv = c.loop-c.invariant in
-    ended (goal.at.returns-clause-matrix c).At-loop-c (rw length-take
-    (omega (arith, c.loop-c-test.false, seven (goal.at.returns-clause-matrix c).Start, inv.within, inv.written.within)))).0
-
-pub returns-clause-count : goal.returns-clause-count
-returns-clause-count c = (let inv = c.loop-c.invariant in
-    ended (goal.at.returns-clause-count c).At-loop-c (rw length-take
-    (omega (arith, c.loop-c-test.false, seven (goal.at.returns-clause-count c).Start, inv.within, inv.written.within)))).1
+pub returns : goal.returns
+returns c =
+    let inv = c.loop-c.invariant in
+    let all =
+    ended (goal.at.returns c).At-loop-c (rw length-take
+    (omega (arith, c.loop-c-test.false, seven (goal.at.returns c).Start, inv.within, inv.written.within))) in
+    record { matrix = all.0; count = all.1 }

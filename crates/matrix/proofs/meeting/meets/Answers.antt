@@ -7,10 +7,8 @@ use Rattle.matrix.proofs.meeting.meets.Goals as goal
 
 pub returns : goal.returns
 returns c =
-    let met = c in
-    let start = met in
-    let a = start.args.a.columns in
-    let b = start.args.b.columns in
+    let a = c.args.a.columns in
+    let b = c.args.b.columns in
     let seven : length a ≡ 7 = search rules in
     let other : length b ≡ 7 = search rules in
-    first-tells a b start.args.width seven (other ∙ sym seven) start.requires met.meet-met.ensures.matrix
+    first-tells a b c.args.width seven (other ∙ sym seven) c.requires c.meet-met.ensures.matrix

@@ -7,10 +7,8 @@ returns-then-phone-eq0 c = has-zero c.args.phone c.args.set c.if-phone-eq0.true
 
 pub returns-then-phone-gt64 : goal.returns-then-phone-gt64
 returns-then-phone-gt64 c =
-    let start = c in
-    has-beyond start.args.phone start.args.set start.ranges.set.fits c.if-phone-gt64.true
+    has-beyond c.args.phone c.args.set c.ranges.set.fits c.if-phone-gt64.true
 
 pub returns : goal.returns
 returns c =
-    let start = c in
-    has-bit start.args.phone start.args.set c.if-phone-eq0.false
+    has-bit c.args.phone c.args.set c.if-phone-eq0.false

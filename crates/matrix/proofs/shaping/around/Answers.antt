@@ -10,12 +10,11 @@ loop-c-init c = filled-start _ _
 
 pub loop-c-preserved : goal.loop-c-preserved
 loop-c-preserved c =
-    let turn = c in
-    let a = turn.args in
-    columns-more (around-seven a.half a.left a.centre a.right) turn.loop-c.invariant
-    turn.loop-c-test.true
+    let a = c.args in
+    columns-more (around-seven a.half a.left a.centre a.right) c.loop-c.invariant
+    c.loop-c-test.true
     (c.column_around.ensures
-    ∙ around-at a.half a.left a.centre a.right _ turn.loop-c-test.true)
+    ∙ around-at a.half a.left a.centre a.right _ c.loop-c-test.true)
 
 pub returns : goal.returns
 returns c =

@@ -11,9 +11,8 @@ loop-c-init c = filled-start _ _
 
 pub loop-c-preserved : goal.loop-c-preserved
 loop-c-preserved c =
-    let turn = c in
-    columns-more (shifted-length _ _ _) turn.loop-c.invariant turn.loop-c-test.true
-    (c.column_shifted.ensures ∙ shifted_at _ _ _ _ turn.loop-c-test.true)
+    columns-more (shifted-length _ _ _) c.loop-c.invariant c.loop-c-test.true
+    (c.column_shifted.ensures ∙ shifted_at _ _ _ _ c.loop-c-test.true)
 
 pub returns : goal.returns
 returns c = columns-end (shifted-length _ _ _) c.loop-c.invariant c.loop-c-test.false

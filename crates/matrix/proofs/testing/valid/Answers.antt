@@ -14,15 +14,13 @@ returns-then-width-c c = first-all c.loop-c.invariant c.if-width-c.true
 
 pub returns-then-m-c-eq0 : goal.returns-then-m-c-eq0
 returns-then-m-c-eq0 c =
-    let turn = c in
-    let sized : length turn.args.m.columns ≡ 7 = search rules in
-    first-stop turn.loop-c.invariant (search rules) (search rules) (empty-column _ c.if-m-c-eq0.true)
+    let sized : length c.args.m.columns ≡ 7 = search rules in
+    first-stop c.loop-c.invariant (search rules) (search rules) (empty-column _ c.if-m-c-eq0.true)
 
 pub loop-c-preserved : goal.loop-c-preserved
 loop-c-preserved c =
-    let turn = c in
-    let sized : length turn.args.m.columns ≡ 7 = search rules in
-    first_more turn.loop-c.invariant (search rules) (search rules) (filled-column _ c.if-m-c-eq0.false)
+    let sized : length c.args.m.columns ≡ 7 = search rules in
+    first_more c.loop-c.invariant (search rules) (search rules) (filled-column _ c.if-m-c-eq0.false)
 
 pub returns : goal.returns
 returns c =

@@ -11,10 +11,8 @@ loop-i-init c = written_start _ _ _
 
 pub loop-i-preserved : goal.loop-i-preserved
 loop-i-preserved c =
-    let turn = c in
-    let start = turn in
-    let sized : length start.args.m.columns ≡ 7 = search rules in
-    written-more turn.loop-i.invariant (search rules) (omega (arith, sized, turn.loop-i-test.true))
+    let sized : length c.args.m.columns ≡ 7 = search rules in
+    written-more c.loop-i.invariant (search rules) (omega (arith, sized, c.loop-i-test.true))
     c.numbered_word.ensures
 
 pub returns : goal.returns

@@ -18,11 +18,9 @@ loop-c-init c = filled-start _ _
 
 pub loop-c-preserved : goal.loop-c-preserved
 loop-c-preserved c =
-    let turn = c in
-    let start = turn in
-    columns-more (seven-length (rest (goal.at.loop-c-preserved c).Start)) turn.loop-c.invariant turn.loop-c-test.true
-    (sym (get_or-drop start.args.from start.args.words.now _ 0)
-    ∙ seven_at (rest (goal.at.loop-c-preserved c).Start) _ turn.loop-c-test.true)
+    columns-more (seven-length (rest (goal.at.loop-c-preserved c).Start)) c.loop-c.invariant c.loop-c-test.true
+    (sym (get_or-drop c.args.from c.args.words.now _ 0)
+    ∙ seven_at (rest (goal.at.loop-c-preserved c).Start) _ c.loop-c-test.true)
 
 pub returns : goal.returns
 returns c =

@@ -32,26 +32,23 @@ loop-i-init c =
 
 pub numbered_word-requires : goal.numbered_word-requires
 numbered_word-requires c =
-    let turn = c in
-    let few = turn.if-words-gt8.false in
+    let few = c.if-words-gt8.false in
     search rules
 
 pub returns-then-words-i : goal.returns-then-words-i
 returns-then-words-i c =
-    let turn = c in
-    let a = turn.args in
-    let inside = turn.loop-i-test.true in
+    let a = c.args in
+    let inside = c.loop-i-test.true in
     let same_word = get_or-take (length a.words.now) (a.number ∷ a.m.columns) _ 0 inside in
-    alike-stop turn.loop-i.invariant inside
+    alike-stop c.loop-i.invariant inside
     (λ e. c.if-words-i.true (e ∙ same_word ∙ sym c.numbered_word.ensures))
 
 pub loop-i-preserved : goal.loop-i-preserved
 loop-i-preserved c =
-    let turn = c in
-    let a = turn.args in
-    let inside = turn.loop-i-test.true in
+    let a = c.args in
+    let inside = c.loop-i-test.true in
     let same_word = get_or-take (length a.words.now) (a.number ∷ a.m.columns) _ 0 inside in
-    alike-more turn.loop-i.invariant inside (c.if-words-i.false ∙ c.numbered_word.ensures ∙ sym same_word)
+    alike-more c.loop-i.invariant inside (c.if-words-i.false ∙ c.numbered_word.ensures ∙ sym same_word)
 
 pub returns : goal.returns
 returns c = alike_end c.loop-i.invariant (search rules)

@@ -14,16 +14,14 @@ loop-i-init c = written_start _ _ _
 
 pub returns-then-i-ge8 : goal.returns-then-i-ge8
 returns-then-i-ge8 c =
-    let head = c in
-    let sized : length head.args.m.columns ≡ 7 = search rules in
-    written-full head.loop-i.invariant (omega (arith, sized, c.if-i-ge8.true)) (omega arith)
+    let sized : length c.args.m.columns ≡ 7 = search rules in
+    written-full c.loop-i.invariant (omega (arith, sized, c.if-i-ge8.true)) (omega arith)
 
 pub loop-i-preserved : goal.loop-i-preserved
 loop-i-preserved c =
-    let turn = c in
-    let a = turn.args in
+    let a = c.args in
     let sized : length a.m.columns ≡ 7 = search rules in
-    written-more turn.loop-i.invariant turn.loop-i-test.true (omega (arith, sized, c.if-i-ge8.false))
+    written-more c.loop-i.invariant c.loop-i-test.true (omega (arith, sized, c.if-i-ge8.false))
     c.numbered_word.ensures
 
 pub returns : goal.returns

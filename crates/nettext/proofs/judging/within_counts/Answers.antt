@@ -19,6 +19,5 @@ returns-in-W c = rw c.in-W.is
 pub returns-else-not-is_state : goal.returns-else-not-is_state
 unfolding entry_line within_counts
 returns-else-not-is_state c =
-    let first = c in
-    let said = first.in-A.is in
-    rw (said, held first.is_state.ensures (not_from_true _ first.if-not-is_state.false)) c.is_state-in-A.ensures
+    let said = c.in-A.is in
+    rw (said, held c.is_state.ensures (not_from_true _ c.if-not-is_state.false)) c.is_state-in-A.ensures

@@ -5,33 +5,18 @@ use Rattle.nettext.proofs.reader.read.Goals as goal
 
 pub read_lines-answer-requires : goal.read_lines-answer-requires
 read_lines-answer-requires c =
-    let first = c in
-    clear-itself first.args.arcs.now _ first.clear_words.ensures
+    clear-itself c.args.arcs.now _ c.clear_words.ensures
 
-pub returns-in-Accepted-clause-answer : goal.returns-in-Accepted-clause-answer
-returns-in-Accepted-clause-answer c = (let read = c in
-    let first = read in
-    accepted-returns first.args.arcs.now first.clear_words.ensures read.read_lines-answer.ensures.answer
-    read.read_lines-answer.ensures.arcs _ c.in-Accepted.is).0
+pub returns-in-Accepted : goal.returns-in-Accepted
+returns-in-Accepted c =
+    let all =
+    accepted-returns c.args.arcs.now c.clear_words.ensures c.read_lines-answer.ensures.answer
+    c.read_lines-answer.ensures.arcs _ c.in-Accepted.is in
+    record { answer = all.0; arcs = all.1 }
 
-pub returns-in-Accepted-clause-arcs : goal.returns-in-Accepted-clause-arcs
-returns-in-Accepted-clause-arcs c = (let read = c in
-    let first = read in
-    accepted-returns first.args.arcs.now first.clear_words.ensures read.read_lines-answer.ensures.answer
-    read.read_lines-answer.ensures.arcs _ c.in-Accepted.is).1
-
-pub returns-in-Refused-clause-answer : goal.returns-in-Refused-clause-answer
-returns-in-Refused-clause-answer c = (let again = c in
-    let refused = again in
-    let read = refused in
-    let first = read in
-    refused-returns first.args.arcs.now first.clear_words.ensures read.read_lines-answer.ensures.answer
-    read.read_lines-answer.ensures.arcs _ refused.in-Refused.is again.clear_words-in-Refused.ensures).0
-
-pub returns-in-Refused-clause-arcs : goal.returns-in-Refused-clause-arcs
-returns-in-Refused-clause-arcs c = (let again = c in
-    let refused = again in
-    let read = refused in
-    let first = read in
-    refused-returns first.args.arcs.now first.clear_words.ensures read.read_lines-answer.ensures.answer
-    read.read_lines-answer.ensures.arcs _ refused.in-Refused.is again.clear_words-in-Refused.ensures).1
+pub returns-in-Refused : goal.returns-in-Refused
+returns-in-Refused c =
+    let all =
+    refused-returns c.args.arcs.now c.clear_words.ensures c.read_lines-answer.ensures.answer
+    c.read_lines-answer.ensures.arcs _ c.in-Refused.is c.clear_words-in-Refused.ensures in
+    record { answer = all.0; arcs = all.1 }

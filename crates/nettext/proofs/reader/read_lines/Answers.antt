@@ -8,50 +8,41 @@ use Rattle.std.proofs.lemmas.Bool.{not_from_true}
 use Rattle.std.proofs.lemmas.Bool.{not_from_false}
 use Rattle.nettext.proofs.reader.read_lines.Goals as goal
 
-pub returns-then-not-whole_lines-clause-answer : goal.returns-then-not-whole_lines-clause-answer
-returns-then-not-whole_lines-clause-answer c = (torn-returns _ _ (failed c.whole_lines.ensures (not_from_false _ c.if-not-whole_lines.true))).0
-
-pub returns-then-not-whole_lines-clause-arcs : goal.returns-then-not-whole_lines-clause-arcs
-returns-then-not-whole_lines-clause-arcs c = (torn-returns _ _ (failed c.whole_lines.ensures (not_from_false _ c.if-not-whole_lines.true))).1
+pub returns-then-not-whole_lines : goal.returns-then-not-whole_lines
+returns-then-not-whole_lines c =
+    let all =
+    torn-returns _ _ (failed c.whole_lines.ensures (not_from_false _ c.if-not-whole_lines.true)) in
+    record { answer = all.0; arcs = all.1 }
 
 pub loop-i-init : goal.loop-i-init
 loop-i-init c =
     let whole = held c.whole_lines.ensures (not_from_true _ c.if-not-whole_lines.false) in
-    let start = c in
-    first-turn _ _ _ whole c.no_lines-state.ensures start.requires
+    first-turn _ _ _ whole c.no_lines-state.ensures c.requires
 
 pub take_line-step-requires : goal.take_line-step-requires
 take_line-step-requires c =
-    let turn = c in
-    let at = turn.loop-i in
-    turn-ready at.invariant _ (next-bytes _ at.i) turn.loop-i-test.true (omega arith) (omega arith)
+    let at = c.loop-i in
+    turn-ready at.invariant _ (next-bytes _ at.i) c.loop-i-test.true (omega arith) (omega arith)
 
-pub returns-in-Stop-clause-answer : goal.returns-in-Stop-clause-answer
-returns-in-Stop-clause-answer c = (let call = c in
-    let at = call.loop-i in
-    stop-returns at.invariant _ _ _ _ (next-bytes _ at.i) call.loop-i-test.true call.take_line-step.ensures.step
-    c.in-Stop.is call.take_line-step.ensures.arcs).0
-
-pub returns-in-Stop-clause-arcs : goal.returns-in-Stop-clause-arcs
-returns-in-Stop-clause-arcs c = (let call = c in
-    let at = call.loop-i in
-    stop-returns at.invariant _ _ _ _ (next-bytes _ at.i) call.loop-i-test.true call.take_line-step.ensures.step
-    c.in-Stop.is call.take_line-step.ensures.arcs).1
+pub returns-in-Stop : goal.returns-in-Stop
+returns-in-Stop c =
+    let at = c.loop-i in
+    let all =
+    stop-returns at.invariant _ _ _ _ (next-bytes _ at.i) c.loop-i-test.true c.take_line-step.ensures.step
+    c.in-Stop.is c.take_line-step.ensures.arcs in
+    record { answer = all.0; arcs = all.1 }
 
 pub loop-i-preserved : goal.loop-i-preserved
 loop-i-preserved c =
-    let call = c in
-    let at = call.loop-i in
-    turn-next at.invariant _ _ _ _ (next-bytes _ at.i) call.loop-i-test.true call.take_line-step.ensures.step
-    c.in-Next.is call.take_line-step.ensures.arcs
+    let at = c.loop-i in
+    turn-next at.invariant _ _ _ _ (next-bytes _ at.i) c.loop-i-test.true c.take_line-step.ensures.step
+    c.in-Next.is c.take_line-step.ensures.arcs
 
 pub finish-requires : goal.finish-requires
 finish-requires c = turn-endable c.loop-i.invariant (omega arith)
 
-pub returns-clause-answer : goal.returns-clause-answer
-returns-clause-answer c = (let head = c in
-    end_returns head.loop-i.invariant _ head.loop-i-test.false c.finish.ensures).0
-
-pub returns-clause-arcs : goal.returns-clause-arcs
-returns-clause-arcs c = (let head = c in
-    end_returns head.loop-i.invariant _ head.loop-i-test.false c.finish.ensures).1
+pub returns : goal.returns
+returns c =
+    let all =
+    end_returns c.loop-i.invariant _ c.loop-i-test.false c.finish.ensures in
+    record { answer = all.0; arcs = all.1 }

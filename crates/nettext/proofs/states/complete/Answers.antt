@@ -11,6 +11,5 @@ returns-then-s-eq0 c = rw c.if-s-eq0.true
 pub returns : goal.returns
 unfolding complete_in
 returns c =
-    let some = c in
-    let counted = lt-ltb 0 some.args.s.lines (omega (arith, some.if-s-eq0.false)) in
+    let counted = lt-ltb 0 c.args.s.lines (omega (arith, c.if-s-eq0.false)) in
     rw (c.wide.ensures, counted)

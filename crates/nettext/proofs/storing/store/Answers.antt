@@ -8,8 +8,7 @@ use Rattle.nettext.proofs.storing.store.Goals as goal
 pub put_arc-requires : goal.put_arc-requires
 unfolding entry_line
 put_arc-requires c =
-    let start = c in
-    rw c.in-A.is at start.requires
+    rw c.in-A.is at c.requires
 
 pub returns-in-W : goal.returns-in-W
 unfolding entry_line arcs_after
@@ -18,5 +17,4 @@ returns-in-W c = rw c.in-W.is refl
 pub returns-in-A : goal.returns-in-A
 unfolding entry_line arcs_after arc_words
 returns-in-A c =
-    let put = c in
-    rw put.in-A.is put.put_arc.ensures
+    rw c.in-A.is c.put_arc.ensures

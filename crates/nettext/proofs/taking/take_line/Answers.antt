@@ -35,8 +35,7 @@ returns-then-complete c =
 pub returns-then-not-parsed : goal.returns-then-not-parsed
 unfolding arcs_taken
 returns-then-not-parsed c =
-    let parsed = c in
-    let unformed = none-parsed _ parsed.parse-parsed.ensures (not-true _ c.if-not-parsed.true) in
+    let unformed = none-parsed _ c.parse-parsed.ensures (not-true _ c.if-not-parsed.true) in
     record { step = step-failed _ _ _ (verdict-misprint _ _ _ (unfinished (goal.at.returns-then-not-parsed c).After-parse-parsed) unformed); arcs = refl }
 
 pub entry_of-entry-requires : goal.entry_of-entry-requires
@@ -45,25 +44,17 @@ entry_of-entry-requires c = whole_row _ c.parse-parsed.ensures
 pub returns-in-Failed : goal.returns-in-Failed
 unfolding arcs_taken
 returns-in-Failed c =
-    let judged = c in
     record { step = step-failed _ _ _ (verdict (goal.at.returns-in-Failed c).After-judge_line ∙ c.in-Failed.is); arcs = refl }
 
 pub store-requires : goal.store-requires
 unfolding line_taken network_kind
 store-requires c =
-    let passed = c in
-    let judged = passed in
-    let parsed = judged in
-    let step = step-passed _ _ _ (verdict (goal.at.store-requires c).After-judge_line ∙ passed.in_default.is) in
-    rw (judged.entry_of-entry.ensures, parsed.parse-parsed.ensures) (parsed.requires.room _ (sym step))
+    let step = step-passed _ _ _ (verdict (goal.at.store-requires c).After-judge_line ∙ c.in_default.is) in
+    rw (c.entry_of-entry.ensures, c.parse-parsed.ensures) (c.requires.room _ (sym step))
 
 pub returns : goal.returns
 unfolding arcs_taken line_taken network_kind
 returns c =
-    let stored = c in
-    let passed = stored in
-    let judged = passed in
-    let parsed = judged in
-    let step = step-passed _ _ _ (verdict (goal.at.returns c).After-judge_line ∙ passed.in_default.is) in
-    let said = rw parsed.parse-parsed.ensures at judged.entry_of-entry.ensures in
-    rw (← said) (record { step = ap Next c.next_state.ensures ∙ rw said step; arcs = stored.store.ensures })
+    let step = step-passed _ _ _ (verdict (goal.at.returns c).After-judge_line ∙ c.in_default.is) in
+    let said = rw c.parse-parsed.ensures at c.entry_of-entry.ensures in
+    rw (← said) (record { step = ap Next c.next_state.ensures ∙ rw said step; arcs = c.store.ensures })

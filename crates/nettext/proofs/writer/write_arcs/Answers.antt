@@ -19,23 +19,21 @@ loop-i-init c = filled-start _ _
 
 pub loop-i-preserved : goal.loop-i-preserved
 loop-i-preserved c =
-    let turn = c in
-    let start = turn in
-    let at = turn.loop-i in
-    let words : List ℕ = start.args.arcs.now in
+    let at = c.loop-i in
+    let words : List ℕ = c.args.arcs.now in
     let row = c.arc_row in
     let part = c.write in
-    let size = texts-length (all_arcs words) start.requires.0 in
+    let size = texts-length (all_arcs words) c.requires.0 in
     let count = arcs-length (length words / arc_size) words in
     let five : length row.result.numbers ≡ 5 = search rules in
     let from : ℕ = 32 * at.i in
     let lent : List ℕ = take (from + 32 - from) (drop from at.text) in
     let bytes : length lent ≡ 32 = search rules in
     let line =
-    arc-written words at.i row.result lent part.new.bytes start.requires.0 (omega arith) five
+    arc-written words at.i row.result lent part.new.bytes c.requires.0 (omega arith) five
     row.ensures bytes (part.ensures.answer, part.ensures.leaves) in
     let put =
-    part-put 32 at.i (arcs_text (all_arcs words)) start.args.text.now at.text part.new.bytes in
+    part-put 32 at.i (arcs_text (all_arcs words)) c.args.text.now at.text part.new.bytes in
     record {
       within = omega arith;
       sized = search rules;
@@ -44,8 +42,7 @@ loop-i-preserved c =
 
 pub returns : goal.returns
 returns c =
-    let start = c in
-    let words : List ℕ = start.args.arcs.now in
-    let size = texts-length (all_arcs words) start.requires.0 in
+    let words : List ℕ = c.args.arcs.now in
+    let size = texts-length (all_arcs words) c.requires.0 in
     let count = arcs-length (length words / arc_size) words in
-    filled-end (size ∙ rw count (sym start.requires.1)) c.loop-i.invariant (search rules)
+    filled-end (size ∙ rw count (sym c.requires.1)) c.loop-i.invariant (search rules)

@@ -11,34 +11,24 @@ connect_in-requires c =
     c.combine-by_phone.ensures.answer c.combine-by_phone.ensures.ends c.combine-by_phone.ensures.leaves
     _ c.in-Combinations.is
 
-pub returns-in-Combinations-clause-answer : goal.returns-in-Combinations-clause-answer
-returns-in-Combinations-clause-answer c = (let a = c.args in
+pub returns-in-Combinations : goal.returns-in-Combinations
+returns-in-Combinations c =
+    let a = c.args in
+    let all =
     connect-returns a.header a.nodes.now a.classes.now a.roots.now a.plains.now
     a.combinations.now a.metastates.now a.arcs.now c.clear_wide_words.ensures
     c.clear_words.ensures
     c.combine-by_phone.ensures.answer c.combine-by_phone.ensures.ends c.combine-by_phone.ensures.leaves
-    _ c.in-Combinations.is a.limit c.connect_in.ensures).0
+    _ c.in-Combinations.is a.limit c.connect_in.ensures in
+    record { answer = all.0; leaves = all.1 }
 
-pub returns-in-Combinations-clause-leaves : goal.returns-in-Combinations-clause-leaves
-returns-in-Combinations-clause-leaves c = (let a = c.args in
-    connect-returns a.header a.nodes.now a.classes.now a.roots.now a.plains.now
-    a.combinations.now a.metastates.now a.arcs.now c.clear_wide_words.ensures
-    c.clear_words.ensures
-    c.combine-by_phone.ensures.answer c.combine-by_phone.ensures.ends c.combine-by_phone.ensures.leaves
-    _ c.in-Combinations.is a.limit c.connect_in.ensures).1
-
-pub returns-in-Refused-clause-answer : goal.returns-in-Refused-clause-answer
-returns-in-Refused-clause-answer c = (let a = c.args in
+pub returns-in-Refused : goal.returns-in-Refused
+returns-in-Refused c =
+    let a = c.args in
+    let all =
     combine-returns a.header a.nodes.now a.classes.now a.roots.now a.plains.now
     a.combinations.now a.metastates.now a.arcs.now c.clear_wide_words.ensures
     c.clear_words.ensures
     c.combine-by_phone.ensures.answer c.combine-by_phone.ensures.ends c.combine-by_phone.ensures.leaves
-    a.limit _ c.in-Refused.is).0
-
-pub returns-in-Refused-clause-leaves : goal.returns-in-Refused-clause-leaves
-returns-in-Refused-clause-leaves c = (let a = c.args in
-    combine-returns a.header a.nodes.now a.classes.now a.roots.now a.plains.now
-    a.combinations.now a.metastates.now a.arcs.now c.clear_wide_words.ensures
-    c.clear_words.ensures
-    c.combine-by_phone.ensures.answer c.combine-by_phone.ensures.ends c.combine-by_phone.ensures.leaves
-    a.limit _ c.in-Refused.is).1
+    a.limit _ c.in-Refused.is in
+    record { answer = all.0; leaves = all.1 }

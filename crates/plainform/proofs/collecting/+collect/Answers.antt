@@ -25,9 +25,8 @@ room t c =
 
 pub returns-then-record-ne1 : goal.returns-then-record-ne1
 returns-then-record-ne1 t c =
-    let r = c in
-    let a = r.args in
-    collected-leaf r.requires.0 r.node_at-record.ensures a.classes.now a.sets.now a.used
+    let a = c.args in
+    collected-leaf c.requires.0 c.node_at-record.ensures a.classes.now a.sets.now a.used
     c.if-record-ne1.true
 
 pub note_set-own-requires : goal.note_set-own-requires
@@ -35,31 +34,21 @@ note_set-own-requires t c = omega (arith, room t (goal.at.note_set-own-requires 
 
 pub collect-left-requires : goal.collect-left-requires
 collect-left-requires t c =
-    let own = c in
-    let asks = own in
-    let p = asks.requires in
-    let known = yes-known p.0 asks.node_at-record.ensures asks.if-record-ne1.false in
-    let later = yes-later p.0 asks.node_at-record.ensures asks.if-record-ne1.false in
-    (omega (arith, known.listed, later), (known, omega (arith, room t (goal.at.collect-left-requires t c).Else-record-ne1, own.note_set-own.ensures.few, own.note_set-own.ensures.sized)))
+    let p = c.requires in
+    let known = yes-known p.0 c.node_at-record.ensures c.if-record-ne1.false in
+    let later = yes-later p.0 c.node_at-record.ensures c.if-record-ne1.false in
+    (omega (arith, known.listed, later), (known, omega (arith, room t (goal.at.collect-left-requires t c).Else-record-ne1, c.note_set-own.ensures.few, c.note_set-own.ensures.sized)))
 
 pub collect-requires : goal.collect-requires
 collect-requires t c =
-    let left = c in
-    let own = left in
-    let asks = own in
-    let p = asks.requires in
-    let known = no-known p.0 asks.node_at-record.ensures asks.if-record-ne1.false in
-    let later = no-later p.0 asks.node_at-record.ensures asks.if-record-ne1.false in (
+    let p = c.requires in
+    let known = no-known p.0 c.node_at-record.ensures c.if-record-ne1.false in
+    let later = no-later p.0 c.node_at-record.ensures c.if-record-ne1.false in (
       omega (arith, known.listed, later),
-      (known, omega (arith, room t (goal.at.collect-requires t c).Else-record-ne1, own.note_set-own.ensures.few, own.note_set-own.ensures.sized, left.collect-left.ensures.few, left.collect-left.ensures.sized)),
+      (known, omega (arith, room t (goal.at.collect-requires t c).Else-record-ne1, c.note_set-own.ensures.few, c.note_set-own.ensures.sized, c.collect-left.ensures.few, c.collect-left.ensures.sized)),
     )
 
 pub returns : goal.returns
 returns t c =
-    let right = c in
-    let left = right in
-    let own = left in
-    let asks = own in
-    let start = asks in
-    collected-question start.requires.0 asks.node_at-record.ensures start.args.classes.now
-    asks.if-record-ne1.false own.note_set-own.ensures left.collect-left.ensures right.collect.ensures
+    collected-question c.requires.0 c.node_at-record.ensures c.args.classes.now
+    c.if-record-ne1.false c.note_set-own.ensures c.collect-left.ensures c.collect.ensures

@@ -12,13 +12,11 @@ loop-i-init c = let a = c.args in
     gathered-start (tree_in a.header a.nodes.now a.classes.now) a.roots.now a.sets.now
 
 pub collect_root-used-requires : goal.collect_root-used-requires
-collect_root-used-requires c = let turn = c in
-    let (known, room) = turn.requires in
-    (root-known known turn.loop-i.i (omega arith), gathered-room turn.loop-i.invariant (omega arith) room)
+collect_root-used-requires c = let (known, room) = c.requires in
+    (root-known known c.loop-i.i (omega arith), gathered-room c.loop-i.invariant (omega arith) room)
 
 pub loop-i-preserved : goal.loop-i-preserved
-loop-i-preserved c = let turn = c in
-    gathered-more turn.loop-i.invariant (omega arith) c.collect_root-used.ensures
+loop-i-preserved c = gathered-more c.loop-i.invariant (omega arith) c.collect_root-used.ensures
 
 pub returns : goal.returns
 returns c = gathered-end c.loop-i.invariant (omega arith)

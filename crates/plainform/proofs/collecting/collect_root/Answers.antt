@@ -13,15 +13,13 @@ returns-then-root-eq-NO_ROOT c =
 
 pub collect-requires : goal.collect-requires
 collect-requires c =
-    let start = c in
-    let a = start.args in
+    let a = c.args in
     let there = c.if-root-eq-NO_ROOT.false in
     let uses = root-uses a.header a.nodes.now a.classes.now a.root there in
-    (root-node start.requires.0 there, omega (arith, start.requires.1, ap length uses))
+    (root-node c.requires.0 there, omega (arith, c.requires.1, ap length uses))
 
 pub returns : goal.returns
 returns c =
-    let test = c in
-    let a = test.args in
-    rw (root-uses a.header a.nodes.now a.classes.now a.root test.if-root-eq-NO_ROOT.false)
+    let a = c.args in
+    rw (root-uses a.header a.nodes.now a.classes.now a.root c.if-root-eq-NO_ROOT.false)
     c.collect.ensures

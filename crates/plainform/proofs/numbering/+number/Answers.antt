@@ -24,36 +24,26 @@ sides t c = size-here c.requires.0 c.node_at-record.ensures c.if-record-ne1.fals
 
 pub put_node-requires : goal.put_node-requires
 put_node-requires t c =
-    let r = c in
-    let start = r in
-    omega (arith, some-node (tree t (goal.at.put_node-requires t c).After-node_at-record start.args.node), start.requires.1.room)
+    omega (arith, some-node (tree t (goal.at.put_node-requires t c).After-node_at-record c.args.node), c.requires.1.room)
 
 pub overflow_add-result : goal.overflow_add-result
 overflow_add-result t c =
-    let r = c in
-    let start = r in
-    omega (arith, some-node (tree t (goal.at.overflow_add-result t c).After-node_at-record start.args.node), start.requires.1.few_nodes)
+    omega (arith, some-node (tree t (goal.at.overflow_add-result t c).After-node_at-record c.args.node), c.requires.1.few_nodes)
 
 pub returns-then-record-ne1 : goal.returns-then-record-ne1
 returns-then-record-ne1 t c =
-    let put = c in
-    let leaf = put in
-    let taken = leaf in
-    let r = taken in
-    let start = r in
-    numbered-leaf start.requires.0 r.node_at-record.ensures start.args.classes.now start.args.sets.now
-    start.args.at taken.if-record-ne1.true leaf.leaf_node.ensures put.put_node.ensures
+    numbered-leaf c.requires.0 c.node_at-record.ensures c.args.classes.now c.args.sets.now
+    c.args.at c.if-record-ne1.true c.leaf_node.ensures c.put_node.ensures
 
 pub overflow_add-at : goal.overflow_add-at
 overflow_add-at t c =
-    let asks = c in omega (arith, sides t (goal.at.overflow_add-at t c).Else-record-ne1, asks.requires.1.few_nodes)
+    omega (arith, sides t (goal.at.overflow_add-at t c).Else-record-ne1, c.requires.1.few_nodes)
 
 pub number-middle-requires : goal.number-middle-requires
 number-middle-requires t c =
-    let asks = c in
-    let p = asks.requires in
-    let known = yes-known p.0 asks.node_at-record.ensures asks.if-record-ne1.false in
-    let later = yes-later p.0 asks.node_at-record.ensures asks.if-record-ne1.false in (
+    let p = c.requires in
+    let known = yes-known p.0 c.node_at-record.ensures c.if-record-ne1.false in
+    let later = yes-later p.0 c.node_at-record.ensures c.if-record-ne1.false in (
       omega (arith, known.listed, later),
       (
         known,
@@ -71,47 +61,34 @@ class_among-class-requires t c =
 
 pub overflow_add-at-2 : goal.overflow_add-at-2
 overflow_add-at-2 t c =
-    let asks = c in
-    omega (arith, sides t (goal.at.overflow_add-at-2 t c).Else-record-ne1, asks.requires.1.few_nodes)
+    omega (arith, sides t (goal.at.overflow_add-at-2 t c).Else-record-ne1, c.requires.1.few_nodes)
 
 pub put_node-requires-2 : goal.put_node-requires-2
 put_node-requires-2 t c =
-    let left = c in
-    let asks = left in
-    let kept = left.number-middle.auto.table in
-    omega (arith, sides t (goal.at.put_node-requires-2 t c).Else-record-ne1, asks.requires.1.room, kept)
+    let kept = c.number-middle.auto.table in
+    omega (arith, sides t (goal.at.put_node-requires-2 t c).Else-record-ne1, c.requires.1.room, kept)
 
 pub number-requires : goal.number-requires
 number-requires t c =
-    let put = c in
-    let left = put in
-    let asks = left in
-    let p = asks.requires in
-    let known = no-known p.0 asks.node_at-record.ensures asks.if-record-ne1.false in
-    let later = no-later p.0 asks.node_at-record.ensures asks.if-record-ne1.false in
-    let middle = left.number-middle.ensures.counted in
-    let kept = left.number-middle.auto.table in (
+    let p = c.requires in
+    let known = no-known p.0 c.node_at-record.ensures c.if-record-ne1.false in
+    let later = no-later p.0 c.node_at-record.ensures c.if-record-ne1.false in
+    let middle = c.number-middle.ensures.counted in
+    let kept = c.number-middle.auto.table in (
       omega (arith, known.listed, later),
       (
         known,
         record {
           few_sets = p.1.few_sets;
           few_nodes = omega (arith, sides t (goal.at.number-requires t c).Else-record-ne1, p.1.few_nodes, middle);
-          room = omega (arith, sides t (goal.at.number-requires t c).Else-record-ne1, p.1.room, middle, kept, put.put_node-2.auto.words);
+          room = omega (arith, sides t (goal.at.number-requires t c).Else-record-ne1, p.1.room, middle, kept, c.put_node-2.auto.words);
         },
       ),
     )
 
 pub returns : goal.returns
 returns t c =
-    let right = c in
-    let put = right in
-    let own = put in
-    let class = own in
-    let left = class in
-    let asks = left in
-    let start = asks in
-    numbered-question start.requires.0 asks.node_at-record.ensures start.args.classes.now
-    start.args.sets.now start.args.at asks.if-record-ne1.false start.requires.1.room left.number-middle.ensures
-    class.class_among-class.ensures own.question_node.ensures put.put_node-2.ensures
-    right.number.ensures
+    numbered-question c.requires.0 c.node_at-record.ensures c.args.classes.now
+    c.args.sets.now c.args.at c.if-record-ne1.false c.requires.1.room c.number-middle.ensures
+    c.class_among-class.ensures c.question_node.ensures c.put_node-2.ensures
+    c.number.ensures

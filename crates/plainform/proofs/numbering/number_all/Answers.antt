@@ -13,30 +13,27 @@ loop-i-init c = let a = c.args in
 
 pub bounds-starts-i : goal.bounds-starts-i
 bounds-starts-i c =
-    let turn = c in
     omega (
       arith,
-      turn.loop-i.invariant.starts-sized,
-      turn.requires.2,
+      c.loop-i.invariant.starts-sized,
+      c.requires.2,
     )
 
 pub number_root-at-requires : goal.number_root-at-requires
 number_root-at-requires c =
-    let turn = c in
-    let (known, room, _) = turn.requires in
-    (root-known known turn.loop-i.i (omega arith), own_room turn.loop-i.invariant (omega arith) room)
+    let (known, room, _) = c.requires in
+    (root-known known c.loop-i.i (omega arith), own_room c.loop-i.invariant (omega arith) room)
 
 pub loop-i-preserved : goal.loop-i-preserved
 loop-i-preserved c =
     let done = c.number_root-at in
     let started = c.start_of in
-    let turn = c in
-    let (_, room, few) = turn.requires in
-    all_more turn.loop-i.invariant (omega arith) done.ensures started.result started.ensures room few
+    let (_, room, few) = c.requires in
+    all_more c.loop-i.invariant (omega arith) done.ensures started.result started.ensures room few
     done.auto.table
 
-pub returns-clause-table : goal.returns-clause-table
-returns-clause-table c = (all_end c.loop-i.invariant (omega arith)).0
-
-pub returns-clause-starts : goal.returns-clause-starts
-returns-clause-starts c = (all_end c.loop-i.invariant (omega arith)).1
+pub returns : goal.returns
+returns c =
+    let all =
+    all_end c.loop-i.invariant (omega arith) in
+    record { table = all.0; starts = all.1 }

@@ -11,17 +11,15 @@ returns-then-root-eq-NO_ROOT c =
 
 pub number-requires : goal.number-requires
 number-requires c =
-    let start = c in
-    let a = start.args in
+    let a = c.args in
     let there = c.if-root-eq-NO_ROOT.false in (
-      root-node start.requires.0 there,
+      root-node c.requires.0 there,
       root-numberable a.header a.nodes.now a.classes.now a.sets.now a.root a.at there
-          start.requires.1,
+          c.requires.1,
     )
 
 pub returns : goal.returns
 returns c =
-    let test = c in
-    let a = test.args in
-    numbered-root a.header a.nodes.now a.classes.now a.sets.now a.root a.at test.if-root-eq-NO_ROOT.false
+    let a = c.args in
+    numbered-root a.header a.nodes.now a.classes.now a.sets.now a.root a.at c.if-root-eq-NO_ROOT.false
     c.number.ensures

@@ -84,10 +84,9 @@ slice_bounds-own-end c = sym (many (goal.at.slice_bounds-own-end c).After-collec
 
 pub number_all-requires : goal.number_all-requires
 number_all-requires c =
-    let collected = c in
     let lent = (cut (goal.at.number_all-requires c).After-wide).lent in (
       roots-known lent,
-      trees-numberable lent refl collected.collect_all-used.ensures refl,
+      trees-numberable lent refl c.collect_all-used.ensures refl,
       roots-fit lent,
     )
 
@@ -100,10 +99,9 @@ record Roots (c : goal.After-number_all) : Type 0 where
 
 roots-put : (c : goal.After-number_all) → Roots c
 roots-put c =
-    let w = c in
-    let a = w.args in
-    let many = ap₂ ◌*◌ w.wide-phones.ensures w.wide.ensures in
-    let narrow = roots-narrow a.header (lent_tables a.nodes.now a.classes.now a.roots.now a.plains.now) w.requires in
+    let a = c.args in
+    let many = ap₂ ◌*◌ c.wide-phones.ensures c.wide.ensures in
+    let narrow = roots-narrow a.header (lent_tables a.nodes.now a.classes.now a.roots.now a.plains.now) c.requires in
     let all = c.number_all.auto.starts in
     record { sized = all; few = omega (arith, all, many, narrow) }
 
@@ -122,24 +120,19 @@ slice_bounds-put_book-end-3 c =
 
 pub put_book-requires : goal.put_book-requires
 put_book-requires c =
-    let numbered = c in
-    let starts = numbered.number_all.new.starts in
-    let w = numbered in
+    let starts = c.number_all.new.starts in
     let m = many (goal.at.put_book-requires c).After-collect_all-used (cut (goal.at.put_book-requires c).After-wide).lent in
     let r = roots-put (goal.at.put_book-requires c).After-number_all in (
       (cut (goal.at.put_book-requires c).After-wide).lent.stated.in-range.states_range.low,
       omega (arith, m.few, m.taken),
-      omega (arith, r.sized, r.few, length-take-le (w.wide-phones.result * w.wide.result) starts r.few),
+      omega (arith, r.sized, r.few, length-take-le (c.wide-phones.result * c.wide.result) starts r.few),
       plains-fit (cut (goal.at.put_book-requires c).After-wide).lent,
     )
 
 pub returns : goal.returns
 returns c =
-    let put = c in
-    let numbered = put in
-    let w = numbered in
     let same =
-    plain-written (cut (goal.at.returns c).After-wide).lent refl numbered.collect_all-used.ensures _ _ _
-    (sym (length-take-le _ _ (cut (goal.at.returns c).After-wide).roots)) numbered.number_all.ensures.table numbered.number_all.ensures.starts in
-    own_put w.args.header (tables (goal.at.returns c).After-wide) w.requires w.wide-held.ensures (roots-many (goal.at.returns c).After-wide)
-    w.wide-phones.ensures same put.put_book.ensures
+    plain-written (cut (goal.at.returns c).After-wide).lent refl c.collect_all-used.ensures _ _ _
+    (sym (length-take-le _ _ (cut (goal.at.returns c).After-wide).roots)) c.number_all.ensures.table c.number_all.ensures.starts in
+    own_put c.args.header (tables (goal.at.returns c).After-wide) c.requires c.wide-held.ensures (roots-many (goal.at.returns c).After-wide)
+    c.wide-phones.ensures same c.put_book.ensures

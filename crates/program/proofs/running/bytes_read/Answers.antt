@@ -9,5 +9,4 @@ returns-then-got-buffer c = sym (take_all c.args.got c.args.buffer.now (search r
 
 pub slice_bounds-result-end : goal.slice_bounds-result-end
 slice_bounds-result-end c =
-    let s = c in
-    sym (length-take-le s.args.got s.args.buffer.now (search rules))
+    sym (length-take-le c.args.got c.args.buffer.now (search rules))

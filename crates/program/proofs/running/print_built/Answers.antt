@@ -36,36 +36,24 @@ prints c answer output count f =
 
 pub print_network-requires : goal.print_network-requires
 print_network-requires c =
-    let told = c in
-    let built = told in
-    (printable (goal.at.print_network-requires c).After-build_book-answer _ told.in-Finished.is, search rules, built.requires.1)
+    (printable (goal.at.print_network-requires c).After-build_book-answer _ c.in-Finished.is, search rules, c.requires.1)
 
 pub returns-in-Finished : goal.returns-in-Finished
 returns-in-Finished c =
-    let done = c in
-    let told = done in
-    prints (goal.at.returns-in-Finished c).After-build_book-answer _ _ _ told.in-Finished.is done.print_network.ensures
+    prints (goal.at.returns-in-Finished c).After-build_book-answer _ _ _ c.in-Finished.is c.print_network.ensures
 
 pub print_network-requires-in-Stopped : goal.print_network-requires-in-Stopped
 print_network-requires-in-Stopped c =
-    let told = c in
-    let built = told in
-    (printable (goal.at.print_network-requires-in-Stopped c).After-build_book-answer _ told.in-Stopped.is, search rules, built.requires.1)
+    (printable (goal.at.print_network-requires-in-Stopped c).After-build_book-answer _ c.in-Stopped.is, search rules, c.requires.1)
 
 pub returns-in-Stopped : goal.returns-in-Stopped
 returns-in-Stopped c =
-    let done = c in
-    let told = done in
-    prints (goal.at.returns-in-Stopped c).After-build_book-answer _ _ _ told.in-Stopped.is done.print_network-in-Stopped.ensures
+    prints (goal.at.returns-in-Stopped c).After-build_book-answer _ _ _ c.in-Stopped.is c.print_network-in-Stopped.ensures
 
 pub print_refusal-requires : goal.print_refusal-requires
 print_refusal-requires c =
-    let told = c in
-    let built = told in
-    (printable (goal.at.print_refusal-requires c).After-build_book-answer _ told.in-Refused.is, built.requires.1)
+    (printable (goal.at.print_refusal-requires c).After-build_book-answer _ c.in-Refused.is, c.requires.1)
 
 pub returns-in-Refused : goal.returns-in-Refused
 returns-in-Refused c =
-    let done = c in
-    let told = done in
-    prints (goal.at.returns-in-Refused c).After-build_book-answer _ _ _ told.in-Refused.is done.print_refusal.ensures
+    prints (goal.at.returns-in-Refused c).After-build_book-answer _ _ _ c.in-Refused.is c.print_refusal.ensures

@@ -6,16 +6,12 @@ use Rattle.program.proofs.running.print_network.Goals as goal
 
 pub returns-in-Bytes : goal.returns-in-Bytes
 returns-in-Bytes c =
-    let wrote = c in
-    let s = wrote in
-    network-prints s.args.counts s.args.arcs.now s.args.output.now
-    s.requires.0 s.requires.1 s.requires.2 _ _
-    (sym c.in-Bytes.is ∙ written-told _ wrote.write.ensures.answer) wrote.write.ensures.leaves
+    network-prints c.args.counts c.args.arcs.now c.args.output.now
+    c.requires.0 c.requires.1 c.requires.2 _ _
+    (sym c.in-Bytes.is ∙ written-told _ c.write.ensures.answer) c.write.ensures.leaves
 
 pub returns-in-Refused : goal.returns-in-Refused
 returns-in-Refused c =
-    let wrote = c in
-    let s = wrote in
-    absurd (network-unrefused s.args.counts s.args.arcs.now s.args.output.now
-    s.requires.0 s.requires.1 s.requires.2 _
-    (sym c.in-Refused.is ∙ written-told _ wrote.write.ensures.answer))
+    absurd (network-unrefused c.args.counts c.args.arcs.now c.args.output.now
+    c.requires.0 c.requires.1 c.requires.2 _
+    (sym c.in-Refused.is ∙ written-told _ c.write.ensures.answer))

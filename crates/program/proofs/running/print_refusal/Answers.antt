@@ -4,8 +4,5 @@ use Rattle.program.proofs.running.print_refusal.Goals as goal
 
 pub returns : goal.returns
 returns c =
-    let wrote = c in
-    let numbered = wrote in
-    let s = numbered in
-    refusal-prints s.args.refusal _ s.args.output.now _ _ s.requires.0 s.requires.1
-    numbered.number.ensures wrote.write.ensures.answer wrote.write.ensures.leaves
+    refusal-prints c.args.refusal _ c.args.output.now _ _ c.requires.0 c.requires.1
+    c.number.ensures c.write.ensures.answer c.write.ensures.leaves

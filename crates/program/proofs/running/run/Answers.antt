@@ -14,10 +14,8 @@ print_all-length-requires c = cleared-empty
 
 pub returns : goal.returns
 returns c =
-    let read = c in
-    let s = read in
-    let printed = prints-same _ _ _ _ (ap program read.bytes_read.ensures) c.print_all-length.ensures in
+    let printed = prints-same _ _ _ _ (ap program c.bytes_read.ensures) c.print_all-length.ensures in
     let (sized, fits) = prints-fit _ _ _ printed (search rules) in
-    let room : length s.args.buffer.now ≡ 65537 = search rules in
-    let whole = prints-input s.args.buffer.now s.args.got _ _ room printed in
+    let room : length c.args.buffer.now ≡ 65537 = search rules in
+    let whole = prints-input c.args.buffer.now c.args.got _ _ room printed in
     record { prints = printed; demand = prints-demand _ _ _ printed; fits = (sized, fits); whole = whole }

@@ -8,19 +8,15 @@ nonzero_div-place c = some_state _ _ _ c.requires.0
 
 pub overflow_add-place : goal.overflow_add-place
 overflow_add-place c =
-    let start = c in
-    record { fits = omega (arith, phone_low _ _ _ start.requires.0 _ start.requires.1) }
+    record { fits = omega (arith, phone_low _ _ _ c.requires.0 _ c.requires.1) }
 
 pub nonzero_rem-place : goal.nonzero_rem-place
 nonzero_rem-place c = some_state _ _ _ c.requires.0
 
 pub overflow_add-place-2 : goal.overflow_add-place-2
 overflow_add-place-2 c =
-    let start = c in
-    record { fits = omega (arith, state_low _ _ _ start.requires.0 start.args.place) }
+    record { fits = omega (arith, state_low _ _ _ c.requires.0 c.args.place) }
 
 pub returns : goal.returns
 returns c =
-    let phone = c in
-    let start = phone in
-    force-here _ _ _ start.requires.0 _ start.requires.1 phone.tree_phone-phone.ensures c.root_of.ensures
+    force-here _ _ _ c.requires.0 _ c.requires.1 c.tree_phone-phone.ensures c.root_of.ensures

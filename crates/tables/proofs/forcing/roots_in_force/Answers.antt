@@ -29,24 +29,18 @@ root_in_force-requires c =
 
 pub bounds-forced-wide : goal.bounds-forced-wide
 bounds-forced-wide c =
-    let turn = c in
-    let start = turn in
-    let inv = turn.loop-place.invariant in
-    omega (arith, c.wide.ensures, inv.0, inv.1.filled.sized, start.requires.1)
+    let inv = c.loop-place.invariant in
+    omega (arith, c.wide.ensures, inv.0, inv.1.filled.sized, c.requires.1)
 
 pub overflow_add-place : goal.overflow_add-place
 overflow_add-place c =
-    let turn = c in
-    let start = turn in
-    record { fits = omega (arith, turn.loop-place.invariant.0, few _ start.requires.0.header-known) }
+    record { fits = omega (arith, c.loop-place.invariant.0, few _ c.requires.0.header-known) }
 
 pub loop-place-preserved : goal.loop-place-preserved
 loop-place-preserved c =
-    let turn = c in
-    let start = turn in
-    let inv = turn.loop-place.invariant in (
+    let inv = c.loop-place.invariant in (
       inv.0,
-      rw c.wide.ensures (forcing-more _ _ _ inv.1 start.requires.1 (omega (arith, inv.0))
+      rw c.wide.ensures (forcing-more _ _ _ inv.1 c.requires.1 (omega (arith, inv.0))
           c.root_in_force.ensures),
     )
 
@@ -55,5 +49,4 @@ shape_of-forced c = c.loop-place.invariant.1.filled.sized
 
 pub returns : goal.returns
 returns c =
-    let start = c in
-    forcing-end _ _ _ c.loop-place.invariant.1 start.requires.1 (omega (arith, c.loop-place.invariant.0))
+    forcing-end _ _ _ c.loop-place.invariant.1 c.requires.1 (omega (arith, c.loop-place.invariant.0))

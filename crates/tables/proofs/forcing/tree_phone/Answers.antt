@@ -6,11 +6,9 @@ use Rattle.tables.proofs.forcing.tree_phone.Goals as goal
 pub returns-then-plain-ne0 : goal.returns-then-plain-ne0
 unfolding tree_phone
 returns-then-plain-ne0 c =
-    let word = c in
-    rw (← word.from_zero.ensures, ← word.word_at-plain.ensures, ne_eqb _ 0 c.if-plain-ne0.true)
+    rw (← c.from_zero.ensures, ← c.word_at-plain.ensures, ne_eqb _ 0 c.if-plain-ne0.true)
 
 pub returns : goal.returns
 unfolding tree_phone
 returns c =
-    let word = c in
-    rw (← word.from_zero.ensures, ← word.word_at-plain.ensures, eq-eqb _ 0 c.if-plain-ne0.false)
+    rw (← c.from_zero.ensures, ← c.word_at-plain.ensures, eq-eqb _ 0 c.if-plain-ne0.false)

@@ -11,20 +11,16 @@ use Rattle.tables.proofs.foreign.list_known.Goals as goal
 use Rattle.tables.proofs.foreign.list_known.Goals.{Else-count-wide, Else-not-class_table_known, Else-not-header_known}
 
 header-held : (c : goal.Else-not-header_known)
-    → let start = c in
-    header_known start.args.header ≡ true
+    → header_known c.args.header ≡ true
 header-held c = held c.header_known.ensures (not_from_true _ c.if-not-header_known.false)
 
 counted : (c : goal.Else-count-wide)
-    → let start = c in
-    eqb start.args.count start.args.header.nodes ≡ true
+    → eqb c.args.count c.args.header.nodes ≡ true
 counted c =
-    let start = c in
-    eq-eqb start.args.count start.args.header.nodes (c.if-count-wide.false ∙ c.wide.ensures)
+    eq-eqb c.args.count c.args.header.nodes (c.if-count-wide.false ∙ c.wide.ensures)
 
 classes-held : (c : goal.Else-not-class_table_known)
-    → let start = c in
-    class_table_known start.args.header start.args.classes.now ≡ true
+    → class_table_known c.args.header c.args.classes.now ≡ true
 classes-held c = held c.class_table_known.ensures (not_from_true _ c.if-not-class_table_known.false)
 
 pub returns-then-not-header_known : goal.returns-then-not-header_known
@@ -32,8 +28,7 @@ returns-then-not-header_known c = rw (failed c.header_known.ensures (not_from_fa
 
 pub returns-then-count-wide : goal.returns-then-count-wide
 returns-then-count-wide c =
-    let start = c in
-    let other = ne_eqb start.args.count start.args.header.nodes
+    let other = ne_eqb c.args.count c.args.header.nodes
     (λ e. c.if-count-wide.true (e ∙ sym c.wide.ensures)) in
     rw (header-held (goal.at.returns-then-count-wide c).Else-not-header_known, other)
 
@@ -50,6 +45,4 @@ returns-then-not-class_table_known c =
 
 pub returns : goal.returns
 returns c =
-    let classes = c in
-    let count = classes in
     rw (header-held (goal.at.returns c).Else-not-header_known, counted (goal.at.returns c).Else-count-wide, classes-held (goal.at.returns c).Else-not-class_table_known)

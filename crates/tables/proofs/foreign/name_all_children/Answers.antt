@@ -9,10 +9,8 @@ loop-at-init c = children-start _ _ _
 
 pub loop-at-preserved : goal.loop-at-preserved
 loop-at-preserved c =
-    let called = c in
-    let found = called in
-    children-more found.loop-at.invariant (search rules) found.node_at.ensures
-    called.name_children.ensures
+    children-more c.loop-at.invariant (search rules) c.node_at.ensures
+    c.name_children.ensures
 
 pub shape_of-counts : goal.shape_of-counts
 shape_of-counts c = c.loop-at.invariant.sized

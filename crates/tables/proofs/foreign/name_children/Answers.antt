@@ -7,7 +7,5 @@ returns-then-node-ne1 c = children-none _ _ c.if-node-ne1.true
 
 pub returns : goal.returns
 returns c =
-    let second = c in
-    let first = second in
-    children-both _ _ first.if-node-ne1.false first.name_node.ensures
-    second.name_node-2.ensures
+    children-both _ _ c.if-node-ne1.false c.name_node.ensures
+    c.name_node-2.ensures

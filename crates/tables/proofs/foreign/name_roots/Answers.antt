@@ -8,8 +8,7 @@ loop-i-init c = roots-start _ _
 
 pub loop-i-preserved : goal.loop-i-preserved
 loop-i-preserved c =
-    let called = c in
-    roots-more called.loop-i.invariant (search rules) called.name_node.ensures
+    roots-more c.loop-i.invariant (search rules) c.name_node.ensures
 
 pub shape_of-counts : goal.shape_of-counts
 shape_of-counts c = c.loop-i.invariant.sized

@@ -13,17 +13,14 @@ use Rattle.tables.proofs.foreign.named_once.Goals.{After-wide-count}
 
 pub overflow_mul-used : goal.overflow_mul-used
 overflow_mul-used c =
-    let start = c in
-    let count = root-count start.args.header c.wide.ensures c.wide-2.ensures in
-    let few = roots_few start.args.header (header-ranges start.args.header start.requires.0) in
+    let count = root-count c.args.header c.wide.ensures c.wide-2.ensures in
+    let few = roots_few c.args.header (header-ranges c.args.header c.requires.0) in
     record { fits = omega (arith, count, few) }
 
 pub slice_bounds-name_roots-end-2 : goal.slice_bounds-name_roots-end-2
 slice_bounds-name_roots-end-2 c =
-    let second = c in
-    let start = second in
-    roots-taken _ _ (root-count start.args.header second.wide.ensures second.wide-2.ensures)
-    start.requires.1
+    roots-taken _ _ (root-count c.args.header c.wide.ensures c.wide-2.ensures)
+    c.requires.1
 
 -- as many counts as nodes
 counted : (c : After-wide-count) → c.wide-count.result ≤ length c.name_roots.new.counts
@@ -45,11 +42,6 @@ slice_bounds-first_misnamed-end c =
 
 pub returns : goal.returns
 returns c =
-    let third = c in
-    let roots = third in
-    let second = roots in
-    let children = second in
-    let start = children in
-    once-counted _ _ _ start.requires.0 (root-count _ second.wide.ensures second.wide-2.ensures)
-    third.wide-count.ensures children.name_all_children.ensures roots.name_roots.ensures
+    once-counted _ _ _ c.requires.0 (root-count _ c.wide.ensures c.wide-2.ensures)
+    c.wide-count.ensures c.name_all_children.ensures c.name_roots.ensures
     c.first_misnamed.ensures

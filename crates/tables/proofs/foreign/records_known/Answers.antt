@@ -9,13 +9,11 @@ use Rattle.tables.proofs.foreign.records_known.Goals as goal
 use Rattle.tables.proofs.foreign.records_known.Goals.{Else-not-header_known, Else-not-node_table_known}
 
 header-held : (c : goal.Else-not-header_known)
-    → let start = c in
-    header_known start.args.header ≡ true
+    → header_known c.args.header ≡ true
 header-held c = held c.header_known.ensures (not_from_true _ c.if-not-header_known.false)
 
 nodes-held : (c : goal.Else-not-node_table_known)
-    → let start = c in
-    node_table_known start.args.header start.args.nodes.now ≡ true
+    → node_table_known c.args.header c.args.nodes.now ≡ true
 nodes-held c = held c.node_table_known.ensures (not_from_true _ c.if-not-node_table_known.false)
 
 pub returns-then-not-header_known : goal.returns-then-not-header_known
@@ -33,5 +31,4 @@ class_table_known-requires c = rw (header-held (goal.at.class_table_known-requir
 
 pub returns : goal.returns
 returns c =
-    let nodes = c in
     rw (header-held (goal.at.returns c).Else-not-header_known, nodes-held (goal.at.returns c).Else-not-node_table_known) c.class_table_known.ensures

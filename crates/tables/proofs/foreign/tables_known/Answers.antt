@@ -52,7 +52,6 @@ root_table_known-requires c = header-held (goal.at.root_table_known-requires c).
 pub returns-then-not-root_table_known : goal.returns-then-not-root_table_known
 unfolding tables_known
 returns-then-not-root_table_known c =
-    let plains = c in
     rw (
       records-held (goal.at.returns-then-not-root_table_known c).Else-not-records_known,
       plains-held (goal.at.returns-then-not-root_table_known c).Else-not-plain_table_known,
@@ -61,8 +60,7 @@ returns-then-not-root_table_known c =
 
 pub named_once-requires : goal.named_once-requires
 named_once-requires c =
-    let records = c in
-    let a = records.args in
+    let a = c.args in
     let plains = take a.header.phones a.plains.now in
     let (words, _) = root-table-parts a.header a.roots.now plains (rw (roots-held (goal.at.named_once-requires c).Else-not-root_table_known) tt) in
     (header-held (goal.at.named_once-requires c).Else-not-records_known, (holds-padded (root_count a.header) a.roots.now words).0)
@@ -70,6 +68,4 @@ named_once-requires c =
 pub returns : goal.returns
 unfolding tables_known named_once tables_contents
 returns c =
-    let roots = c in
-    let plains = roots in
     rw (records-held (goal.at.returns c).Else-not-records_known, plains-held (goal.at.returns c).Else-not-plain_table_known, roots-held (goal.at.returns c).Else-not-root_table_known) c.named_once.ensures

@@ -10,25 +10,21 @@ use Rattle.tables.proofs.known.node_table_known.Goals as goal
 pub returns-then-not-holds_only : goal.returns-then-not-holds_only
 unfolding node_table_known
 returns-then-not-holds_only c =
-    let called = c in
-    rw (← called.wide.ensures, failed called.holds_only.ensures (not_from_false _ c.if-not-holds_only.true))
+    rw (← c.wide.ensures, failed c.holds_only.ensures (not_from_false _ c.if-not-holds_only.true))
 
 pub loop-at-init : goal.loop-at-init
 loop-at-init c =
-    let called = c in
-    nodes-held _ _ called.wide.ensures
-    (held called.holds_only.ensures (not_from_true _ c.if-not-holds_only.false))
+    nodes-held _ _ c.wide.ensures
+    (held c.holds_only.ensures (not_from_true _ c.if-not-holds_only.false))
 
 pub returns-then-not-record_known : goal.returns-then-not-record_known
 returns-then-not-record_known c =
-    let turn = c in
-    nodes-stop turn.loop-at.invariant (search rules) turn.node_at.ensures
+    nodes-stop c.loop-at.invariant (search rules) c.node_at.ensures
     (failed c.record_known.ensures (not_from_false _ c.if-not-record_known.true))
 
 pub loop-at-preserved : goal.loop-at-preserved
 loop-at-preserved c =
-    let turn = c in
-    nodes-more turn.loop-at.invariant (search rules) turn.node_at.ensures
+    nodes-more c.loop-at.invariant (search rules) c.node_at.ensures
     (held c.record_known.ensures (not_from_true _ c.if-not-record_known.false))
 
 pub returns : goal.returns

@@ -11,17 +11,13 @@ use Rattle.tables.proofs.known.plain_table_known.Goals as goal
 pub returns-then-not-holds_only : goal.returns-then-not-holds_only
 unfolding plain_table_known
 returns-then-not-holds_only c =
-    let called = c in
-    rw (← called.wide-phones.ensures, failed called.holds_only.ensures (not_from_false _ c.if-not-holds_only.true))
+    rw (← c.wide-phones.ensures, failed c.holds_only.ensures (not_from_false _ c.if-not-holds_only.true))
 
 pub slice_bounds-plains_known-end : goal.slice_bounds-plains_known-end
 slice_bounds-plains_known-end c =
-    let passed = c in
-    holds-taken _ _ (held passed.holds_only.ensures (not_from_true _ passed.if-not-holds_only.false))
+    holds-taken _ _ (held c.holds_only.ensures (not_from_true _ c.if-not-holds_only.false))
 
 pub returns : goal.returns
 returns c =
-    let passed = c in
-    let called = passed in
     c.plains_known.ensures
-    ∙ plains-left _ _ called.wide-phones.ensures (held called.holds_only.ensures (not_from_true _ passed.if-not-holds_only.false))
+    ∙ plains-left _ _ c.wide-phones.ensures (held c.holds_only.ensures (not_from_true _ c.if-not-holds_only.false))

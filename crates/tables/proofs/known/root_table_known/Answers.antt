@@ -14,39 +14,30 @@ use Rattle.tables.proofs.known.root_table_known.Goals as goal
 
 pub overflow_mul-roots : goal.overflow_mul-roots
 overflow_mul-roots c =
-    let start = c in
-    let count = root-count start.args.header c.wide.ensures c.wide-2.ensures in
-    let few = roots_few start.args.header (header-ranges start.args.header start.requires) in
+    let count = root-count c.args.header c.wide.ensures c.wide-2.ensures in
+    let few = roots_few c.args.header (header-ranges c.args.header c.requires) in
     record { fits = omega (arith, count, few) }
 
 pub returns-then-not-holds_only : goal.returns-then-not-holds_only
 unfolding root_table_known root_count
 returns-then-not-holds_only c =
-    let called = c in
-    let second = called in
     rw (
-      ← second.wide.ensures,
-      ← second.wide-2.ensures,
-      failed called.holds_only.ensures (not_from_false _ c.if-not-holds_only.true),
+      ← c.wide.ensures,
+      ← c.wide-2.ensures,
+      failed c.holds_only.ensures (not_from_false _ c.if-not-holds_only.true),
     )
 
 pub slice_bounds-roots_known-end : goal.slice_bounds-roots_known-end
 slice_bounds-roots_known-end c =
-    let passed = c in
-    holds-taken _ _ (held passed.holds_only.ensures (not_from_true _ passed.if-not-holds_only.false))
+    holds-taken _ _ (held c.holds_only.ensures (not_from_true _ c.if-not-holds_only.false))
 
 pub roots_known-requires : goal.roots_known-requires
 roots_known-requires c =
-    let passed = c in
-    let second = passed in
-    sym (root-count _ second.wide.ensures second.wide-2.ensures)
-    ∙ holds-taken _ _ (held passed.holds_only.ensures (not_from_true _ passed.if-not-holds_only.false))
+    sym (root-count _ c.wide.ensures c.wide-2.ensures)
+    ∙ holds-taken _ _ (held c.holds_only.ensures (not_from_true _ c.if-not-holds_only.false))
 
 pub returns : goal.returns
 returns c =
-    let passed = c in
-    let called = passed in
-    let second = called in
     c.roots_known.ensures
-    ∙ roots-left _ _ _ (root-count _ second.wide.ensures second.wide-2.ensures)
-    (held called.holds_only.ensures (not_from_true _ passed.if-not-holds_only.false))
+    ∙ roots-left _ _ _ (root-count _ c.wide.ensures c.wide-2.ensures)
+    (held c.holds_only.ensures (not_from_true _ c.if-not-holds_only.false))

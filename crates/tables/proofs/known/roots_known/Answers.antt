@@ -43,19 +43,15 @@ slice_bounds-roots_given-end c = omega (arith, inside (goal.at.slice_bounds-root
 
 pub returns-then-not-roots_given : goal.returns-then-not-roots_given
 returns-then-not-roots_given c =
-    let called = c in
-    let turn = called in
-    roots-stop _ _ turn.requires _ (phone (goal.at.returns-then-not-roots_given c).In-loop-i) turn.wide-states.ensures _
-    turn.loop-i.invariant called.word_at.ensures
-    (failed called.roots_given.ensures (not_from_false _ c.if-not-roots_given.true))
+    roots-stop _ _ c.requires _ (phone (goal.at.returns-then-not-roots_given c).In-loop-i) c.wide-states.ensures _
+    c.loop-i.invariant c.word_at.ensures
+    (failed c.roots_given.ensures (not_from_false _ c.if-not-roots_given.true))
 
 pub loop-i-preserved : goal.loop-i-preserved
 loop-i-preserved c =
-    let called = c in
-    let turn = called in
-    roots-more _ _ turn.requires _ (phone (goal.at.loop-i-preserved c).In-loop-i) turn.wide-states.ensures _
-    turn.loop-i.invariant called.word_at.ensures
-    (held called.roots_given.ensures (not_from_true _ c.if-not-roots_given.false))
+    roots-more _ _ c.requires _ (phone (goal.at.loop-i-preserved c).In-loop-i) c.wide-states.ensures _
+    c.loop-i.invariant c.word_at.ensures
+    (held c.roots_given.ensures (not_from_true _ c.if-not-roots_given.false))
 
 pub returns : goal.returns
 returns c =

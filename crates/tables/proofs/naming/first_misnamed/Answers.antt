@@ -7,13 +7,11 @@ use Rattle.tables.proofs.naming.first_misnamed.Goals as goal
 
 pub returns-then-counts-node-ne1 : goal.returns-then-counts-node-ne1
 returns-then-counts-node-ne1 c =
-    let at = c in
-    sym (at.loop-node.invariant.1 ∙ misnamed-here _ _ (search rules) c.if-counts-node-ne1.true)
+    sym (c.loop-node.invariant.1 ∙ misnamed-here _ _ (search rules) c.if-counts-node-ne1.true)
 
 pub loop-node-preserved : goal.loop-node-preserved
 loop-node-preserved c =
-    let at = c in
-    (search rules, at.loop-node.invariant.1 ∙ misnamed-more _ _ (search rules) (search rules))
+    (search rules, c.loop-node.invariant.1 ∙ misnamed-more _ _ (search rules) (search rules))
 
 pub returns : goal.returns
 returns c = sym (c.loop-node.invariant.1 ∙ misnamed-end _ _ (search rules))

@@ -10,5 +10,4 @@ returns-then-header-plain c = rw (lt-leb _ _ c.if-header-plain.true)
 pub returns : goal.returns
 unfolding plain_known
 returns c =
-    let place = c in
-    rw (le-leb _ _ place.if-header-plain.false, ← place.from_zero.ensures, ← c.word_at.ensures)
+    rw (le-leb _ _ c.if-header-plain.false, ← c.from_zero.ensures, ← c.word_at.ensures)

@@ -8,11 +8,9 @@ returns-then-all_below c = rw (sym c.all_below.ensures ∙ c.if-all_below.true)
 
 pub returns-then-plain-eq0 : goal.returns-then-plain-eq0
 returns-then-plain-eq0 c =
-    let below = c in
-    rw (sym below.all_below.ensures ∙ below.if-all_below.false, eq-eqb _ 0 c.if-plain-eq0.true)
+    rw (sym c.all_below.ensures ∙ c.if-all_below.false, eq-eqb _ 0 c.if-plain-eq0.true)
 
 pub returns : goal.returns
 returns c =
-    let below = c in
-    rw (sym below.all_below.ensures ∙ below.if-all_below.false, ne_eqb _ 0 c.if-plain-eq0.false)
+    rw (sym c.all_below.ensures ∙ c.if-all_below.false, ne_eqb _ 0 c.if-plain-eq0.false)
     c.all_left_out.ensures

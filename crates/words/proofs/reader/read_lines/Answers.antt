@@ -7,27 +7,24 @@ use Rattle.std.proofs.lemmas.Bool.{not_from_true}
 use Rattle.std.proofs.lemmas.Bool.{not_from_false}
 use Rattle.words.proofs.reader.read_lines.Goals as goal
 
-pub returns-then-not-whole_lines-clause-answer : goal.returns-then-not-whole_lines-clause-answer
-returns-then-not-whole_lines-clause-answer c = (torn-returns _ _ (failed c.whole_lines.ensures (not_from_false _ c.if-not-whole_lines.true))).0
-
-pub returns-then-not-whole_lines-clause-words : goal.returns-then-not-whole_lines-clause-words
-returns-then-not-whole_lines-clause-words c = (torn-returns _ _ (failed c.whole_lines.ensures (not_from_false _ c.if-not-whole_lines.true))).1
+pub returns-then-not-whole_lines : goal.returns-then-not-whole_lines
+returns-then-not-whole_lines c =
+    let all =
+    torn-returns _ _ (failed c.whole_lines.ensures (not_from_false _ c.if-not-whole_lines.true)) in
+    record { answer = all.0; words = all.1 }
 
 pub loop-i-init : goal.loop-i-init
 loop-i-init c =
     first-turn _ _ (held c.whole_lines.ensures (not_from_true _ c.if-not-whole_lines.false)) c.requires
 
-pub returns-in-Stop-clause-answer : goal.returns-in-Stop-clause-answer
-returns-in-Stop-clause-answer c = (let taken = c.take_line-step.ensures in
+pub returns-in-Stop : goal.returns-in-Stop
+returns-in-Stop c =
+    let taken = c.take_line-step.ensures in
     let at = c.loop-i in
+    let all =
     stop-returns at.invariant _ _ _ _ (next-bytes _ at.i) c.loop-i-test.true taken.step
-    c.in-Stop.is taken.words).0
-
-pub returns-in-Stop-clause-words : goal.returns-in-Stop-clause-words
-returns-in-Stop-clause-words c = (let taken = c.take_line-step.ensures in
-    let at = c.loop-i in
-    stop-returns at.invariant _ _ _ _ (next-bytes _ at.i) c.loop-i-test.true taken.step
-    c.in-Stop.is taken.words).1
+    c.in-Stop.is taken.words in
+    record { answer = all.0; words = all.1 }
 
 pub loop-i-preserved : goal.loop-i-preserved
 loop-i-preserved c =
@@ -36,8 +33,8 @@ loop-i-preserved c =
     turn-next at.invariant _ _ _ _ (next-bytes _ at.i) c.loop-i-test.true taken.step
     c.in-Next.is taken.words
 
-pub returns-clause-answer : goal.returns-clause-answer
-returns-clause-answer c = (end_returns c.loop-i.invariant _ c.loop-i-test.false c.finish.ensures).0
-
-pub returns-clause-words : goal.returns-clause-words
-returns-clause-words c = (end_returns c.loop-i.invariant _ c.loop-i-test.false c.finish.ensures).1
+pub returns : goal.returns
+returns c =
+    let all =
+    end_returns c.loop-i.invariant _ c.loop-i-test.false c.finish.ensures in
+    record { answer = all.0; words = all.1 }

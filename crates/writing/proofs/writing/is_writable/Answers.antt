@@ -38,18 +38,15 @@ loop-i-init c = passed_start _ _
 
 pub returns-then-numbers-i-gt-MOST_NUMBER : goal.returns-then-numbers-i-gt-MOST_NUMBER
 returns-then-numbers-i-gt-MOST_NUMBER c =
-    let turn = c in
-    passed-stop 0 turn.loop-i.invariant (omega (arith, many (goal.at.returns-then-numbers-i-gt-MOST_NUMBER c).At-loop-i))
+    passed-stop 0 c.loop-i.invariant (omega (arith, many (goal.at.returns-then-numbers-i-gt-MOST_NUMBER c).At-loop-i))
     (rw (number_at (goal.at.returns-then-numbers-i-gt-MOST_NUMBER c).In-loop-i) (lt-leb _ _ c.if-numbers-i-gt-MOST_NUMBER.true))
     ∙ writable-few (row_at (goal.at.returns-then-numbers-i-gt-MOST_NUMBER c).At-loop-i) (omega arith)
 
 pub loop-i-preserved : goal.loop-i-preserved
 loop-i-preserved c =
-    let turn = c in
-    passed-more 0 turn.loop-i.invariant (omega (arith, many (goal.at.loop-i-preserved c).At-loop-i))
+    passed-more 0 c.loop-i.invariant (omega (arith, many (goal.at.loop-i-preserved c).At-loop-i))
     (rw (number_at (goal.at.loop-i-preserved c).In-loop-i) (le-leb _ _ c.if-numbers-i-gt-MOST_NUMBER.false))
 
 pub returns : goal.returns
 returns c =
-    let last = c in
-    passed-end last.loop-i.invariant (omega (arith, many (goal.at.returns c).At-loop-i)) ∙ writable-few (row_at (goal.at.returns c).At-loop-i) (omega arith)
+    passed-end c.loop-i.invariant (omega (arith, many (goal.at.returns c).At-loop-i)) ∙ writable-few (row_at (goal.at.returns c).At-loop-i) (omega arith)

@@ -16,15 +16,13 @@ use Rattle.writing.proofs.writing.write.Goals.{After-slice_known-2-1, Else-not-i
 
 pub returns-then-bytes-lt32 : goal.returns-then-bytes-lt32
 returns-then-bytes-lt32 c =
-    let start = c in
-    record { answer = rw (lt-leb 32 (length start.args.bytes.now) c.if-bytes-lt32.true); leaves = refl }
+    record { answer = rw (lt-leb 32 (length c.args.bytes.now) c.if-bytes-lt32.true); leaves = refl }
 
 pub returns-then-not-is_writable : goal.returns-then-not-is_writable
 returns-then-not-is_writable c =
-    let start = c in
     let called = c.is_writable in
-    let unfit : writable start.args.row ≡ false = failed called.ensures (not_from_false _ c.if-not-is_writable.true) in
-    record { answer = rw (le-leb 32 (length start.args.bytes.now) (omega arith), unfit); leaves = refl }
+    let unfit : writable c.args.row ≡ false = failed called.ensures (not_from_false _ c.if-not-is_writable.true) in
+    record { answer = rw (le-leb 32 (length c.args.bytes.now) (omega arith), unfit); leaves = refl }
 
 pub slice_bounds-write_fields-end : goal.slice_bounds-write_fields-end
 slice_bounds-write_fields-end c = simp length-set (omega arith)
@@ -35,8 +33,7 @@ fit c = held c.is_writable.ensures (not_from_true _ c.if-not-is_writable.false)
 
 pub write_fields-requires : goal.write_fields-requires
 write_fields-requires c =
-    let start = c in
-    (fit (goal.at.write_fields-requires c).Else-not-is_writable, middle-length start.args.bytes.now start.args.row.letter (omega arith))
+    (fit (goal.at.write_fields-requires c).Else-not-is_writable, middle-length c.args.bytes.now c.args.row.letter (omega arith))
 
 -- what was lent came back as long as it was, and so has the whole its length
 thirty : (c : goal.After-slice_known-2-1) → length c.write_fields.new.bytes ≡ 30

@@ -8,20 +8,17 @@ use Rattle.writing.proofs.writing.write_field.Goals as goal
 
 pub returns-then-used-field : goal.returns-then-used-field
 returns-then-used-field c =
-    let start = c in
-    let five : length start.args.row.numbers ≡ 5 = search rules in
-    let blank = blank-field start.args.row start.requires.0 five start.args.field in
-    c.write_spaces.ensures ∙ rw start.requires.2 (blank (omega arith) (omega arith))
+    let five : length c.args.row.numbers ≡ 5 = search rules in
+    let blank = blank-field c.args.row c.requires.0 five c.args.field in
+    c.write_spaces.ensures ∙ rw c.requires.2 (blank (omega arith) (omega arith))
 
 pub write_number-requires : goal.write_number-requires
 write_number-requires c =
-    let start = c in
-    let five : length start.args.row.numbers ≡ 5 = search rules in
-    (row_number start.args.row start.requires.0 five start.args.field (omega arith), start.requires.2)
+    let five : length c.args.row.numbers ≡ 5 = search rules in
+    (row_number c.args.row c.requires.0 five c.args.field (omega arith), c.requires.2)
 
 pub returns : goal.returns
 returns c =
-    let start = c in
-    let five : length start.args.row.numbers ≡ 5 = search rules in
+    let five : length c.args.row.numbers ≡ 5 = search rules in
     c.write_number.ensures
-    ∙ number-field start.args.row start.requires.0 five start.args.field (omega arith)
+    ∙ number-field c.args.row c.requires.0 five c.args.field (omega arith)

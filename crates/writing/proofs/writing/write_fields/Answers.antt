@@ -18,12 +18,11 @@ loop-field-init c = filled-start _ _
 pub loop-field-preserved : goal.loop-field-preserved
 loop-field-preserved c =
     let at = c.loop-field in
-    let start = c in
-    let text : List ℕ = fields_text (line_in start.args.row).numbers in
-    let five : length start.args.row.numbers ≡ 5 = search rules in
-    let size : length text ≡ 30 = row-length start.args.row start.requires.0 five in
+    let text : List ℕ = fields_text (line_in c.args.row).numbers in
+    let five : length c.args.row.numbers ≡ 5 = search rules in
+    let size : length text ≡ 30 = row-length c.args.row c.requires.0 five in
     let part = c.write_field in
-    let put = part-put 6 at.field text start.args.bytes.now at.bytes part.new.bytes in
+    let put = part-put 6 at.field text c.args.bytes.now at.bytes part.new.bytes in
     record {
       within = omega arith;
       sized = search rules;
@@ -32,7 +31,6 @@ loop-field-preserved c =
 
 pub returns : goal.returns
 returns c =
-    let start = c in
-    let five : length start.args.row.numbers ≡ 5 = search rules in
-    let size = row-length start.args.row start.requires.0 five in
-    filled-end (size ∙ sym start.requires.1) c.loop-field.invariant (search rules)
+    let five : length c.args.row.numbers ≡ 5 = search rules in
+    let size = row-length c.args.row c.requires.0 five in
+    filled-end (size ∙ sym c.requires.1) c.loop-field.invariant (search rules)
