@@ -7,3 +7,4 @@ pub mod Books
 pub mod Trees
 pub mod Networks
 pub mod Words
+pub mod Results

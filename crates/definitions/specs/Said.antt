@@ -1,7 +1,7 @@
 -- Document 01, "Fault numbers": what an answer says in numbers, by its outcome. "A refusal returns its number and
 -- line (0 where no line is meant), counts of 0". "Where an answer is an enum", a definition beside it "gives this
 -- paper's number and values for each of its cases"; the structs for C hold them.
-use Rattle.std.specs.Prelude.{Bool, true, false, ℕ, ◌*◌}
+use Rattle.std.specs.Prelude.{Bool, true, false, ℕ, ◌*◌, Result, Ok, Err}
 use Rattle.definitions.specs.declared.Counts.{Counts}
 use Rattle.definitions.specs.declared.Refusal.{Refusal}
 use Rattle.definitions.specs.Faults.{Outcome, answered, refused, number_of}
@@ -30,6 +30,16 @@ refusal_said nothing r = record { fault = number_of r.fault; line = r.line; valu
 unfoldable pub said_of : {A B : Type 0} → (says : A → B) → (nothing : B) → Outcome A → Said B
 said_of says nothing (answered a) = answer_said (says a)
 said_of says nothing (refused r) = refusal_said nothing r
+
+-- an answer as the code gives it: what is said of it, or the refusal
+unfoldable pub result_of : {A B : Type 0} → (says : A → B) → Outcome A → Result B Refusal
+result_of says (answered a) = Ok (says a)
+result_of says (refused r) = Err r
+
+-- and in numbers
+abbrev pub result_said : {A B : Type 0} → (values : A → B) → (nothing : B) → Result A Refusal → Said B
+result_said values nothing (Ok a) = answer_said (values a)
+result_said values nothing (Err r) = refusal_said nothing r
 
 -- ---- the values of a build and of a part; those of the other answers are a header, counts or one number
 

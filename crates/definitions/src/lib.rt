@@ -7,6 +7,8 @@ pub mod sizes;
 ghost use Rattle.std.specs.Prelude.{◌≡◌};
 ghost use Rattle.definitions.specs.Faults.{number_of};
 
+use std::fmt;
+
 // How many words a node and an arc take, and a matrix where it is a value.
 pub const NODE_SIZE: usize = 5;
 
@@ -48,7 +50,7 @@ pub const MOST_NUMBER: u32 = 999999;
 
 // The numbers of an H line.
 #[repr(C)]
-#[derive(Clone, Copy)]
+#[derive(Clone, Copy, PartialEq, Eq)]
 pub struct Header {
     // The half-width n: a context has 2n+1 phones.
     pub half: u32,
@@ -61,7 +63,7 @@ pub struct Header {
 
 // The five words of a node record; the last three are 0 at a leaf.
 #[repr(C)]
-#[derive(Clone, Copy)]
+#[derive(Clone, Copy, PartialEq, Eq)]
 pub struct Node {
     // 1 for a question, 2 for a leaf.
     pub kind: u32,
@@ -74,7 +76,7 @@ pub struct Node {
 
 // The numbers of a W line.
 #[repr(C)]
-#[derive(Clone, Copy)]
+#[derive(Clone, Copy, PartialEq, Eq)]
 pub struct Counts {
     // States per metastate, k.
     pub states: u32,
@@ -83,7 +85,7 @@ pub struct Counts {
 }
 
 // The faults of documents 01 and 02, by their words and in the order of their numbers.
-#[derive(Clone, Copy)]
+#[derive(Clone, Copy, PartialEq, Eq)]
 pub enum Fault {
     Ragged,
     Misprint,
@@ -106,35 +108,63 @@ pub enum Fault {
 }
 
 // A fault and the line it was met at, 0 where no line is meant.
-#[derive(Clone, Copy)]
+#[derive(Clone, Copy, PartialEq, Eq)]
 pub struct Refusal {
     pub fault: Fault,
     pub line: usize,
 }
 
+impl Fault {
+    // The refusal at a line.
+    pub fn at(self, line: usize) -> Refusal
+        ensures { result ≡ record { fault = self; line = line } }
+    {
+        Refusal { fault: self, line }
+    }
+}
+
+// Where no line is meant.
+impl From<Fault> for Refusal {
+    ghost from_gives = { λ fault refusal. refusal ≡ record { fault = fault; line = 0 } };
+
+    fn from(fault: Fault) -> Refusal {
+        fault.at(0)
+    }
+}
+
 // The number that the documents give to a fault.
-pub fn number(fault: Fault) -> u32
-    ensures { result ≡ number_of fault }
-{
-    match fault {
-        Fault::Ragged => 11,
-        Fault::Misprint => 12,
-        Fault::Range => 13,
-        Fault::Order => 14,
-        Fault::Backward => 15,
-        Fault::Orphan => 16,
-        Fault::Count => 17,
-        Fault::Foreign => 18,
-        Fault::Narrow => 20,
-        Fault::Chained => 21,
-        Fault::Long => 22,
-        Fault::Choices => 30,
-        Fault::Crowd => 31,
-        Fault::Tangle => 32,
-        Fault::Short => 33,
-        Fault::Utterance => 41,
-        Fault::State => 42,
-        Fault::Vocabulary => 51,
+impl From<Fault> for u32 {
+    ghost from_gives = { λ fault number. number ≡ number_of fault };
+
+    fn from(fault: Fault) -> u32 {
+        match fault {
+            Fault::Ragged => 11,
+            Fault::Misprint => 12,
+            Fault::Range => 13,
+            Fault::Order => 14,
+            Fault::Backward => 15,
+            Fault::Orphan => 16,
+            Fault::Count => 17,
+            Fault::Foreign => 18,
+            Fault::Narrow => 20,
+            Fault::Chained => 21,
+            Fault::Long => 22,
+            Fault::Choices => 30,
+            Fault::Crowd => 31,
+            Fault::Tangle => 32,
+            Fault::Short => 33,
+            Fault::Utterance => 41,
+            Fault::State => 42,
+            Fault::Vocabulary => 51,
+        }
+    }
+}
+
+// As number and line.
+impl fmt::Display for Refusal {
+    fn fmt<W: fmt::Write>(&self, f: &mut fmt::Formatter<W>) -> fmt::Result {
+        let number = u32::from(self.fault);
+        write!(f, "{number} at line {}", self.line)
     }
 }
 
