@@ -14,10 +14,10 @@ bounds-index-i c =
 pub loop-i-preserved : goal.loop-i-preserved
 loop-i-preserved c =
     let (sized, room) = c.requires in
-    noted_more c.loop-i.invariant c.loop-i-test.true room c.wide.ensures
+    noted_more c.loop-i.invariant (omega (arith, sized, c.loop-i-test.true)) room c.from.ensures
 
 pub shape_of-index : goal.shape_of-index
 shape_of-index c = c.loop-i.invariant.sized
 
 pub returns : goal.returns
-returns c = noted-all c.loop-i.invariant c.loop-i-test.false
+returns c = let (sized, room) = c.requires in noted-all c.loop-i.invariant (omega (arith, sized, c.loop-i-test.false))

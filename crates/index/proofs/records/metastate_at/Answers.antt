@@ -31,5 +31,5 @@ returns c =
     let cut = own (goal.at.returns c).After-record_at-record in
     record {
       number_is = ap (λ (l : List ℕ). l ! 0) cut.is;
-      columns_are = c.matrix_at-met.ensures ∙ ap (λ (l : List ℕ). first_seven (drop 1 l)) cut.is;
+      columns_are = c.matrix_at.ensures ∙ ap (λ (l : List ℕ). first_seven (drop 1 l)) cut.is;
     }

@@ -44,5 +44,5 @@ overflow_cast-record c = record { fits = omega (arith, word-is (goal.at.overflow
 
 pub returns : goal.returns
 returns c =
-    ap (λ (node : Node). node.value) c.node_at-leaf.ensures
+    ap (λ (node : Node). node.value) c.node_at.ensures
     ∙ ap (λ (k : ℕ). (node_of (drop (node_size * k) c.args.nodes.now)).value) (word-is (goal.at.returns c).After-record_at-record)
