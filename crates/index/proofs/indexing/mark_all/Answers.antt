@@ -27,9 +27,6 @@ pub loop-number-preserved : goal.loop-number-preserved
 loop-number-preserved c =
     all_more c.loop-number.invariant c.blocks_in-blocks.ensures c.mark_columns.ensures
 
-pub shape_of-index : goal.shape_of-index
-shape_of-index c = c.loop-number.invariant.marking.sized
-
 pub returns : goal.returns
 returns c =
     all-marked (omega (arith, c.loop-number-test.false, c.count_of-number-end.ensures)) c.loop-number.invariant

@@ -11,11 +11,6 @@ pub row_at-requires : goal.row_at-requires
 row_at-requires c =
     let (near, few) = c.requires in (near, omega (arith, c.in-Some.ensures.some))
 
-pub overflow_add-at : goal.overflow_add-at
-overflow_add-at c =
-    let (near, few) = c.requires in
-    record { fits = omega (arith, c.row_at.ensures.1, few) }
-
 pub mark-requires : goal.mark-requires
 mark-requires c =
     record { later = omega (arith, c.row_at.ensures.0); some = omega arith; few = omega arith }
@@ -23,16 +18,10 @@ mark-requires c =
 pub next_member-requires : goal.next_member-requires
 next_member-requires c = (c.loop-phone.invariant.some, c.loop-phone.invariant.within)
 
-pub loop-phone-smaller : goal.loop-phone-smaller
-loop-phone-smaller c = omega (arith, c.in-Some.ensures.next.after, c.in-Some.ensures.some)
-
 pub loop-phone-preserved : goal.loop-phone-preserved
 loop-phone-preserved c =
     phones-next c.loop-phone.invariant c.in-Some.ensures.next c.in-Some.ensures.some c.row_at.ensures.0 refl
     c.mark.ensures
-
-pub shape_of-index : goal.shape_of-index
-shape_of-index c = c.loop-phone.invariant.marking.sized
 
 pub returns : goal.returns
 returns c = phones-last c.loop-phone.invariant c.in_default.ensures.next

@@ -35,17 +35,6 @@ overflow_add-column c =
       fits = omega (arith, c.loop-column-test.true, c.wide-column-end.ensures, pre.narrow.half_few, pre.number_few);
     }
 
-pub bounds-record-column : goal.bounds-record-column
-bounds-record-column c =
-    let pre = c.requires in
-    omega (
-      arith,
-      c.loop-column-test.true,
-      c.wide-column-end.ensures,
-      columns-held _ pre.narrow.half_few,
-      (record_is (goal.at.bounds-record-column c).After-record_at-record).sized,
-    )
-
 pub mark_column-requires : goal.mark_column-requires
 mark_column-requires c =
     let pre = c.requires in (
@@ -66,9 +55,17 @@ loop-column-preserved c =
     ∙ sym (get_or-drop 4 own c.loop-column.column 0))
     c.mark_column.ensures
 
-pub shape_of-index : goal.shape_of-index
-shape_of-index c = c.loop-column.invariant.marking.sized
-
 pub returns : goal.returns
 returns c =
     columns-all (omega (arith, c.loop-column-test.false, c.wide-column-end.ensures)) c.loop-column.invariant
+
+pub bounds-record-column : goal.bounds-record-column
+bounds-record-column c =
+    let pre = c.requires in
+    omega (
+      arith,
+      c.loop-column-test.true,
+      c.wide-column-end.ensures,
+      columns-held _ pre.narrow.half_few,
+      (record_is (goal.at.bounds-record-column c).After-record_at-record).sized,
+    )

@@ -1,5 +1,4 @@
 -- `indexing::note_ends` meets its contract. The loop's invariant: the ends before `i` were noted.
-use Prim.Native.Nat.{◌-◌}
 use Rattle.index.specs.Filling.{Noted}
 use Rattle.index.proofs.indexing.note_ends.Given as goal
 

@@ -2,7 +2,6 @@
 use mathlib.Core.Path.{ap, ◌∙◌}
 use mathlib.Core.List.{List}
 use Prim.Native.Nat.{ℕ}
-use native.Mathlib.Omega.{arith}
 use lib.ListN.{drop}
 use Rattle.definitions.specs.Lists.{◌!◌}
 use Rattle.definitions.specs.Metastates.{metastate_size}
@@ -22,9 +21,6 @@ own c = cut-is c.metastate_size.ensures c.record_at-record.ensures
 pub record_at-record-requires : goal.record_at-record-requires
 record_at-record-requires c =
     cut-within c.metastate_size.ensures c.args.metastates.now c.args.place c.requires.1
-
-pub bounds-record-0 : goal.bounds-record-0
-bounds-record-0 c = omega (arith, (own (goal.at.bounds-record-0 c).After-record_at-record).sized)
 
 pub returns : goal.returns
 returns c =

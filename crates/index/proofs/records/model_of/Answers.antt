@@ -2,7 +2,6 @@
 use mathlib.Core.Path.{◌≡◌, sym, ap, ◌∙◌}
 use mathlib.Core.List.{List}
 use Prim.Native.Nat.{ℕ, ◌+◌, ◌*◌}
-use native.Mathlib.Omega.{arith}
 use lib.ListN.{drop}
 use lib.Seq.{get_or-drop}
 use Rattle.definitions.specs.declared.Node.{Node}
@@ -35,12 +34,6 @@ pub record_at-record-requires : goal.record_at-record-requires
 record_at-record-requires c =
     cut-within c.combination_size.ensures c.args.combinations.now c.args.number
     c.requires.within
-
-pub bounds-record-state : goal.bounds-record-state
-bounds-record-state c = omega (arith, (own (goal.at.bounds-record-state c).After-record_at-record).sized, c.requires.states)
-
-pub overflow_cast-record : goal.overflow_cast-record
-overflow_cast-record c = record { fits = omega (arith, word-is (goal.at.overflow_cast-record c).After-record_at-record, c.requires.few) }
 
 pub returns : goal.returns
 returns c =

@@ -19,14 +19,8 @@ returns-in-Some c =
     (omega (arith, c.loop-number-test.true, c.in-Some.ensures.next.after, c.wide.ensures, c.min.ensures))
     (omega (arith, c.wide.ensures, c.min.ensures))
 
-pub loop-number-smaller : goal.loop-number-smaller
-loop-number-smaller c = omega (arith, c.min-number.ensures, c.loop-number-test.true)
-
 pub loop-number-preserved : goal.loop-number-preserved
 loop-number-preserved c =
     marked_next c.loop-number.invariant refl refl c.marked_in.ensures c.in_default.ensures.next _
     (omega (arith, c.min-number.ensures)) (omega (arith, c.min-number.ensures, c.loop-number-test.true))
     (omega (arith, c.min-number.ensures))
-
-pub returns : goal.returns
-returns c = c.loop-number.invariant

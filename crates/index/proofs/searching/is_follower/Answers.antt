@@ -9,10 +9,6 @@ use Rattle.index.specs.Laws.Followers.{narrow, not-following, following-valid}
 use Rattle.std.proofs.lemmas.Bool.{not_from_false}
 use Rattle.index.proofs.searching.is_follower.Goals as goal
 
-pub bounds-shifted-n : goal.bounds-shifted-n
-bounds-shifted-n c =
-    omega (arith, c.wide-n.ensures, narrow c.requires.usable)
-
 pub phone_of-requires : goal.phone_of-requires
 phone_of-requires c =
     has-phone _ _ c.requires.usable _ c.requires.listed
@@ -26,9 +22,6 @@ returns-else-has_phone c =
 pub matrix_of-requires : goal.matrix_of-requires
 matrix_of-requires c = let tried = c.requires in is-listed _ _ tried.usable _ tried.listed
 
-pub meets-requires : goal.meets-requires
-meets-requires c = omega arith
-
 pub returns-then-has_phone : goal.returns-then-has_phone
 returns-then-has_phone c =
     let tried = c.requires in
@@ -37,3 +30,7 @@ returns-then-has_phone c =
     omega (arith, wide.ensures) in
     following-valid tried.usable tried.shaped tried.listed c.matrix_of.ensures width
     c.meets.ensures
+
+pub bounds-shifted-n : goal.bounds-shifted-n
+bounds-shifted-n c =
+    omega (arith, c.wide-n.ensures, narrow c.requires.usable)
