@@ -11,7 +11,7 @@ ghost use Rattle.arcs.specs.Whole.{all_arcs};
 
 use crate::Standing;
 use crate::known::{is_state, network_known};
-use definitions::{ARC_SIZE, Counts, Fault, Refusal, number, wide};
+use definitions::{ARC_SIZE, Counts, Fault, Refusal, wide};
 
 // How many arcs have a source below a state, by bisection: sources never descend.
 pub fn arcs_below(arcs: &[u32], state: usize) -> usize
@@ -83,8 +83,7 @@ pub fn leaving<'a>(
             return &arcs[start..end];
         }
         Standing::Refused(refusal) => {
-            let cause = refusal.fault;
-            *fault = number(cause);
+            *fault = u32::from(refusal.fault);
             *line = refusal.line;
             return &arcs[0..0];
         }

@@ -8,6 +8,15 @@ pub mod starting;
 
 use definitions::Refusal;
 
+// The four words of an arc.
+#[derive(Clone, Copy, PartialEq, Eq)]
+pub struct Arc {
+    pub from: u32,
+    pub to: u32,
+    pub model: u32,
+    pub phone: u32,
+}
+
 // Where the arcs that leave a state stand in the lent arcs, counted in words; or the refusal.
 #[derive(Clone, Copy)]
 pub enum Standing {

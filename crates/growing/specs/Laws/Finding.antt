@@ -1,7 +1,8 @@
 -- Laws about looking for an element along its chain. The idea: every place on the chain has the element's head, and
 -- the link from it names the latest before it of the same head, so no place that has the element is passed.
-use Rattle.std.specs.Prelude.{◌≡◌, List, [], map, Bool, true, false, ℕ, suc, ◌+◌, ◌-◌, ◌*◌, ◌≤◌, ◌<◌, T, ltb, length, take, drop, get_or}
+use Rattle.std.specs.Prelude.{◌≡◌, List, [], map, Bool, true, false, ℕ, suc, ◌+◌, ◌-◌, ◌*◌, ◌≤◌, ◌<◌, T, ltb, length, take, drop, get_or, Some, None}
 use Rattle.std.proofs.Common.{sym, ap, ◌∙◌, subst, append-nil, mul-suc, mul-le-mul_left, arith, ltb-true, ltb-false}
+use Rattle.std.proofs.lemmas.Option.{none-some, same_Some}
 use Rattle.definitions.specs.Lists.{◌!◌, records, same}
 use Rattle.definitions.proofs.Laws.Lists.Tests.{by-test}
 use Rattle.definitions.proofs.Laws.Lists.Lists.{same_lists, same_self, map_at}
@@ -32,19 +33,19 @@ module _ {X : Type 0} {code : Code X} {heads : ℕ} {chains : List ℕ} {table :
       }
 
   module _ {at : ℕ} (p : Passed code heads table x at) where
-    pub find-end : at ≡ 0 → Found code table x 0
+    pub find-end : at ≡ 0 → Found code table x None
     find-end e = record {
       none = λ f member.
           let (i, l, g) = place_of x table code.nothing member in p.none_after i (omega arith) l g;
-      some = λ place f. absurd (omega (arith, f));
+      some = λ place f. absurd (none-some place f);
     }
 
-    pub find-here : (at ≡ 0 → ⊥) → get_or table (at - 1) code.nothing ≡ x → Found code table x at
+    pub find-here : (at ≡ 0 → ⊥) → get_or table (at - 1) code.nothing ≡ x → Found code table x (Some (at - 1))
     find-here n e = record {
-      none = λ f. absurd (n f);
+      none = λ f. absurd (none-some (at - 1) (sym f));
       some = λ place f.
-          let here : at - 1 ≡ place = omega arith in
-          (omega (arith, p.within), subst (λ i. get_or table i code.nothing ≡ x) here e);
+          let here : at - 1 ≡ place = same_Some (at - 1) place f in
+          (omega (arith, p.within, n, here), subst (λ i. get_or table i code.nothing ≡ x) here e);
     }
 
     -- the link from a place

@@ -37,5 +37,5 @@ returns-in-Refused c =
     let all =
     handed-nothing c.args.arcs.now c.args.arcs.ref_ptr (leaving c.args.counts c.args.arcs.now c.args.state)
     (sym c.in-Refused.is ∙ standing-told _ c.part_leaving-standing.ensures)
-    c.number.ensures refl in
+    c.from.ensures refl in
     record { fault = all.0; line = all.1.0; address = all.1.1.0; part = all.1.1.1 }
