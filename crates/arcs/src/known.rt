@@ -78,5 +78,5 @@ pub fn network_known(counts: Counts, arcs: &[u32]) -> bool
     ensures { result ≡ network_known counts arcs.now }
 {
     let used = ARC_SIZE * wide(counts.arcs);
-    counts_known(counts) && holds_only(arcs, used) && arcs_known(counts, &arcs[..used])
+    counts_known(counts) && holds_only(arcs, used, 0) && arcs_known(counts, &arcs[..used])
 }
