@@ -9,3 +9,4 @@ pub mod Parsing
 pub mod Rows
 pub mod Texts
 pub mod Judging
+pub mod Chains
