@@ -1,5 +1,6 @@
 -- The laws of this crate: loops, the tables of letters, then reading a line.
 pub mod Passing
+pub mod Chains
 pub mod Filling
 pub mod Putting
 pub mod Tables
@@ -9,4 +10,3 @@ pub mod Parsing
 pub mod Rows
 pub mod Texts
 pub mod Judging
-pub mod Chains
