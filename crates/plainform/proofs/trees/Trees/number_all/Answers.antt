@@ -1,14 +1,14 @@
--- `numbering::number_all` meets its contract. The loop's invariant: what is left to put from root `i` on, put into
+-- `Trees::number_all` meets its contract. The loop's invariant: what is left to put from root `i` on, put into
 -- the tables as they are, gives what all trees put into the tables at the start give.
 use native.Mathlib.Omega.{arith}
 use Rattle.plainform.specs.LentTrees.{tree_in}
-use Rattle.plainform.specs.Laws.LentTrees.{root-known}
+use Rattle.plainform.specs.Laws.LentTrees.{root-listed}
 use Rattle.plainform.specs.Laws.Numbering.{all_start, own_room, all_more, all_end}
-use Rattle.plainform.proofs.numbering.number_all.Goals as goal
+use Rattle.plainform.proofs.trees.Trees.number_all.Goals as goal
 
 pub loop-i-init : goal.loop-i-init
 loop-i-init c = let a = c.args in
-    all_start (tree_in a.header a.nodes.now a.classes.now) a.sets.now a.roots.now a.table.now
+    all_start (tree_in a.self.header a.self.nodes.now a.self.classes.now) a.sets.now a.roots.now a.table.now
     a.starts.now
 
 pub bounds-starts-i : goal.bounds-starts-i
@@ -21,8 +21,8 @@ bounds-starts-i c =
 
 pub number_root-at-requires : goal.number_root-at-requires
 number_root-at-requires c =
-    let (known, room, _) = c.requires in
-    (root-known known c.loop-i.i (omega arith), own_room c.loop-i.invariant (omega arith) room)
+    let (listed, room, _) = c.requires in
+    (root-listed listed c.loop-i.i (omega arith), own_room c.loop-i.invariant (omega arith) room)
 
 pub loop-i-preserved : goal.loop-i-preserved
 loop-i-preserved c =
