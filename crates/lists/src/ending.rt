@@ -10,13 +10,10 @@ pub fn ends_in(half: u32, list: &[u64]) -> bool
     requires { Holds half list.now }
     ensures { result ≡ list_ends half (list_in half list.now) }
 {
-    let count = matrices_in(list);
-    let mut place = 0;
-    while place < count {
+    for place in 0..matrices_in(list) {
         if ends_here(matrix_from(half, list, start_of(half, place)), half) {
             return true;
         }
-        place += 1;
     }
     false
 }
