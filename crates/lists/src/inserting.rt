@@ -12,7 +12,6 @@ use crate::ordering::place_for;
 use crate::places::{matrices_in, start_of, width_of};
 use definitions::sizes::matrix_size;
 use matrix::Matrix;
-use matrix::testing::valid;
 
 // Moves the words between two places on by `size`.
 fn open_gap(words: &mut [u64], from: usize, end: usize, size: usize)
@@ -66,5 +65,5 @@ pub fn add(half: u32, list: &mut [u64], m: Matrix) -> bool
     ensures { Became half (added (list_in half list.old) (matrix_in half m.columns))
         result list.old list.new }
 {
-    !valid(m, width_of(half)) || insert(half, list, m)
+    !m.valid(width_of(half)) || insert(half, list, m)
 }

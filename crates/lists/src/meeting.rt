@@ -9,7 +9,6 @@ ghost use Rattle.lists.specs.Meeting.{meets_some};
 use crate::inserting::insert;
 use crate::places::{matrices_in, matrix_from, start_of, width_of};
 use matrix::Matrix;
-use matrix::meeting::{meet, meets};
 
 // Adds the meet of a matrix and the one in the words from a place on to a list, where it is valid: then its first word
 // is not 0.
@@ -20,7 +19,9 @@ fn add_met(half: u32, m: Matrix, words: &[u64], from: usize, out: &mut [u64]) ->
         (meet (matrix_in half m.columns) (columns_at half words.now from)))
         result out.old out.new }
 {
-    let met = meet(m, matrix_from(half, words, from), width_of(half)).matrix;
+    let met = m
+        .meet(matrix_from(half, words, from), width_of(half))
+        .matrix;
     met.columns[0] == 0 || insert(half, out, met)
 }
 
@@ -62,7 +63,7 @@ fn meets_one(half: u32, m: Matrix, list: &[u64]) -> bool
 {
     for place in 0..matrices_in(list) {
         let other = matrix_from(half, list, start_of(half, place));
-        if meets(m, other, width_of(half)) {
+        if m.meets(other, width_of(half)) {
             return true;
         }
     }

@@ -12,6 +12,7 @@ use Rattle.definitions.specs.Matrices.{Matrix, shift}
 use Rattle.definitions.specs.MatrixLists.{same_list, shift_list}
 use Rattle.definitions.proofs.Laws.Lists.Lists.{map_at}
 use Rattle.definitions.proofs.Laws.Lists.Tests.{by-test}
+use Rattle.matrix.specs.Laws.Words.{same-places}
 use Rattle.lists.specs.Held.{matrix_at, list_in}
 use Rattle.lists.specs.Shifting.{SameShifted}
 use Rattle.lists.specs.Laws.Held.{list_length, list_at}
@@ -56,14 +57,6 @@ lengths_differ (x ∷ k) (y ∷ l) h = by-test (same x y)
 
 -- ---- from a column on
 
--- the library's test of slices is the definitions'
-same-slices : (k l : List ℕ) → pointwise eqb k l ≡ same k l
-unfolding same
-same-slices [] [] = refl
-same-slices [] (y ∷ l) = refl
-same-slices (x ∷ k) [] = refl
-same-slices (x ∷ k) (y ∷ l) = ap (λ (b : Bool). eqb x y && b) (same-slices k l)
-
 -- the matrices of a list from a column on
 abbrev pub list_beyond : (half first : ℕ) → (words : List ℕ) → List Matrix
 list_beyond half first words = map (drop first) (list_in half words)
@@ -100,7 +93,7 @@ module _ (half first place : ℕ) where
       → differ ≡ not (pointwise eqb (take (length x - first) (drop first x)) (take (length y - first) (drop first y)))
       → same (get_or (list_beyond half first a) place []) (get_or (list_beyond half first b) place []) ≡ not differ
   beyond-test a b h k e f q =
-      sym (same-slices _ _ ∙ ap₂ same (beyond-at a h e) (beyond-at b k f)) ∙ turned _ q
+      sym (same-places _ _ ∙ ap₂ same (beyond-at a h e) (beyond-at b k f)) ∙ turned _ q
 
 -- ---- from the first column on, and once shifted
 
