@@ -28,7 +28,7 @@ fn word_known(row: &[u32]) -> bool
         return false;
     }
     let end = count + 1;
-    phones_known(&row[1..end]) && holds_only(row, end)
+    phones_known(&row[1..end]) && holds_only(row, end, 0)
 }
 
 // Whether all records are such.
@@ -52,5 +52,5 @@ pub fn words_known(count: usize, words: &[u32]) -> bool
         return false;
     }
     let used = WORD_SIZE * count;
-    holds_only(words, used) && records_known(&words[..used])
+    holds_only(words, used, 0) && records_known(&words[..used])
 }
