@@ -1,6 +1,6 @@
 -- Laws about entering the followers of a metastate: where another with the same shifted matrix has a span,
 -- the copies of its arcs are what entering them adds; else they are entered and make a span.
-use Rattle.std.specs.Prelude.{◌≡◌, Bool, false, ℕ, suc, ◌+◌, ◌-◌, ◌*◌, ◌/◌, ◌%◌, ◌≤◌, ◌<◌, min, T, drop, get_or}
+use Rattle.std.specs.Prelude.{◌≡◌, Bool, false, ℕ, suc, ◌+◌, ◌-◌, ◌*◌, ◌/◌, ◌%◌, ◌≤◌, ◌<◌, min, T, drop, get_or, Result, Ok, Err}
 use Rattle.std.proofs.Math.Path.{refl, sym, ap, subst}
 use Rattle.std.proofs.Common.{◌∙◌, mod-lt, arith, length-set}
 use mathlib.Core.List.{List, ◌++◌, map}
@@ -35,8 +35,6 @@ use Rattle.index.specs.Combinations.{combinations_in, nodes_book}
 use Rattle.index.specs.RecordWords.{record_of, IsMetastate}
 use Rattle.index.specs.declared.Follower.{Follower}
 use Rattle.growing.specs.declared.Sizes.{Sizes}
-use Rattle.growing.specs.declared.Step.{Step}
-use Rattle.growing.specs.declared.Step.TheVariants as step
 use Rattle.growing.specs.Steps.{arc_room, sizes_of, step_of}
 use Rattle.growing.specs.Laws.KeptMore.{with_arcs, kept-arcs}
 use Rattle.growing.specs.Laws.Steps.{held-sizes, next-kept, stop-refused, left-answered, left-refused}
@@ -126,11 +124,11 @@ module _ {header : Header} {nodes words index metastates arcs chains spans : Lis
 
     -- ---- entered one by one
 
-    spans-after : (slot : ℕ) {next : Sizes} → SlotWithin spans slot → step.Next next ≡ step_of outcome
+    spans-after : (slot : ℕ) {next : Sizes} → SlotWithin spans slot → Ok next ≡ step_of outcome
         → SpannedAfter (noted_in spans slot place sizes.arcs next.arcs)
     unfolding step_of book_with
     spans-after slot {next} h a now e =
-        let sized : step.Next next ≡ step.Next (sizes_of now) = a ∙ ap step_of e in
+        let sized : Ok next ≡ Ok (sizes_of now) = a ∙ ap step_of e in
         let same : next ≡ sizes_of now = cc in
         let made : IsSpan book cs now place (length net.arcs) (length now.arcs) =
         span-made book cs room net now place
@@ -142,29 +140,29 @@ module _ {header : Header} {nodes words index metastates arcs chains spans : Lis
         (spans-noted book cs (spans-kept now e) slot place (length net.arcs) (length now.arcs) h made)
 
     -- from the state that the code computed
-    module _ {state : ℕ} (at : state ≡ from) {answer : Step} {metastates' arcs' chains' : List ℕ}
+    module _ {state : ℕ} (at : state ≡ from) {answer : Result Sizes Fault} {metastates' arcs' chains' : List ℕ}
         (left : StepLeft header words metastates arcs chains
         (followed_from header nodes words metastates arcs sizes state columns)
         answer metastates' arcs' chains')
       where
-        followed-on : {same : Step} → answer ≡ same
+        followed-on : {same : Result Sizes Fault} → answer ≡ same
             → StepLeft header words metastates arcs chains outcome same metastates' arcs' chains'
         followed-on e =
-            subst (λ (z : Step). StepLeft header words metastates arcs chains outcome z
+            subst (λ (z : Result Sizes Fault). StepLeft header words metastates arcs chains outcome z
             metastates' arcs' chains') e
             (subst (λ (z : ℕ). StepLeft header words metastates arcs chains
             (followed_from header nodes words metastates arcs sizes z columns)
             answer metastates' arcs' chains') at left)
 
-        pub followed-few : {next : Sizes} → answer ≡ step.Next next → next.arcs ≤ 999999
+        pub followed-few : {next : Sizes} → answer ≡ Ok next → next.arcs ≤ 999999
         unfolding room_in
         followed-few {next} e =
             let sized = held-sizes (metastate_code header.half) next metastates' arcs' in
             omega (arith, (next-kept left.step e).arc-room, ap (λ (z : Sizes). z.arcs) sized)
 
         pub followed-noted : (slot : ℕ) {next : Sizes} {spans' : List ℕ} → SlotWithin spans slot
-            → answer ≡ step.Next next → spans' ≡ noted_in spans slot place sizes.arcs next.arcs
-            → TurnLeft header nodes words metastates arcs chains spans outcome (step.Next next)
+            → answer ≡ Ok next → spans' ≡ noted_in spans slot place sizes.arcs next.arcs
+            → TurnLeft header nodes words metastates arcs chains spans outcome (Ok next)
             metastates' arcs' chains' spans'
         followed-noted slot h e is =
             record {
@@ -174,8 +172,8 @@ module _ {header : Header} {nodes words index metastates arcs chains spans : Lis
             }
 
         -- a refused step leaves nothing to say of spans
-        pub followed-refused : {fault : Fault} → answer ≡ step.Stop fault
-            → TurnLeft header nodes words metastates arcs chains spans outcome (step.Stop fault)
+        pub followed-refused : {fault : Fault} → answer ≡ Err fault
+            → TurnLeft header nodes words metastates arcs chains spans outcome (Err fault)
             metastates' arcs' chains' spans
         followed-refused e =
             record {
@@ -251,7 +249,7 @@ module _ {header : Header} {nodes words index metastates arcs chains spans : Lis
             (λ x i. span.known x (subst (IsIn x) (sym followers-are) i))
             ∙ ap (λ (l : List Arc). perform_all (machine_of book cs) room net (map plain l)) (sym copies-are)
 
-        repeated : {answer : Step} {arcs' : List ℕ} → Repeated sizes first end from arcs answer arcs'
+        repeated : {answer : Result Sizes Fault} {arcs' : List ℕ} → Repeated sizes first end from arcs answer arcs'
             → StepLeft header words metastates arcs chains outcome answer metastates arcs' chains
         unfolding room_in
         repeated {answer} {arcs'} r =
@@ -276,7 +274,7 @@ module _ {header : Header} {nodes words index metastates arcs chains spans : Lis
                 record {
                   step =
                       left-answered refl size refl (with_arcs net copies) done
-                      (r.answers ∙ rw t (ap (λ (z : Sizes). step.Next z) sized)) kept;
+                      (r.answers ∙ rw t (ap (λ (z : Sizes). Ok z) sized)) kept;
                   numbers = λ n e.
                       let both : answered (with_arcs net copies) ≡ answered n = sym done ∙ e in
                       let same : with_arcs net copies ≡ n = cc in
@@ -296,7 +294,7 @@ module _ {header : Header} {nodes words index metastates arcs chains spans : Lis
                   numbers = λ n e. absurd (refused-not-answered outcome Tangle 0 n none e);
                 }
 
-        pub repeated-on : {f e state : ℕ} {answer : Step} {arcs' : List ℕ}
+        pub repeated-on : {f e state : ℕ} {answer : Result Sizes Fault} {arcs' : List ℕ}
             → f ≡ first → e ≡ end → state ≡ from → Repeated sizes f e state arcs answer arcs'
             → TurnLeft header nodes words metastates arcs chains spans outcome answer
             metastates arcs' chains spans
