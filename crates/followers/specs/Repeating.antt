@@ -13,7 +13,7 @@ use Rattle.matrix.specs.Words.{first_seven}
 use Rattle.index.specs.RecordWords.{record_of}
 use Rattle.growing.specs.declared.Sizes.{Sizes}
 use Rattle.growing.specs.Steps.{arc_room}
-use Rattle.followers.specs.Spans.{copies_of, SlotWithin, place_in}
+use Rattle.followers.specs.Spans.{copies_of, SlotWithin}
 
 -- the words of one copy, as the code reads them
 abbrev pub copy_words : (from : ℕ) → (arcs : List ℕ) → (place : ℕ) → List ℕ
@@ -62,11 +62,9 @@ pub record Repeated (sizes : Sizes) (first end from : ℕ) (arcs : List ℕ) (an
       then with_copies arcs sizes.arcs first (end - first) from
       else arcs)
 
--- where the answer is yes, a slot's span is of a metastate whose record, shifted, has these columns
-abbrev pub Repeats : Header → (metastates spans : List ℕ) → (slot : ℕ) → (columns : List ℕ) → (answer : Bool)
-    → Type 0
-Repeats header metastates spans slot columns answer =
+-- where the answer is yes, the record at a place, shifted, has these columns
+abbrev pub Repeats : Header → (metastates : List ℕ) → (place : ℕ) → (columns : List ℕ) → (answer : Bool) → Type 0
+Repeats header metastates place columns answer =
     answer ≡ true
-    → (place : ℕ) × (place_in spans slot ≡ suc place)
-    × (shifted_words (2 * header.half) (all_phones (min header.phones 64))
-    (first_seven (drop 1 (record_of (metastate_size header.half) metastates place))) ≡ columns)
+    → shifted_words (2 * header.half) (all_phones (min header.phones 64))
+    (first_seven (drop 1 (record_of (metastate_size header.half) metastates place))) ≡ columns

@@ -26,13 +26,7 @@ pub fn key_of(number: u64, m: Matrix) -> usize
 }
 
 // The place of a metastate in the table, or none where it is new.
-pub fn find(
-    half: u32,
-    metastates: &[u64],
-    chains: &[u32],
-    number: u64,
-    m: Matrix,
-) -> Option<usize>
+pub fn find(half: u32, metastates: &[u64], chains: &[u32], number: u64, m: Matrix) -> Option<usize>
     requires { Findable (metastate_code half) metastates.now chains.now × HasWidth (width_of half) m.columns
         × (half ≤ 3) }
     ensures { Found (metastate_code half) (elements_in (metastate_code half) metastates.now)
