@@ -1,9 +1,9 @@
 -- What one field gives the row of its line.
+use Rattle.std.specs.Prelude as code
 use Rattle.std.specs.Prelude.{List, Bool, true, false, ℕ, ◌+◌, ◌*◌, take, drop}
 use Rattle.std.proofs.Math.Option.{Option, none, some}
 use Rattle.definitions.specs.Lines.{Field, blank, malformed, number, field_of}
-use Rattle.lines.specs.declared.parsing.Entry.{Entry}
-use Rattle.lines.specs.declared.parsing.Entry.TheVariants.{Value, Wrong}
+use Rattle.lines.specs.Rows.{option_of}
 
 -- the field at a place of a line, of fewer bytes where the line ends in it
 unfoldable pub field_at : List ℕ → (field : ℕ) → Field
@@ -18,7 +18,6 @@ field_entry false (number n) = none
 field_entry false blank = some 0
 field_entry false malformed = none
 
--- an entry as the code answers it
-unfoldable pub entry_in : Entry → Option ℕ
-entry_in (Value n) = some n
-entry_in Wrong = none
+-- and as the code answers it
+abbrev pub entry_of : (used : Bool) → Field → code.Option ℕ
+entry_of used field = option_of (λ n. n) (field_entry used field)

@@ -1,5 +1,6 @@
 -- The laws of this crate: loops, the tables of letters, then reading a line.
 pub mod Passing
+pub mod Chains
 pub mod Filling
 pub mod Putting
 pub mod Tables

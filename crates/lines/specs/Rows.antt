@@ -1,6 +1,7 @@
 -- What a row of the code means: the line of document 01 that it holds, and what the parser answers.
-use Rattle.std.specs.Prelude.{List, [], true, false, length, take}
-use Rattle.std.proofs.Math.Option.{Option, none, some}
+use Rattle.std.specs.Prelude.{List, [], length, take, Option, Some, None, unwrap_or}
+use Rattle.std.proofs.Math.Option as maths
+use Rattle.std.proofs.Math.Option.{none, some}
 use Rattle.definitions.specs.Lists.{padded}
 use Rattle.definitions.specs.Forms.{Form, book_forms, network_forms, word_forms}
 use Rattle.definitions.specs.Lines.{Line, Field, blank, malformed, number}
@@ -9,7 +10,6 @@ use Rattle.lines.specs.declared.Letters.TheVariants.{Book, Network, Words}
 use Rattle.lines.specs.declared.Field as declared
 use Rattle.lines.specs.declared.Field.TheVariants.{Blank, Malformed, Number}
 use Rattle.lines.specs.declared.Row.{Row}
-use Rattle.lines.specs.declared.Parsed.{Parsed}
 
 -- the tables of a kind of text
 abbrev pub forms_of : Letters → List Form
@@ -32,7 +32,15 @@ unfoldable pub row_of : Line → Row
 row_of line =
     record { letter = line.letter; used = length line.numbers; numbers = padded 5 line.numbers }
 
+-- an option of the definitions as one of the code
+unfoldable pub option_of : {A B : Type 0} → (A → B) → maths.Option A → Option B
+option_of f none = None
+option_of f (some a) = Some (f a)
+
 -- what the parser answers
-unfoldable pub parsed_of : Option Line → Parsed
-parsed_of none = record { formed = false; row = row_of (record { letter = 0; numbers = [] }) }
-parsed_of (some line) = record { formed = true; row = row_of line }
+abbrev pub parsed_of : maths.Option Line → Option Row
+parsed_of line = option_of row_of line
+
+-- the row that it gives, of letter 0 and no numbers where it gives none
+abbrev pub given : Option Row → Row
+given parsed = unwrap_or parsed (row_of (record { letter = 0; numbers = [] }))

@@ -8,10 +8,7 @@ use definitions::wide;
 pub fn from_zero(number: u32) -> usize
     ensures { result ≡ number - 1 }
 {
-    if number == 0 {
-        return 0;
-    }
-    wide(number) - 1
+    wide(number.saturating_sub(1))
 }
 
 // The place of a root, "in R order"; a phone or state 0 counts as 1. The next place is a number of 64 bits too.

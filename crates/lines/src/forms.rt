@@ -1,10 +1,12 @@
 // The constant table of each letter: used fields, lowest and highest fixed values.
-ghost use Rattle.std.specs.Prelude.{◌&&◌, ◌≡◌, ◌≤◌, ◌<◌, leb, length};
+ghost use Rattle.std.specs.Prelude.{◌&&◌, ◌≡◌, ◌<◌, leb, length, MatchOption};
+ghost use Rattle.std.proofs.Math.Option.{none};
 ghost use Rattle.definitions.specs.Lines.{form_of};
 ghost use Rattle.lines.specs.Places.{form_at, ranges_at, range_at, form_count, Placed};
 ghost use Rattle.lines.specs.Rows.{forms_of};
 
 use crate::Letters;
+use std::ops;
 
 // The fixed range of a field: lowest and highest.
 #[derive(Clone, Copy)]
@@ -12,9 +14,6 @@ struct Range(u32, u32);
 
 // How many letters the table has.
 const FORM_COUNT: usize = 9;
-
-// The place of a letter that the table does not have.
-pub const NO_LETTER: usize = FORM_COUNT;
 
 const UNUSED: Range = Range(0, 0);
 
@@ -108,42 +107,29 @@ const FORMS: [Form; FORM_COUNT] = [
     },
 ];
 
-// Where the letters of a kind of text begin and end among all letters.
-#[derive(Clone, Copy)]
-struct Block {
-    from: usize,
-    end: usize,
-}
-
-fn block_of(letters: Letters) -> Block
-    ensures { Placed letters result.from result.end }
+// The places of the letters of a kind of text among all letters.
+fn places_of(letters: Letters) -> ops::Range<usize>
+    ensures { Placed letters result.start result.end }
 {
     match letters {
-        Letters::Book => Block { from: 0, end: 6 },
-        Letters::Network => Block { from: 6, end: 8 },
-        Letters::Words => Block {
-            from: 8,
-            end: FORM_COUNT,
-        },
+        Letters::Book => 0..6,
+        Letters::Network => 6..8,
+        Letters::Words => 8..FORM_COUNT,
     }
 }
 
-// The place of a letter among all letters, or one past the last where this kind of text never has it.
-pub fn place_of(letters: Letters, letter: u8) -> usize
-    ensures within { result ≤ form_count }
-    ensures found { form_at result ≡ form_of (forms_of letters) letter }
+// The place of a letter among all letters; none where this kind of text never has it.
+pub fn place_of(letters: Letters, letter: u8) -> Option<usize>
+    ensures { MatchOption result (form_of (forms_of letters) letter ≡ none) (λ place.
+        (place < form_count) × (form_at place ≡ form_of (forms_of letters) letter)) }
 {
-    let block = block_of(letters);
-    let end = block.end;
-    let mut place = block.from;
-    while place < end {
-        let form = FORMS[place];
-        if form.letter == letter {
-            return place;
+    let places = places_of(letters);
+    for place in places.start..places.end {
+        if FORMS[place].letter == letter {
+            return Some(place);
         }
-        place += 1;
     }
-    NO_LETTER
+    None
 }
 
 // How many fields the letter at a place uses.
@@ -151,8 +137,7 @@ pub fn used_at(place: usize) -> usize
     requires { place < form_count }
     ensures { result ≡ length (ranges_at place) }
 {
-    let form = FORMS[place];
-    form.used
+    FORMS[place].used
 }
 
 // Whether a number lies in the fixed range of a used field of the letter at a place.
@@ -160,10 +145,6 @@ pub fn in_range(place: usize, field: usize, n: u32) -> bool
     requires { (place < form_count) × (field < length (ranges_at place)) }
     ensures { result ≡ (leb (range_at place field).lowest n && leb n (range_at place field).highest) }
 {
-    let form = FORMS[place];
-    let range = form.ranges[field];
-    if n < range.0 {
-        return false;
-    }
-    n <= range.1
+    let range = FORMS[place].ranges[field];
+    range.0 <= n && n <= range.1
 }

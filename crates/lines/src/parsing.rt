@@ -1,20 +1,12 @@
 // A line read by the table of its letter. A line that is not well formed is fault 12.
-ghost use Rattle.std.specs.Prelude.{true, false, ◌≡◌, ◌<◌, ltb};
-ghost use Rattle.std.proofs.Math.Option.{none};
+ghost use Rattle.std.specs.Prelude.{◌≡◌, ◌<◌, ltb};
 ghost use Rattle.definitions.specs.Lines.{line_of};
-ghost use Rattle.lines.specs.Entries.{field_at, field_entry, entry_in};
+ghost use Rattle.lines.specs.Entries.{field_at, entry_of};
 ghost use Rattle.lines.specs.Rows.{forms_of, field_in, parsed_of};
 
 use crate::fields::read_field;
-use crate::forms::{NO_LETTER, place_of, used_at};
-use crate::{Field, Letters, Parsed, Row};
-
-// What a field gives its row, or that it makes the line malformed.
-#[derive(Clone, Copy)]
-enum Entry {
-    Value(u32),
-    Wrong,
-}
+use crate::forms::{place_of, used_at};
+use crate::{Field, Letters, Row};
 
 // The field at a place of a line, of fewer bytes where the line ends in it.
 fn field_at(bytes: &[u8], field: usize) -> Field
@@ -32,81 +24,33 @@ fn field_at(bytes: &[u8], field: usize) -> Field
     read_field(&bytes[from..end])
 }
 
-// A used field has a number.
-fn used_entry(read: Field) -> Entry
-    ensures { entry_in result ≡ field_entry true (field_in read) }
-{
-    match read {
-        Field::Number(n) => Entry::Value(n),
-        Field::Blank => Entry::Wrong,
-        Field::Malformed => Entry::Wrong,
-    }
-}
-
-// A field that is not used is blank, and 0 stands for it.
-fn unused_entry(read: Field) -> Entry
-    ensures { entry_in result ≡ field_entry false (field_in read) }
-{
-    match read {
-        Field::Number(_) => Entry::Wrong,
-        Field::Blank => Entry::Value(0),
-        Field::Malformed => Entry::Wrong,
-    }
-}
-
-// What the field at a place gives the row of a letter that uses so many fields.
-fn entry_at(bytes: &[u8], field: usize, used: usize) -> Entry
+// What the field at a place gives the row of a letter that uses so many fields: a used field has a number, one that is
+// not used is blank, and 0 stands for it; else the line is malformed.
+fn entry_at(bytes: &[u8], field: usize, used: usize) -> Option<u32>
     requires { field < 5 }
-    ensures { entry_in result ≡ field_entry (ltb field used) (field_at bytes.now field) }
+    ensures { result ≡ entry_of (ltb field used) (field_at bytes.now field) }
 {
-    let read = field_at(bytes, field);
-    if field < used {
-        return used_entry(read);
-    }
-    unused_entry(read)
-}
-
-fn malformed() -> Parsed
-    ensures { result ≡ parsed_of none }
-{
-    Parsed {
-        formed: false,
-        row: Row {
-            letter: 0,
-            used: 0,
-            numbers: [0; 5],
-        },
+    match field_at(bytes, field) {
+        Field::Number(n) if field < used => Some(n),
+        Field::Blank if used <= field => Some(0),
+        _ => None,
     }
 }
 
 // The row of a line's bytes.
-pub fn parse(letters: Letters, bytes: &[u8]) -> Parsed
+pub fn parse(letters: Letters, bytes: &[u8]) -> Option<Row>
     ensures { result ≡ parsed_of (line_of (forms_of letters) bytes.now) }
 {
-    if bytes.len() == 0 {
-        return malformed();
-    }
-    let letter = bytes[0];
-    let place = place_of(letters, letter);
-    if place == NO_LETTER {
-        return malformed();
-    }
+    let letter = *bytes.first()?;
+    let place = place_of(letters, letter)?;
     let used = used_at(place);
     let mut numbers = [0u32; 5];
-    let mut field = 0;
-    while field < 5 {
-        let Entry::Value(n) = entry_at(bytes, field, used) else {
-            return malformed();
-        };
-        numbers[field] = n;
-        field += 1;
+    for field in 0..5 {
+        numbers[field] = entry_at(bytes, field, used)?;
     }
-    Parsed {
-        formed: true,
-        row: Row {
-            letter,
-            used,
-            numbers,
-        },
-    }
+    Some(Row {
+        letter,
+        used,
+        numbers,
+    })
 }

@@ -6,19 +6,13 @@ ghost use Rattle.definitions.specs.Lines.{whole_lines};
 pub fn whole_lines(text: &[u8]) -> bool
     ensures { result ≡ whole_lines text.now }
 {
-    if text.len() == 0 {
+    if text.is_empty() || text.len() % 32 != 0 {
         return false;
     }
-    if text.len() % 32 != 0 {
-        return false;
-    }
-    let lines = text.len() / 32;
-    let mut i = 0;
-    while i < lines {
+    for i in 0..text.len() / 32 {
         if text[32 * i + 31] != b'\n' {
             return false;
         }
-        i += 1;
     }
     true
 }

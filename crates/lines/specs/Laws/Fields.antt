@@ -1,5 +1,5 @@
 -- Laws about one field read byte by byte: its leading spaces, then its digits, from any place on.
-use Rattle.std.specs.Prelude.{if◌then◌else◌, ◌≡◌, refl, ◌⊎◌, List, [], ◌∷◌, ℕ, zero, suc, ◌+◌, ◌-◌, ◌*◌, ◌^◌, ◌≤◌, ◌<◌, leb, length, take, drop}
+use Rattle.std.specs.Prelude.{if◌then◌else◌, ◌≡◌, refl, ◌⊎◌, List, [], ◌∷◌, ℕ, zero, suc, ◌+◌, ◌-◌, ◌*◌, ◌^◌, ◌≤◌, ◌<◌, leb, length, take, drop, true, false}
 use Rattle.std.proofs.Common.{ap, ◌∙◌, inl, inr, arith, drop_of_length-le, length-drop, drop-cons, take_all}
 use Rattle.std.proofs.Math.Numerals.{add-one}
 use borrow.Author.Tests.{eq-eqb, ne_eqb, le-leb, lt-leb}
@@ -66,22 +66,17 @@ value-small value i zero e h = let five : i ≡ 5 = omega arith in rw five at h
 value-small value i (suc left) e h = value-small value (suc i) left (omega arith) (omega arith)
 
 module _ {s : List ℕ} {value i : ℕ} (r : Reading s value i) where
-  pub digit_low : i < length s → s ! i < 48 → digits_field s ≡ malformed
-  unfolding rest_field every is_digit
-  digit_low h l = r.field ∙ rw (drop-cons s i 0 h, lt-leb _ _ l)
+  pub digit-other : i < length s → is_digit (s ! i) ≡ false → digits_field s ≡ malformed
+  unfolding rest_field every
+  digit-other h other = r.field ∙ rw (drop-cons s i 0 h, other)
 
-  pub digit-high : i < length s → 57 < s ! i → digits_field s ≡ malformed
-  unfolding rest_field every is_digit
-  digit-high h l =
-      r.field ∙ rw (drop-cons s i 0 h) (by-test (leb 48 (s ! i)) (λ d. rw (d, lt-leb _ _ l)) (λ d. rw d))
-
-  pub digit-next : (digit : ℕ) → i < length s → 48 ≤ s ! i → s ! i ≤ 57 → digit ≡ s ! i - 48
+  pub digit-next : (digit : ℕ) → i < length s → is_digit (s ! i) ≡ true → digit < 10 → digit ≡ s ! i - 48
       → Reading s (value * 10 + digit) (i + 1)
-  unfolding rest_field every is_digit value_of
-  digit-next digit h low high e = record {
+  unfolding rest_field every value_of
+  digit-next digit h is below e = record {
     within = omega arith;
     below = rw add-one (omega (arith, r.below));
-    field = r.field ∙ rw (drop-cons s i 0 h, le-leb _ _ low, le-leb _ _ high, add-one, e);
+    field = r.field ∙ rw (drop-cons s i 0 h, is, add-one, e);
   }
 
   pub digits-end : length s ≤ i → digits_field s ≡ number value
@@ -90,9 +85,6 @@ module _ {s : List ℕ} {value i : ℕ} (r : Reading s value i) where
 
 -- ---- the field: the digits after the spaces
 
-pub field-read : (s : List ℕ) (i : ℕ) (f : Field) → drop i s ≡ skip_spaces s
-    → f ≡ digits_field (take (length s - i) (drop i s)) → f ≡ field_of s
+pub field-read : (s rest : List ℕ) {f : Field} → rest ≡ skip_spaces s → f ≡ digits_field rest → f ≡ field_of s
 unfolding field_of
-field-read s i f found e =
-    let whole : length (drop i s) ≤ length s - i = rw length-drop (omega arith) in
-    e ∙ ap digits_field (take_all (length s - i) (drop i s) whole ∙ found)
+field-read s rest found e = e ∙ ap digits_field found

@@ -1,8 +1,9 @@
 -- Laws about taking the lines of any kind of text: a line that passes its tests is taken and reading goes on
 -- after it, a line with a fault is refused at its number; and so from line to line of a text.
-use Rattle.std.specs.Prelude.{if◌then◌else◌, ◌≡◌, Bool, true, false, not, ◌&&◌, ℕ, suc, ◌+◌, ◌-◌, ◌*◌, ◌/◌, ◌≤◌, ◌<◌, T, length, take, drop}
+use Rattle.std.specs.Prelude.{if◌then◌else◌, ◌≡◌, Bool, true, false, not, ◌&&◌, ℕ, suc, ◌+◌, ◌-◌, ◌*◌, ◌/◌, ◌≤◌, ◌<◌, T, length, take, drop, Result, Ok, Err, ⊤}
 use Rattle.std.proofs.Math.Path.{refl, sym, ap}
-use Rattle.std.proofs.Common.{◌∙◌, arith}
+use Rattle.std.specs.Result.{is_ok}
+use Rattle.std.proofs.Common.{◌∙◌, subst, arith}
 use mathlib.Core.List.{List, [], ◌∷◌, ◌++◌, map, map-append}
 use Rattle.std.proofs.Math.Option.{Option, none, some}
 use Rattle.std.proofs.Math.ListN.{length-map, length-take}
@@ -17,36 +18,34 @@ use Rattle.definitions.specs.Reading.{Kind, line_tests, line_read, read_from, re
 use Rattle.definitions.proofs.Laws.Lists.Tests.{by-test, held, failed}
 use Rattle.definitions.proofs.Laws.Text.Judging.{AllPass}
 use Rattle.definitions.proofs.Laws.Text.Reading as lines
-use Rattle.lines.specs.Judging.{verdict_of, verdict_by, line_taken, line_verdict, lines_before, line_bytes}
-use Rattle.lines.specs.Rows.{line_in, parsed_of}
-use Rattle.lines.specs.declared.Verdict.{Verdict}
-use Rattle.lines.specs.declared.Verdict.TheVariants.{Passed, Failed}
+use Rattle.lines.specs.Judging.{Verdict, verdict_of, verdict_by, line_taken, line_verdict, lines_before, line_bytes}
+use Rattle.lines.specs.Rows.{line_in, parsed_of, given, option_of}
 use Rattle.lines.specs.Laws.Rows.{line-back}
 use Rattle.lines.specs.Laws.Texts.{lines_at, lines-count, lines_end, lines-take}
 
 -- ---- verdicts
 
-passed-or-failed : (fault : Fault) → Failed fault ≡ Passed → ⊥
-passed-or-failed fault e = let z : ◌≡◌ {A = ℕ} 0 1 = cc in omega arith
+passed-or-failed : (fault : Fault) → ◌≡◌ {A = Verdict} (Err fault) (Ok tt) → ⊥
+passed-or-failed fault e = subst T (sym (ap is_ok e)) tt
 
-verdict-passed : (ts : List Test) → verdict_of ts ≡ Passed → AllPass ts
+verdict-passed : (ts : List Test) → verdict_of ts ≡ Ok tt → AllPass ts
 unfolding verdict_of every
 verdict-passed [] e = tt
 verdict-passed (t ∷ ts) e = go t.passes (λ k. verdict-passed ts k) e
   where
-    go : (b : Bool) → (verdict_of ts ≡ Passed → AllPass ts)
-        → (if b then verdict_of ts else Failed t.fault) ≡ Passed → T (b && every (λ t. t.passes) ts)
+    go : (b : Bool) → (verdict_of ts ≡ Ok tt → AllPass ts)
+        → (if b then verdict_of ts else Err t.fault) ≡ Ok tt → T (b && every (λ t. t.passes) ts)
     go true rest k = rest k
     go false rest k = absurd (passed-or-failed t.fault k)
 
 verdict-failed : {A : Type 0} (at : ℕ) (ts : List Test) (answer : Outcome A) (fault : Fault)
-    → verdict_of ts ≡ Failed fault → judge at ts answer ≡ refuse fault at
+    → verdict_of ts ≡ Err fault → judge at ts answer ≡ refuse fault at
 unfolding verdict_of judge
 verdict-failed at [] answer fault e = absurd (passed-or-failed fault (sym e))
 verdict-failed at (t ∷ ts) answer fault e = go t.passes (λ k. verdict-failed at ts answer fault k) e
   where
-    go : (b : Bool) → (verdict_of ts ≡ Failed fault → judge at ts answer ≡ refuse fault at)
-        → (if b then verdict_of ts else Failed t.fault) ≡ Failed fault
+    go : (b : Bool) → (verdict_of ts ≡ Err fault → judge at ts answer ≡ refuse fault at)
+        → (if b then verdict_of ts else Err t.fault) ≡ Err fault
         → (if b then judge at ts answer else refuse t.fault at) ≡ refuse fault at
     go true rest k = rest k
     go false rest k = let same : t.fault ≡ fault = cc in rw same
@@ -64,23 +63,23 @@ module _ {v : Verdict} {answer : Bool} {t : Test} {ts : List Test}
     unfolding verdict_of
     test-held h = record { same = left.same ∙ rw (held put h) }
 
-    pub test-failed : not answer ≡ true → Failed t.fault ≡ v
+    pub test-failed : not answer ≡ true → Err t.fault ≡ v
     unfolding verdict_of
     test-failed h = sym (left.same ∙ rw (failed put h))
 
 -- all held
-pub none-failed : {v : Verdict} → LeftTo v [] → Passed ≡ v
+pub none-failed : {v : Verdict} → LeftTo v [] → Ok tt ≡ v
 unfolding verdict_of
 none-failed left = sym left.same
 
 -- what becomes of a line, by what its bytes are
 module _ (forms : List Form) (tests : Line → List Test) (bytes : List ℕ) {full : Bool} where
-  pub verdict-full : full ≡ true → verdict_by full forms tests bytes ≡ Failed Count
+  pub verdict-full : full ≡ true → verdict_by full forms tests bytes ≡ Err Count
   unfolding verdict_by
   verdict-full c = rw c
 
   pub verdict-misprint : full ≡ false → line_of forms bytes ≡ none
-      → verdict_by full forms tests bytes ≡ Failed Misprint
+      → verdict_by full forms tests bytes ≡ Err Misprint
   unfolding verdict_by
   verdict-misprint c e = rw (c, e)
 
@@ -94,9 +93,9 @@ module _ (forms : List Form) (tests : Line → List Test) (bytes : List ℕ) {fu
 module _ {L : Type 0} (kind : Kind L) (before : List L) (bytes : List ℕ) where
   -- the line taken is the line read
   taken-line : (line : Line) → line_of kind.forms bytes ≡ some line → line_taken kind bytes ≡ kind.view line
-  unfolding line_taken parsed_of
+  unfolding line_taken option_of
   taken-line line e =
-      ap (λ (o : Option Line). kind.view (line_in (parsed_of o).row)) e ∙ ap kind.view (line-back line)
+      ap (λ (o : Option Line). kind.view (line_in (given (parsed_of o)))) e ∙ ap kind.view (line-back line)
 
   -- a line that is taken passed its tests
   pub record Taken : Type 0 where
@@ -105,7 +104,7 @@ module _ {L : Type 0} (kind : Kind L) (before : List L) (bytes : List ℕ) where
     pub taken : line_taken kind bytes ≡ kind.view line
 
   line-passed : (line : Line) → kind.full before ≡ false → line_of kind.forms bytes ≡ some line
-      → verdict_of (line_tests kind before line) ≡ Passed → Taken
+      → verdict_of (line_tests kind before line) ≡ Ok tt → Taken
   line-passed line c e v =
       record {
         line = line;
@@ -113,7 +112,7 @@ module _ {L : Type 0} (kind : Kind L) (before : List L) (bytes : List ℕ) where
         taken = taken-line line e;
       }
 
-  pub verdict-taken : line_verdict kind before bytes ≡ Passed → Taken
+  pub verdict-taken : line_verdict kind before bytes ≡ Ok tt → Taken
   verdict-taken k =
       by-test (kind.full before)
       (λ c. absurd (passed-or-failed Count (sym (verdict-full _ _ _ c) ∙ k)))
@@ -124,7 +123,7 @@ module _ {L : Type 0} (kind : Kind L) (before : List L) (bytes : List ℕ) where
       by-line c (some line) e = line-passed line c e (sym (verdict-line _ _ _ c e) ∙ k)
 
   -- a line with a fault is refused
-  verdict-refused : (fault : Fault) → line_verdict kind before bytes ≡ Failed fault
+  verdict-refused : (fault : Fault) → line_verdict kind before bytes ≡ Err fault
       → (at : ℕ) (rest : List (List ℕ)) → read_from kind at before (bytes ∷ rest) ≡ refuse fault at
   unfolding read_from judge line_read and_then
   verdict-refused fault k at rest =
@@ -132,7 +131,7 @@ module _ {L : Type 0} (kind : Kind L) (before : List L) (bytes : List ℕ) where
       (λ c. rw c (named Count (sym (verdict-full _ _ _ c) ∙ k)))
       (λ c. rw c (by-line c (line_of kind.forms bytes) refl))
     where
-      named : (other : Fault) → Failed other ≡ Failed fault → refuse {A = List L} other at ≡ refuse fault at
+      named : (other : Fault) → ◌≡◌ {A = Verdict} (Err other) (Err fault) → refuse {A = List L} other at ≡ refuse fault at
       named other q = let same : other ≡ fault = cc in rw same
 
       by-line : kind.full before ≡ false → (o : Option Line) → line_of kind.forms bytes ≡ o
@@ -197,7 +196,7 @@ module _ {L : Type 0} (kind : Kind L) (text : List ℕ) where
         ∙ rw (lines_more i l, t.taken)
 
     pub goes-on-refused : i < length text / 32 → (fault : Fault)
-        → line_verdict kind (lines_before kind text i) (line_bytes text i) ≡ Failed fault
+        → line_verdict kind (lines_before kind text i) (line_bytes text i) ≡ Err fault
         → read_text kind text ≡ refuse fault (suc i)
     goes-on-refused l fault v =
         next-read l

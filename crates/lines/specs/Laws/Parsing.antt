@@ -1,6 +1,6 @@
 -- Laws about a line read field by field. The idea: each field gives an entry of the row, a number or 0, and
 -- the entries are the line's numbers, padded; the loop has those before a field and asks for the others.
-use Rattle.std.specs.Prelude.{if◌then◌else◌, ◌≡◌, List, [], ◌∷◌, ◌++◌, true, false, ℕ, zero, suc, ◌+◌, ◌-◌, ◌*◌, ◌≤◌, ◌<◌, ltb, get_or, set, take, drop}
+use Rattle.std.specs.Prelude.{if◌then◌else◌, ◌≡◌, List, [], ◌∷◌, ◌++◌, true, false, ℕ, zero, suc, ◌+◌, ◌-◌, ◌*◌, ◌≤◌, ◌<◌, ltb, get_or, set, take, drop, Some}
 use Rattle.std.proofs.Math.Path.{refl, sym}
 use Rattle.std.proofs.Common.{ap, ◌∙◌, append_assoc, append-nil, add-one, length-set, drop-cons, drop-drop, take-suc-set, ltb-true, ltb-false}
 use Rattle.std.proofs.Math.Option.{Option, none, some, none-ne-some}
@@ -18,7 +18,7 @@ use Rattle.definitions.proofs.Laws.Text.Lines.{line_known, line-unknown, form-le
 use Rattle.lines.specs.declared.Letters.{Letters}
 use Rattle.lines.specs.declared.Letters.TheVariants.{Book, Network, Words}
 use Rattle.lines.specs.Places.{form_in, form_at, ranges_at, form_count}
-use Rattle.lines.specs.Rows.{forms_of, row_of, parsed_of}
+use Rattle.lines.specs.Rows.{forms_of, row_of, parsed_of, option_of}
 use Rattle.lines.specs.Entries.{field_at, field_entry}
 use Rattle.lines.specs.Laws.Tables.{form_here, form-here, ranges-here, used-few}
 
@@ -182,10 +182,9 @@ pub parsed-empty : (letters : Letters) (s : List ℕ) → length s ≡ 0
     → parsed_of (line_of (forms_of letters) s) ≡ parsed_of none
 parsed-empty letters s h = ap parsed_of (no_line letters s h)
 
-pub parsed-unknown : (forms : List Form) (s : List ℕ) → form_at form_count ≡ form_of forms (s ! 0)
+pub parsed-unknown : (forms : List Form) (s : List ℕ) → form_of forms (s ! 0) ≡ none
     → parsed_of (line_of forms s) ≡ parsed_of none
-unfolding form_in
-parsed-unknown forms s e = ap parsed_of (line-unknown forms s (sym e))
+parsed-unknown forms s e = ap parsed_of (line-unknown forms s e)
 
 -- a letter that is known, by its place and how many fields it uses
 pub record Letter (forms : List Form) (s : List ℕ) (place used : ℕ) : Type 0 where
@@ -221,12 +220,12 @@ module _ {forms : List Form} {s : List ℕ} {place used : ℕ} (l : Letter forms
 
   pub parsed-row : (numbers : List ℕ) → entries_of used (fields_of s) ≡ some numbers
       → parsed_of (line_of forms s)
-      ≡ record { formed = true; row = record { letter = s ! 0; used = used; numbers = numbers } }
-  unfolding with_letter parsed_of row_of
+      ≡ Some (record { letter = s ! 0; used = used; numbers = numbers })
+  unfolding with_letter option_of row_of
   parsed-row numbers e = rw line-here (go found-numbers agree-here)
     where
       go : (o : Option (List ℕ)) → Agree (ranges_at place) (fields_of s) o → parsed_of (with_letter (s ! 0) o)
-          ≡ record { formed = true; row = record { letter = s ! 0; used = used; numbers = numbers } }
+          ≡ Some (record { letter = s ! 0; used = used; numbers = numbers })
       go none a = absurd (none-ne-some numbers (sym a ∙ sym entries-here ∙ e))
       go (some found) a =
           let padding : some (padded 5 found) ≡ some numbers =

@@ -80,9 +80,9 @@ ranges-short (r ∷ ranges) (n ∷ numbers) (suc used) h =
 -- ---- a row by the place of its letter
 
 module _ (forms : List Form) (row : Row) where
-  pub row-unknown : form_at form_count ≡ form_of forms row.letter → in_fixed_ranges forms (line_in row) ≡ false
-  unfolding in_fixed_ranges line_in form_in
-  row-unknown e = let unknown : form_of forms row.letter ≡ none = sym e in rw (unknown, in_fixed_ranges)
+  pub row-unknown : form_of forms row.letter ≡ none → in_fixed_ranges forms (line_in row) ≡ false
+  unfolding in_fixed_ranges line_in
+  row-unknown unknown = rw (unknown, in_fixed_ranges)
 
 module _
     (forms : List Form) (row : Row) (place : ℕ)

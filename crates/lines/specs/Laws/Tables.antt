@@ -3,7 +3,7 @@
 use Rattle.std.specs.Prelude.{◌≡◌, refl, List, [], ◌∷◌, ◌++◌, map, Bool, false, ◌&&◌, ℕ, zero, suc, ◌+◌, ◌-◌, ◌≤◌, ◌<◌, leb, length, get_or, replicate}
 use Rattle.std.proofs.Math.Path.{sym}
 use Rattle.std.proofs.Common.{ap, ◌∙◌, arith, add-one, leb→le, drop-cons}
-use Rattle.std.proofs.Math.Option.{some}
+use Rattle.std.proofs.Math.Option.{none, some}
 use Rattle.std.proofs.lemmas.List.{length-map}
 use Rattle.std.proofs.Math.ListN.{get_or-append, get_or-map}
 use borrow.Author.Tests.{eq-eqb, ne_eqb, le-leb, lt-leb}
@@ -123,8 +123,8 @@ module _ (letter place end : ℕ) where
       λ is. isnt (ap (λ form. form.letter) (held-here place (omega arith)) ∙ is) in
       rw (forms_between-more place end h k, ne_eqb _ _ other)
 
-pub letter-nowhere : (letter place end : ℕ) → end ≤ place → form_at form_count ≡ form_of (forms_between place end) letter
-unfolding form_of form_in
+pub letter-nowhere : (letter place end : ℕ) → end ≤ place → form_of (forms_between place end) letter ≡ none
+unfolding form_of
 letter-nowhere letter place end h =
     let none_left : end - place ≡ 0 = omega arith in
     rw none_left

@@ -5,27 +5,18 @@ use Rattle.definitions.specs.Lines.{form_of}
 use Rattle.lines.specs.Laws.Tables.{letter-found, letter-passed, letter-nowhere}
 use Rattle.lines.proofs.forms.place_of.Goals as goal
 
-pub returns-then-form-letter : goal.returns-then-form-letter
-returns-then-form-letter c =
-    let a = c.args in
-    let tables = c.block_of-block.ensures.tables in
-    let inv = c.loop-place.invariant in record {
-      within = omega arith;
-      found = letter-found _ _ _ c.loop-place-test.true inv.0 c.if-form-letter.true ∙ sym inv.1
-          ∙ sym (ap (λ f. form_of f a.letter) tables);
-    }
+pub returns-then-place-letter : goal.returns-then-place-letter
+returns-then-place-letter c =
+    let placed = c.places_of-places.ensures in
+    let found = letter-found _ _ _ c.loop-place-test.true placed.within c.if-place-letter.true in
+    (omega (arith, placed.within, c.loop-place-test.true), found ∙ sym c.loop-place.invariant ∙ sym (ap (λ f. form_of f c.args.letter) placed.tables))
 
 pub loop-place-preserved : goal.loop-place-preserved
 loop-place-preserved c =
-    let inv = c.loop-place.invariant in
-    (inv.0, inv.1 ∙ letter-passed _ _ _ c.loop-place-test.true inv.0 c.if-form-letter.false)
+    c.loop-place.invariant
+    ∙ letter-passed _ _ _ c.loop-place-test.true c.places_of-places.ensures.within c.if-place-letter.false
 
 pub returns : goal.returns
 returns c =
-    let a = c.args in
-    let tables = c.block_of-block.ensures.tables in
-    let inv = c.loop-place.invariant in record {
-      within = omega arith;
-      found = letter-nowhere _ _ _ c.loop-place-test.false ∙ sym inv.1
-          ∙ sym (ap (λ f. form_of f a.letter) tables);
-    }
+    ap (λ f. form_of f c.args.letter) c.places_of-places.ensures.tables
+    ∙ c.loop-place.invariant ∙ letter-nowhere _ _ _ c.loop-place-test.false

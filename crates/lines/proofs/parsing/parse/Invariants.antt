@@ -1,10 +1,6 @@
 -- `parsing::parse` meets its contract. The loop's invariant: `numbers` has the entries before `field`.
-use Prim.Native.Nat.{◌-◌}
 use Rattle.lines.specs.Laws.Parsing.{Entries}
 use Rattle.lines.proofs.parsing.parse.Given as goal
 
 abbrev pub invariant-loop-field : goal.invariant-loop-field
 invariant-loop-field l = Entries l.bytes l.used l.numbers l.field
-
-abbrev pub decreases-loop-field : goal.decreases-loop-field
-decreases-loop-field l = 5 - l.field

@@ -2,22 +2,23 @@
 -- from `i` on end in a line feed.
 use mathlib.Core.Path.{◌∙◌}
 use mathlib.Core.List.{[]}
+use borrow.Author.Rules.{rules}
 use borrow.Author.Tests.{eq-eqb, ne_eqb}
 use Rattle.lines.specs.Laws.Passing.{passed-more, passed-stop, passed-end}
 use Rattle.lines.specs.Laws.Texts.{lines-count, line-listed, feed-at, whole-empty, whole-torn}
 use Rattle.lines.specs.Laws.Texts.{whole-rest}
 use Rattle.lines.proofs.texts.whole_lines.Goals as goal
+use Rattle.lines.proofs.texts.whole_lines.Goals.{then-is_empty-via-then-is_empty, then-is_empty-via-else-is_empty+then-text-ne0}
 
-pub returns-then-text-eq0 : goal.returns-then-text-eq0
-returns-then-text-eq0 c = whole-empty c.args.text.now c.if-text-eq0.true
-
-pub returns-then-text-ne0 : goal.returns-then-text-ne0
-returns-then-text-ne0 c = whole-torn c.args.text.now c.if-text-ne0.true
+pub returns-then-is_empty : goal.returns-then-is_empty
+returns-then-is_empty c =
+    elim c.then-is_empty.branch [
+      | then-is_empty-via-then-is_empty w ↦ whole-empty _ (search rules)
+      | then-is_empty-via-else-is_empty+then-text-ne0 w ↦ whole-torn _ w.if-text-ne0.true
+    ]
 
 pub loop-i-init : goal.loop-i-init
-loop-i-init c =
-    let text = c.args.text.now in
-    whole-rest text c.if-text-eq0.false c.if-text-ne0.false
+loop-i-init c = whole-rest _ (search rules) c.if-text-ne0.false
 
 pub returns-then-text-i-ne10 : goal.returns-then-text-i-ne10
 returns-then-text-i-ne10 c =
@@ -36,6 +37,4 @@ loop-i-preserved c =
     (feed-at text at.i line ∙ eq-eqb _ _ c.if-text-i-ne10.false)
 
 pub returns : goal.returns
-returns c =
-    let text = c.args.text.now in
-    passed-end c.loop-i.invariant (rw (lines-count text) c.loop-i-test.false)
+returns c = passed-end c.loop-i.invariant (rw (lines-count c.args.text.now) c.loop-i-test.false)

@@ -1,11 +1,13 @@
 -- Laws about finding a list's used part from its end.
-use Rattle.std.specs.Prelude.{◌≡◌, List, [], ◌∷◌, ℕ, zero, suc, ◌-◌, ◌≤◌, ◌<◌, eqb, length, take}
+use Rattle.std.specs.Prelude.{◌≡◌, List, [], ◌∷◌, true, false, T, ℕ, zero, suc, ◌-◌, ◌≤◌, ◌<◌, eqb, length, map, get_or, take}
 use Rattle.std.proofs.Math.Path.{sym}
-use Rattle.std.proofs.Common.{ap, ◌∙◌, ne_eqb}
+use Rattle.std.proofs.lemmas.Bool.{eqb-true}
+use Rattle.std.proofs.Common.{ap, ◌∙◌, subst, ne_eqb, eq-eqb}
 use native.Mathlib.Omega.{arith}
 use Rattle.std.proofs.Math.Dec.{eqb-suc-zero}
 use Rattle.std.proofs.Math.Seq.{take-length}
 use Rattle.definitions.specs.Lists.{◌!◌}
+use Rattle.definitions.proofs.Laws.Lists.Lists.{map_at}
 use Rattle.definitions.proofs.Laws.Lists.Tests.{by-test}
 use Rattle.showing.specs.Used.{used_of}
 
@@ -58,3 +60,15 @@ module _ {l : List ℕ} {used : ℕ} (b : UsedBefore l used) where
       let none : used ≡ 0 = omega arith in
       let all : used ≡ used_of (take used l) = rw none in
       (b.within, all ∙ sym b.rest)
+
+-- ---- the numbers behind elements
+
+module _ {A : Type 0} (value : A → ℕ) (l : List A) (i : ℕ) (x : A) (h : i < length l) (e : x ≡ get_or l i x) where
+  number-at : map value l ! i ≡ value x
+  number-at = map_at value l x 0 i h ∙ ap value (sym e)
+
+  pub zero-at : eqb (value x) 0 ≡ true → map value l ! i ≡ 0
+  zero-at is = number-at ∙ eqb-true _ _ is
+
+  pub other-at : eqb (value x) 0 ≡ false → map value l ! i ≡ 0 → ⊥
+  other-at isnt z = subst T (sym (eq-eqb _ _ (sym number-at ∙ z)) ∙ isnt) tt
