@@ -20,12 +20,6 @@ module _ (position s : ℕ) (m : Matrix) where
 
 -- ---- tests of the first columns
 
--- a chain that ends in `all` tests every element
-pub every-all : {A : Type 0} (test : A → Bool) (l : List A) → every test l ≡ list_all test l
-unfolding every
-every-all test [] = refl
-every-all test (x ∷ l) = ap (λ (b : Bool). test x && b) (every-all test l)
-
 -- no column is empty
 abbrev pub some_member : ℕ → Bool
 some_member column = not (eqb column 0)

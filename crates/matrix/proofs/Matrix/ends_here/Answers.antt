@@ -6,7 +6,7 @@ use Rattle.std.proofs.lemmas.Iterator.Adapters.{YieldsList-from_skip}
 use Rattle.std.proofs.lemmas.Iterator.Search.{all_from_yields_List}
 use Rattle.definitions.specs.PhoneSets.{has}
 use Rattle.definitions.specs.Matrices.{ends_here}
-use Rattle.matrix.specs.Laws.Columns.{every-all}
+use Rattle.lines.specs.Laws.Chains.{every_is}
 use Rattle.matrix.proofs.Matrix.ends_here.Goals as goal
 
 pub returns : goal.returns
@@ -18,4 +18,4 @@ returns c =
     (YieldsList-from_skip (a.half + 1)
     (YieldsList-from_take (2 * a.half + 1) (YieldsList-from_slice a.self.columns (search rules)) (search rules)) (search rules))
     (λ x b q k. search rules) in
-    all ∙ sym (every-all (has 1) (drop (a.half + 1) (take (2 * a.half + 1) a.self.columns)))
+    all ∙ sym (every_is (has 1) (drop (a.half + 1) (take (2 * a.half + 1) a.self.columns)))
