@@ -1,5 +1,5 @@
 -- How often nodes are named: the counts that the code keeps, and the names that they count.
-use Rattle.std.specs.Prelude.{if◌then◌else◌, List, [], ◌∷◌, ◌++◌, map, ◌&&◌, ℕ, suc, ltb, eqb, length, set}
+use Rattle.std.specs.Prelude.{if◌then◌else◌, List, [], ◌∷◌, ◌++◌, map, not, ◌&&◌, ℕ, suc, ltb, eqb, length, set, Option, position}
 use Rattle.definitions.specs.Lists.{◌!◌, concat_map, up_from, occurrences}
 use Rattle.definitions.specs.BookLines.{TreeNode, children_of}
 
@@ -27,3 +27,7 @@ named_all counts (node ∷ names) = named_all (named_again counts node) names
 unfoldable pub first_misnamed : (counts : List ℕ) → ℕ
 first_misnamed [] = 0
 first_misnamed (count ∷ counts) = if eqb count 1 then suc (first_misnamed counts) else 0
+
+-- the same where there is one
+abbrev pub misnamed_place : (counts : List ℕ) → Option ℕ
+misnamed_place counts = position (λ count. not (eqb count 1)) counts

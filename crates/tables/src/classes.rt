@@ -8,9 +8,5 @@ use lines::counting::from_zero;
 pub fn set_of(classes: &[u64], class: u32) -> u64
     ensures { result ≡ classes.now ! (class - 1) }
 {
-    let at = from_zero(class);
-    if at < classes.len() {
-        return classes[at];
-    }
-    0
+    classes.get(from_zero(class)).copied().unwrap_or(0)
 }

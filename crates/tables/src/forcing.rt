@@ -14,14 +14,12 @@ use lines::counting::from_zero;
 pub const MOST_ROOTS: usize = 64 * 3;
 
 // The phone whose trees a phone has: its plain phone, where it is a boundary phone.
+#[tactic(auto, unfolding(definitions::specs::Tables::tree_phone))]
 pub fn tree_phone(plains: &[u32], phone: u32) -> u32
     ensures { result ≡ tree_phone plains.now phone }
 {
     let plain = word_at(plains, from_zero(phone));
-    if plain != 0 {
-        return plain;
-    }
-    phone
+    if plain != 0 { plain } else { phone }
 }
 
 // The root in force at a place in R order.
@@ -40,9 +38,7 @@ pub fn roots_in_force(header: Header, roots: &[u32], plains: &[u32], forced: &mu
         ++ drop (root_count header) forced.old }
 {
     let count = header.phones * header.states;
-    let mut place = 0;
-    while place < count {
+    for place in 0..count {
         forced[wide(place)] = root_in_force(header, roots, plains, place);
-        place += 1;
     }
 }

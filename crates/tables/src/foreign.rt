@@ -21,11 +21,10 @@ use definitions::{Header, MOST_NODES, Node, wide};
 fn name_children(counts: &mut [u32], node: Node)
     ensures { counts.new ≡ named_all counts.old (children_of (tree_node node)) }
 {
-    if node.kind != 1 {
-        return;
+    if node.kind == 1 {
+        name_node(counts, node.yes);
+        name_node(counts, node.no);
     }
-    name_node(counts, node.yes);
-    name_node(counts, node.no);
 }
 
 // Counts the children of all nodes.
@@ -34,10 +33,8 @@ fn name_all_children(counts: &mut [u32], header: Header, words: &[u32])
         ≡ named_all counts.old
         (concat_map children_of (map tree_node (node_records header words.now))) }
 {
-    let mut at = 0;
-    while at < header.nodes {
+    for at in 0..header.nodes {
         name_children(counts, node_at(words, at));
-        at += 1;
     }
 }
 
@@ -45,10 +42,8 @@ fn name_all_children(counts: &mut [u32], header: Header, words: &[u32])
 fn name_roots(counts: &mut [u32], roots: &[u32])
     ensures { counts.new ≡ named_all counts.old roots.now }
 {
-    let mut i = 0;
-    while i < roots.len() {
-        name_node(counts, roots[i]);
-        i += 1;
+    for root in roots {
+        name_node(counts, *root);
     }
 }
 
@@ -62,7 +57,7 @@ fn named_once(header: Header, nodes: &[u32], roots: &[u32]) -> bool
     let used = wide(header.phones) * wide(header.states);
     name_roots(&mut counts, &roots[..used]);
     let count = wide(header.nodes);
-    first_misnamed(&counts[..count]) == count
+    first_misnamed(&counts[..count]).is_none()
 }
 
 // Whether reading leaves these records and classes with this header.
@@ -70,16 +65,11 @@ fn records_known(header: Header, nodes: &[u32], classes: &[u64]) -> bool
     ensures { result ≡ (header_known header && node_table_known header nodes.now
         && class_table_known header classes.now) }
 {
-    if !header_known(header) {
-        return false;
-    }
-    if !node_table_known(header, nodes) {
-        return false;
-    }
-    class_table_known(header, classes)
+    header_known(header) && node_table_known(header, nodes) && class_table_known(header, classes)
 }
 
 // Whether reading leaves these tables with this header.
+#[tactic(auto, unfolding(definitions::specs::ForeignTables::tables_known, definitions::specs::ForeignTables::named_once, definitions::specs::Tables::tables_contents))]
 pub fn tables_known(
     header: Header,
     nodes: &[u32],
@@ -90,16 +80,10 @@ pub fn tables_known(
     ensures { result ≡ tables_known header (lent_tables nodes.now classes.now roots.now
         plains.now) }
 {
-    if !records_known(header, nodes, classes) {
-        return false;
-    }
-    if !plain_table_known(header, plains) {
-        return false;
-    }
-    if !root_table_known(header, plains, roots) {
-        return false;
-    }
-    named_once(header, nodes, roots)
+    records_known(header, nodes, classes)
+        && plain_table_known(header, plains)
+        && root_table_known(header, plains, roots)
+        && named_once(header, nodes, roots)
 }
 
 // Whether reading leaves these records and classes with this header, and the root is one of the nodes. How
@@ -108,10 +92,7 @@ pub fn lookup_known(header: Header, nodes: &[u32], classes: &[u64], root: u32) -
     ensures { result ≡ (holds_only (node_size * header.nodes) nodes.now
         && lookup_known header classes.now (node_records header nodes.now) root) }
 {
-    if !records_known(header, nodes, classes) {
-        return false;
-    }
-    root < header.nodes
+    records_known(header, nodes, classes) && root < header.nodes
 }
 
 // The same of a list of so many node records, but for the records, which are judged one by one.
@@ -119,14 +100,8 @@ pub fn list_known(header: Header, count: usize, classes: &[u64], root: u32) -> b
     ensures { result ≡ (header_known header && eqb count header.nodes && class_table_known header classes.now
         && ltb root header.nodes) }
 {
-    if !header_known(header) {
-        return false;
-    }
-    if count != wide(header.nodes) {
-        return false;
-    }
-    if !class_table_known(header, classes) {
-        return false;
-    }
-    root < header.nodes
+    header_known(header)
+        && count == wide(header.nodes)
+        && class_table_known(header, classes)
+        && root < header.nodes
 }

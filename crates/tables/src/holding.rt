@@ -1,37 +1,11 @@
 // Lent words that are used only up to a place.
-ghost use Rattle.std.specs.Prelude.{◌≡◌};
-ghost use Rattle.definitions.specs.ForeignTables.{holds_only};
+ghost use Rattle.std.specs.Prelude.{◌&&◌, ◌≡◌, leb, length, drop};
+ghost use Rattle.definitions.specs.Lists.{every};
 
-// At least `count` words, and 0 in every word beyond them.
-pub fn holds_only(words: &[u32], count: usize) -> bool
-    ensures { result ≡ holds_only count words.now }
+// At least `count` words, and `zero`, which is 0, in every word beyond them: `holds_only`.
+pub fn holds_only<T: Copy + PartialEq>(words: &[T], count: usize, zero: T) -> bool
+    ensures { result ≡ (leb count (length words.now)
+        && every (λ word. T.eq word zero) (drop count words.now)) }
 {
-    if words.len() < count {
-        return false;
-    }
-    let mut i = count;
-    while i < words.len() {
-        if words[i] != 0 {
-            return false;
-        }
-        i += 1;
-    }
-    true
-}
-
-// The same of 64-bit words.
-pub fn holds_only_sets(sets: &[u64], count: usize) -> bool
-    ensures { result ≡ holds_only count sets.now }
-{
-    if sets.len() < count {
-        return false;
-    }
-    let mut i = count;
-    while i < sets.len() {
-        if sets[i] != 0 {
-            return false;
-        }
-        i += 1;
-    }
-    true
+    count <= words.len() && words[count..].iter().all(|word| *word == zero)
 }

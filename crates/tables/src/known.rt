@@ -5,7 +5,7 @@ ghost use Rattle.definitions.specs.ForeignTables.{header_known, node_table_known
 ghost use Rattle.definitions.specs.ForeignTables.{plain_table_known, roots_known, root_table_known};
 ghost use Rattle.definitions.specs.Lists.{every};
 
-use crate::holding::{holds_only, holds_only_sets};
+use crate::holding::holds_only;
 use crate::nodes::record_known;
 use crate::phones::{plain_known, roots_given};
 use crate::records::{node_at, word_at};
@@ -38,15 +38,13 @@ pub fn node_table_known(header: Header, words: &[u32]) -> bool
     requires { T (header_known header) }
     ensures { result ≡ node_table_known header words.now }
 {
-    if !holds_only(words, NODE_SIZE * wide(header.nodes)) {
+    if !holds_only(words, NODE_SIZE * wide(header.nodes), 0) {
         return false;
     }
-    let mut at = 0;
-    while at < header.nodes {
+    for at in 0..header.nodes {
         if !record_known(header, at, node_at(words, at)) {
             return false;
         }
-        at += 1;
     }
     true
 }
@@ -57,55 +55,36 @@ fn sets_within(sets: &[u64], phones: u32) -> bool
     requires { (1 ≤ phones) × (phones ≤ 64) }
     ensures { result ≡ every (λ set. ltb set (2 ^ phones)) sets.now }
 {
-    let mut i = 0;
-    while i < sets.len() {
-        let set = sets[i];
-        if 1 < set >> (phones - 1) {
-            return false;
-        }
-        i += 1;
-    }
-    true
+    sets.iter().all(|set| *set >> (phones - 1) <= 1)
 }
 
 // Sets of the header's phones, and nothing beyond them.
+#[tactic(auto, unfolding(definitions::specs::ForeignTables::class_table_known, definitions::specs::ForeignTables::holds_only))]
 pub fn class_table_known(header: Header, sets: &[u64]) -> bool
     requires { T (header_known header) }
     ensures { result ≡ class_table_known header sets.now }
 {
     let classes = wide(header.classes);
-    if !holds_only_sets(sets, classes) {
-        return false;
-    }
-    sets_within(&sets[..classes], header.phones)
+    holds_only(sets, classes, 0) && sets_within(&sets[..classes], header.phones)
 }
 
 // Plain phones that are no boundary phones, and none for silence.
 fn plains_known(header: Header, plains: &[u32]) -> bool
     ensures { result ≡ plains_known header plains.now }
 {
-    if word_at(plains, 0) != 0 {
-        return false;
-    }
-    let mut i = 0;
-    while i < plains.len() {
-        if !plain_known(header, plains, plains[i]) {
-            return false;
-        }
-        i += 1;
-    }
-    true
+    word_at(plains, 0) == 0
+        && plains
+            .iter()
+            .all(|plain| plain_known(header, plains, *plain))
 }
 
 // Plain phones that B lines name, and nothing beyond them.
+#[tactic(auto, unfolding(definitions::specs::ForeignTables::plain_table_known, definitions::specs::ForeignTables::holds_only))]
 pub fn plain_table_known(header: Header, words: &[u32]) -> bool
     ensures { result ≡ plain_table_known header words.now }
 {
     let phones = wide(header.phones);
-    if !holds_only(words, phones) {
-        return false;
-    }
-    plains_known(header, &words[..phones])
+    holds_only(words, phones, 0) && plains_known(header, &words[..phones])
 }
 
 // The roots of all phones, each phone's as R lines leave them.
@@ -115,14 +94,12 @@ fn roots_known(header: Header, plains: &[u32], roots: &[u32]) -> bool
 {
     let phones = wide(header.phones);
     let states = wide(header.states);
-    let mut i = 0;
-    while i < phones {
+    for i in 0..phones {
         let from = i * states;
         let end = from + states;
         if !roots_given(&roots[from..end], word_at(plains, i), header.nodes) {
             return false;
         }
-        i += 1;
     }
     true
 }
@@ -133,8 +110,5 @@ pub fn root_table_known(header: Header, plains: &[u32], words: &[u32]) -> bool
     ensures { result ≡ root_table_known header (take header.phones plains.now) words.now }
 {
     let roots = wide(header.phones) * wide(header.states);
-    if !holds_only(words, roots) {
-        return false;
-    }
-    roots_known(header, plains, &words[..roots])
+    holds_only(words, roots, 0) && roots_known(header, plains, &words[..roots])
 }

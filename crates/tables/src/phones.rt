@@ -9,41 +9,25 @@ use definitions::{Header, NO_ROOT};
 use lines::counting::from_zero;
 
 // A plain phone that a B line names: a phone that is no boundary phone; or 0.
+#[tactic(auto, unfolding(definitions::specs::ForeignTables::plain_known))]
 pub fn plain_known(header: Header, plains: &[u32], plain: u32) -> bool
     ensures { result ≡ plain_known header plains.now plain }
 {
-    if header.phones < plain {
-        return false;
-    }
-    word_at(plains, from_zero(plain)) == 0
+    plain <= header.phones && word_at(plains, from_zero(plain)) == 0
 }
 
 // Numbers below a bound.
 fn all_below(words: &[u32], bound: u32) -> bool
     ensures { result ≡ every (λ word. ltb word bound) words.now }
 {
-    let mut i = 0;
-    while i < words.len() {
-        if bound <= words[i] {
-            return false;
-        }
-        i += 1;
-    }
-    true
+    words.iter().all(|word| *word < bound)
 }
 
 // Roots that no R line gives.
 fn all_left_out(roots: &[u32]) -> bool
     ensures { result ≡ every (λ root. eqb root no_root) roots.now }
 {
-    let mut i = 0;
-    while i < roots.len() {
-        if roots[i] != NO_ROOT {
-            return false;
-        }
-        i += 1;
-    }
-    true
+    roots.iter().all(|root| *root == NO_ROOT)
 }
 
 // A phone's roots that R lines leave in a book of so many nodes: they are nodes, or a boundary phone's left out all
@@ -52,11 +36,5 @@ pub fn roots_given(roots: &[u32], plain: u32, nodes: u32) -> bool
     ensures { result ≡ (every (λ root. ltb root nodes) roots.now
         || (not (eqb plain 0) && every (λ root. eqb root no_root) roots.now)) }
 {
-    if all_below(roots, nodes) {
-        return true;
-    }
-    if plain == 0 {
-        return false;
-    }
-    all_left_out(roots)
+    all_below(roots, nodes) || (plain != 0 && all_left_out(roots))
 }

@@ -12,10 +12,7 @@ use definitions::{NODE_SIZE, Node, wide};
 pub fn word_at(words: &[u32], place: usize) -> u32
     ensures { result ≡ words.now ! place }
 {
-    if place < words.len() {
-        return words[place];
-    }
-    0
+    words.get(place).copied().unwrap_or(0)
 }
 
 // The record of a node, whose words are 0 beyond the table.

@@ -1,12 +1,13 @@
 -- Laws about how often nodes are named: the counts that the code keeps are those of the names so far, in any
 -- order, and the first count that is not 1 is that of the first orphan.
-use Rattle.std.specs.Prelude.{◌≡◌, List, [], ◌∷◌, ◌++◌, map, not, ◌&&◌, ltb, eqb, take, replicate}
+use Rattle.std.specs.Prelude.{◌≡◌, List, [], ◌∷◌, ◌++◌, map, Bool, true, false, cond, not, ◌&&◌, T, ltb, eqb, take, replicate, Option, Some, None, is_some, unwrap_or}
+use Rattle.std.specs.List.{position_or_len}
 use Rattle.std.proofs.Math.Path.{refl, sym, ap}
-use Rattle.std.proofs.Common.{◌∙◌, append-nil, zero-add, arith, add-one, length-append, length-set, drop_of_length-le, ext_get_or, get_or-set_same, get_or-take, length-take-le, drop-cons}
-use Prim.Native.Nat.{ℕ, zero, suc, ◌+◌, ◌*◌, ◌≤◌, ◌<◌}
+use Rattle.std.proofs.Common.{◌∙◌, subst, append-nil, zero-add, arith, add-one, length-append, length-set, ext_get_or, get_or-set_same, get_or-take, length-take-le}
+use Prim.Native.Nat.{ℕ, zero, suc, ◌+◌, ◌*◌, ◌≤◌, ◌<◌, min}
 use Rattle.std.proofs.Math.Decide.{ℕ_discrete}
 use Rattle.std.proofs.Math.ListN.{length, set, drop}
-use Rattle.std.proofs.lemmas.List.{length-replicate, get_or-replicate}
+use Rattle.std.proofs.lemmas.List.{length-replicate, get_or-replicate, set-get_or}
 use Rattle.std.proofs.Math.Seq.{append_snoc, get_or-set_other}
 use borrow.Author.Tests.{lt-ltb, le-ltb, eq-eqb, ne_eqb, ltb-true, ltb-false}
 use Rattle.definitions.specs.Lists.{◌!◌, select, concat_map, up_from, occurrences}
@@ -15,7 +16,7 @@ use Rattle.definitions.specs.BookReading.{orphans}
 use Rattle.definitions.proofs.Laws.Lists.Tests.{by-test}
 use Rattle.definitions.proofs.Laws.Lists.Lists.{map-up_from-length, map-up_from-at}
 use Rattle.definitions.proofs.Laws.Lists.Occurrences.{occurrences-append, occurrences-least}
-use Rattle.tables.specs.Naming.{counts_of, named_again, named_all, first_misnamed, all_names}
+use Rattle.tables.specs.Naming.{counts_of, named_again, named_all, first_misnamed, misnamed_place, all_names}
 
 -- ---- how often a number stands in a list
 
@@ -123,21 +124,21 @@ named-append counts (node ∷ names) more = named-append (named_again counts nod
 
 -- ---- a naming, as the code makes it
 
-pub again-out : (counts : List ℕ) (node : ℕ) → length counts ≤ node → named_again counts node ≡ counts
+pub again-out : (counts : List ℕ) (node : ℕ) → length counts ≤ node → counts ≡ named_again counts node
 unfolding named_again
 again-out counts node h = rw (le-ltb node (length counts) h)
 
-pub again-full : (counts : List ℕ) (node : ℕ) → counts ! node ≡ 4294967295 → named_again counts node ≡ counts
+pub again-capped : (counts : List ℕ) (node : ℕ) → node < length counts → counts ! node ≤ 4294967295
+    → set counts node (min (counts ! node + 1) 4294967295) ≡ named_again counts node
 unfolding named_again
-again-full counts node e =
-    rw (le-ltb (counts ! node) 4294967295 (omega arith))
-    (by-test (ltb node (length counts)) (λ e. rw e) (λ e. rw e))
-
-pub again-more : (counts : List ℕ) (node : ℕ) → node < length counts → counts ! node < 4294967295
-    → named_again counts node ≡ set counts node (counts ! node + 1)
-unfolding named_again
-again-more counts node h room =
-    rw (lt-ltb node (length counts) h, lt-ltb (counts ! node) 4294967295 room, add-one)
+again-capped counts node h fits =
+    by-test (ltb (counts ! node) 4294967295)
+    (λ e. rw (lt-ltb node (length counts) h, e) (put (omega (arith, ltb-true _ _ e))))
+    (λ e. rw (lt-ltb node (length counts) h, e)
+    (put {next = counts ! node} (omega (arith, ltb-false _ _ e)) ∙ set-get_or counts node 0))
+  where
+    put : {count next : ℕ} → count ≡ next → set counts node count ≡ set counts node next
+    put e = ap (set counts node) e
 
 pub again-length : (counts : List ℕ) (node : ℕ) → length (named_again counts node) ≡ length counts
 unfolding named_again
@@ -152,30 +153,55 @@ named-length counts (node ∷ names) = named-length (named_again counts node) na
 
 -- ---- the first count that is not 1
 
--- a search that has come to a node goes on after it, or ends there
-pub misnamed-more : (counts : List ℕ) (node : ℕ) → node < length counts → counts ! node ≡ 1
-    → node + first_misnamed (drop node counts) ≡ node + 1 + first_misnamed (drop (node + 1) counts)
-unfolding first_misnamed
-misnamed-more counts node h e =
-    rw (drop-cons counts node 0 h, eq-eqb (counts ! node) 1 e, add-one) (omega arith)
-
-pub misnamed-here : (counts : List ℕ) (node : ℕ) → node < length counts → (counts ! node ≡ 1 → ⊥)
-    → node + first_misnamed (drop node counts) ≡ node
-unfolding first_misnamed
-misnamed-here counts node h e =
-    rw (drop-cons counts node 0 h, ne_eqb (counts ! node) 1 e) (omega arith)
-
-pub misnamed-end : (counts : List ℕ) (node : ℕ) → length counts ≤ node
-    → node + first_misnamed (drop node counts) ≡ node
-unfolding first_misnamed
-misnamed-end counts node h = rw (drop_of_length-le counts {i = node} h) (omega arith)
-
 misnamed-least : (counts : List ℕ) → first_misnamed counts ≤ length counts
 unfolding first_misnamed
 misnamed-least [] = omega arith
 misnamed-least (count ∷ counts) =
     let rest = misnamed-least counts in
     by-test (eqb count 1) (λ e. rw e (omega arith)) (λ e. rw e (omega arith))
+
+-- the place that the code finds, where there is one, is that of the first
+misnamed-length : (counts : List ℕ) → position_or_len (λ count. not (eqb count 1)) counts ≡ first_misnamed counts
+unfolding first_misnamed
+misnamed-length [] = refl
+misnamed-length (count ∷ counts) =
+    by-test (eqb count 1) (λ e. rw e (omega (arith, misnamed-length counts))) (λ e. rw e)
+
+place-is : (counts : List ℕ)
+    → misnamed_place counts
+    ≡ cond (ltb (first_misnamed counts) (length counts)) (Some (first_misnamed counts)) None
+place-is counts = rw misnamed-length
+
+pub misnamed-some : (counts : List ℕ) {node : ℕ} → misnamed_place counts ≡ Some node
+    → (node ≡ first_misnamed counts) × (node < length counts)
+misnamed-some counts {node} e =
+    by-test (ltb (first_misnamed counts) (length counts))
+    (λ t. let same : first_misnamed counts ≡ node = ap (λ o. unwrap_or o 0) (sym (rw t at (place-is counts)) ∙ e) in
+    (sym same, omega (arith, same, ltb-true _ _ t)))
+    (λ t. absurd (subst T (sym (ap is_some (sym (rw t at (place-is counts)) ∙ e))) tt))
+
+pub misnamed-none : (counts : List ℕ) → misnamed_place counts ≡ None → first_misnamed counts ≡ length counts
+misnamed-none counts e =
+    by-test (ltb (first_misnamed counts) (length counts))
+    (λ t. absurd (subst T (ap is_some (sym (rw t at (place-is counts)) ∙ e)) tt))
+    (λ t. omega (arith, ltb-false _ _ t, misnamed-least counts))
+
+-- whether there is none
+pub misnamed-test : (counts : List ℕ) {none : Bool} → is_some (misnamed_place counts) ≡ not none
+    → none ≡ eqb (first_misnamed counts) (length counts)
+misnamed-test counts {none} e =
+    by-test none
+    (λ t. rw t (sym (eq-eqb _ _ (misnamed-none counts (gone _ (e ∙ rw t))))))
+    (λ t. rw t (sym (ne_eqb _ _ (λ same. below same (e ∙ rw t)))))
+  where
+    gone : (o : Option ℕ) → is_some o ≡ false → o ≡ None
+    gone None e = refl
+    gone (Some x) e = absurd (subst T e tt)
+
+    below : first_misnamed counts ≡ length counts → is_some (misnamed_place counts) ≡ true → ⊥
+    below same e =
+        let none : misnamed_place counts ≡ None = place-is counts ∙ rw (le-ltb (first_misnamed counts) (length counts) (omega (arith, same))) in
+        subst T (sym e ∙ ap is_some none) tt
 
 -- ---- the first orphan
 

@@ -1,8 +1,8 @@
 -- Laws about counting the names in tables: the children of the records, then the roots, and what the counts
 -- say.
-use Rattle.std.specs.Prelude.{◌≡◌, refl, T, eqb, take, drop, replicate}
+use Rattle.std.specs.Prelude.{◌≡◌, refl, Bool, T, not, is_some, take, drop, replicate}
 use Rattle.std.proofs.Math.Path.{sym, ap}
-use Rattle.std.proofs.Common.{◌∙◌, add-one, arith, length-take, drop_of_length-le, drop-cons, eq-eqb, ne_eqb}
+use Rattle.std.proofs.Common.{◌∙◌, add-one, arith, length-take, length-take-le, drop_of_length-le, drop-cons, eq-eqb, ne_eqb}
 use mathlib.Core.List.{List, [], map}
 use Prim.Native.Nat.{ℕ, ◌+◌, ◌*◌, ◌≤◌, ◌<◌}
 use Rattle.std.proofs.Math.ListN.{length}
@@ -17,11 +17,11 @@ use Rattle.definitions.proofs.Laws.Books.Tables.{tree-nodes-length}
 use Rattle.definitions.proofs.Laws.Books.Books.{roots_few}
 use Rattle.definitions.proofs.Laws.Books.AcceptedKnown.{header-ranges}
 use Rattle.tables.specs.Lending.{lent_tables}
-use Rattle.tables.specs.Naming.{all_names, counts_of, named_again, named_all, first_misnamed}
+use Rattle.tables.specs.Naming.{all_names, counts_of, named_again, named_all, misnamed_place}
 use Rattle.tables.specs.Usable.{records_from, tree_nodes}
 use Rattle.tables.specs.Laws.Records.{records-start, records-next, records-end}
-use Rattle.tables.specs.Laws.Naming.{counts-none, counts-named, named-append, named-length, again-length}
-use Rattle.tables.specs.Laws.Naming.{first_orphan, orphans-test, children-length}
+use Rattle.tables.specs.Laws.Naming.{counts-length, counts-none, counts-named, misnamed-test, named-append, named-length, again-length}
+use Rattle.tables.specs.Laws.Naming.{orphans-test, children-length}
 
 -- ---- one record
 
@@ -128,14 +128,16 @@ module _ (header : Header) (words roots : List ℕ) (known : T (header_known hea
       rw (← counts-none 4096, counts-named 4096 [] (children_in header words) (omega arith))
       (counts-named 4096 (children_in header words) book_roots (omega arith))
 
-  pub once-counted : {used count first : ℕ} {children all : List ℕ} → used ≡ root_count header
+  pub once-counted : {used count : ℕ} {none : Bool} {children all : List ℕ} → used ≡ root_count header
       → count ≡ header.nodes → children ≡ named_all (replicate 4096 0) (children_in header words)
-      → all ≡ named_all children (take used roots) → first ≡ first_misnamed (take count all)
-      → eqb first count ≡ named_once (tables_contents header (lent_tables words [] roots []))
+      → all ≡ named_all children (take used roots) → is_some (misnamed_place (take count all)) ≡ not none
+      → none ≡ named_once (tables_contents header (lent_tables words [] roots []))
   unfolding named_once tables_contents
-  once-counted {used} {count} {first} {children} {all} a b c d e =
+  once-counted {used} {count} {none} {children} {all} a b c d e =
       let counted : all ≡ counts_of 4096 (all_names book_nodes book_roots) = rw (d, c, a) counts-both in
       let many : count ≡ length book_nodes = b ∙ sym (nodes-length) in
-      let lowest : first ≡ first_orphan book_nodes book_roots 4096 = e ∙ rw (counted, many) in
       let range : header.nodes ≤ 4096 = (header-ranges header known).nodes_range.high in
-      rw (lowest, many) (orphans-test book_nodes book_roots 4096 (omega (arith, nodes-length)))
+      let size : length all ≡ 4096 = ap length counted ∙ counts-length 4096 (all_names book_nodes book_roots) in
+      let sized : length (take count all) ≡ count = length-take-le count all (omega (arith, size, b)) in
+      misnamed-test (take count all) e
+      ∙ rw (sized, counted, many) (orphans-test book_nodes book_roots 4096 (omega (arith, nodes-length)))

@@ -9,24 +9,9 @@ use Rattle.std.proofs.Math.Seq.{ext_get_or, get_or-take}
 use Rattle.definitions.specs.declared.Header.{Header}
 use Rattle.definitions.specs.Lists.{◌!◌, every, up_from}
 use Rattle.definitions.specs.BookLines.{root_count, no_root}
-use Rattle.definitions.specs.ForeignTables.{holds_only, roots_of_phone, phone_known, roots_known, root_table_known}
-use Rattle.definitions.specs.ForeignTables.{plains_known, plain_table_known}
+use Rattle.definitions.specs.ForeignTables.{roots_of_phone, phone_known, roots_known}
 use Rattle.definitions.proofs.Laws.Lists.Lists.{part_at, up_from-length, map-up_from-length, map-up_from-at}
 use Rattle.lines.specs.Laws.Passing.{Passed, passed_start, passed-more, passed-stop, passed-end}
-
--- ---- a whole table, where nothing stands beyond the words that count
-
-pub plains-left : (header : Header) (words : List ℕ) {count : ℕ} → count ≡ header.phones
-    → holds_only count words ≡ true → plains_known header (take count words) ≡ plain_table_known header words
-unfolding plain_table_known
-plains-left header words e h =
-    let held : holds_only header.phones words ≡ true = rw e at h in rw (held, e)
-
-pub roots-left : (header : Header) (plains words : List ℕ) {count : ℕ} → count ≡ root_count header
-    → holds_only count words ≡ true → roots_known header plains (take count words) ≡ root_table_known header plains words
-unfolding root_table_known
-roots-left header plains words e h =
-    let held : holds_only (root_count header) words ≡ true = rw e at h in rw (held, e)
 
 -- ---- phone by phone
 

@@ -1,33 +1,22 @@
 -- Laws about the tests of whole tables under a known header: nothing beyond the words that count, and the walk
 -- over the nodes. The code's counts are those of the header, by the equations handed in.
-use Rattle.std.specs.Prelude.{◌≡◌, List, Bool, true, false, ◌||◌, ℕ, ◌+◌, ◌*◌, ◌≤◌, ◌<◌, eqb, length, take, drop}
+use Rattle.std.specs.Prelude.{◌≡◌, List, true, false, ◌&&◌, ◌||◌, T, ℕ, ◌+◌, ◌*◌, ◌≤◌, ◌<◌, length, take, drop}
 use Rattle.std.proofs.Math.Path.{sym}
-use Rattle.std.proofs.Common.{◌∙◌, add-one, arith, length-take-le, le-leb}
-use Rattle.std.proofs.lemmas.Bool.{lt-leb}
+use Rattle.std.proofs.Common.{◌∙◌, add-one, arith, length-take-le}
 use Rattle.definitions.specs.declared.Header.{Header}
 use Rattle.definitions.specs.declared.Node.{Node}
 use Rattle.definitions.specs.BookLines.{root_count}
 use Rattle.definitions.specs.BookReading.{node_size}
 use Rattle.definitions.specs.Tables.{node_of}
 use Rattle.definitions.specs.ForeignTables.{question_known, leaf_known, nodes_known, holds_only, node_table_known}
+use Rattle.definitions.specs.ForeignTables.{header_known, class_table_known, root_table_known}
+use Rattle.definitions.proofs.Laws.Lists.Tests.{T-three}
 use Rattle.definitions.proofs.Laws.Books.AcceptedKnown.{holds-padded}
-use Rattle.lines.specs.Laws.Passing.{Passed}
+use Rattle.definitions.proofs.Laws.Books.KnownBooks.{root-table-parts}
 use Rattle.tables.specs.Usable.{records_from}
 use Rattle.tables.specs.Laws.Records.{records-start, records-next, records-end}
 
 -- ---- a table's length, and nothing beyond
-
-abbrev pub is_zero : ℕ → Bool
-is_zero word = eqb word 0
-
-pub holds-short : (count : ℕ) (words : List ℕ) → length words < count → holds_only count words ≡ false
-unfolding holds_only
-holds-short count words h = rw (lt-leb count (length words) h)
-
-pub holds-from : (count : ℕ) (words : List ℕ) → count ≤ length words
-    → Passed is_zero words (holds_only count words) count
-unfolding holds_only
-holds-from count words h = record { within = h; rest = rw (le-leb count (length words) h) }
 
 -- the words that count are all there
 pub holds-taken : (count : ℕ) (words : List ℕ) → holds_only count words ≡ true
@@ -78,3 +67,14 @@ module _ {header : Header} {words : List ℕ} {at : ℕ} (j : Judged header word
   pub nodes-end : header.nodes ≤ at → true ≡ node_table_known header words
   unfolding nodes_known
   nodes-end h = sym (j.rest ∙ rw (records-end header.nodes at words h))
+
+-- what `named_once` asks holds once the records and the roots are known
+pub once-asks : (header : Header) (nodes classes plains roots : List ℕ)
+    → (header_known header && node_table_known header nodes && class_table_known header classes) ≡ true
+    → root_table_known header (take header.phones plains) roots ≡ true
+    → T (header_known header) × (root_count header ≤ length roots)
+once-asks header nodes classes plains roots e f =
+    let (own, _, _) = (T-three (header_known header) (node_table_known header nodes)
+    (class_table_known header classes)).0 (rw e tt) in
+    let (words, _) = root-table-parts header roots (take header.phones plains) (rw f tt) in
+    (own, (holds-padded (root_count header) roots words).0)

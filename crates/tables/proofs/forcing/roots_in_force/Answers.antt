@@ -32,10 +32,6 @@ bounds-forced-wide c =
     let inv = c.loop-place.invariant in
     omega (arith, c.wide.ensures, inv.0, inv.1.filled.sized, c.requires.1)
 
-pub overflow_add-place : goal.overflow_add-place
-overflow_add-place c =
-    record { fits = omega (arith, c.loop-place.invariant.0, few _ c.requires.0.header-known) }
-
 pub loop-place-preserved : goal.loop-place-preserved
 loop-place-preserved c =
     let inv = c.loop-place.invariant in (

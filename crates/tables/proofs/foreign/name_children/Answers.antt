@@ -2,10 +2,10 @@
 use Rattle.tables.specs.Laws.NamingTables.{children-none, children-both}
 use Rattle.tables.proofs.foreign.name_children.Goals as goal
 
-pub returns-then-node-ne1 : goal.returns-then-node-ne1
-returns-then-node-ne1 c = children-none _ _ c.if-node-ne1.true
+pub returns-then-node-eq1 : goal.returns-then-node-eq1
+returns-then-node-eq1 c =
+    children-both _ _ c.if-node-eq1.true c.name_node.ensures
+    c.name_node-then-node-eq1.ensures
 
-pub returns : goal.returns
-returns c =
-    children-both _ _ c.if-node-ne1.false c.name_node.ensures
-    c.name_node-2.ensures
+pub returns-else-node-eq1 : goal.returns-else-node-eq1
+returns-else-node-eq1 c = children-none _ _ c.if-node-eq1.false

@@ -44,4 +44,4 @@ pub returns : goal.returns
 returns c =
     once-counted _ _ _ c.requires.0 (root-count _ c.wide.ensures c.wide-2.ensures)
     c.wide-count.ensures c.name_all_children.ensures c.name_roots.ensures
-    c.first_misnamed.ensures
+    (rw c.first_misnamed.ensures at c.is_none.ensures)

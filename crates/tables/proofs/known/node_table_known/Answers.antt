@@ -1,5 +1,5 @@
 -- `known::node_table_known` meets its contract. The loop's invariant: the records before `at` are known.
-use Rattle.definitions.specs.ForeignTables.{node_table_known}
+use Rattle.definitions.specs.ForeignTables.{node_table_known, holds_only}
 use Rattle.definitions.proofs.Laws.Lists.Tests.{held, failed}
 use Rattle.tables.specs.Laws.TableTests.{nodes-held, nodes-more, nodes-stop, nodes-end}
 use Rattle.std.proofs.lemmas.Bool.{not_from_true}
@@ -8,11 +8,12 @@ use borrow.Author.Rules.{rules}
 use Rattle.tables.proofs.known.node_table_known.Goals as goal
 
 pub returns-then-not-holds_only : goal.returns-then-not-holds_only
-unfolding node_table_known
+unfolding node_table_known holds_only
 returns-then-not-holds_only c =
     rw (← c.wide.ensures, failed c.holds_only.ensures (not_from_false _ c.if-not-holds_only.true))
 
 pub loop-at-init : goal.loop-at-init
+unfolding holds_only
 loop-at-init c =
     nodes-held _ _ c.wide.ensures
     (held c.holds_only.ensures (not_from_true _ c.if-not-holds_only.false))

@@ -1,10 +1,6 @@
 -- `known::node_table_known` meets its contract. The loop's invariant: the records before `at` are known.
-use Prim.Native.Nat.{◌-◌}
 use Rattle.tables.specs.Laws.TableTests.{Judged}
 use Rattle.tables.proofs.known.node_table_known.Given as goal
 
 abbrev pub invariant-loop-at : goal.invariant-loop-at
 invariant-loop-at l = Judged l.header l.words l.at
-
-abbrev pub decreases-loop-at : goal.decreases-loop-at
-decreases-loop-at l = l.header.nodes - l.at

@@ -1,10 +1,6 @@
 -- `known::roots_known` meets its contract. The loop's invariant: the roots of the phones before `i` are known.
-use Prim.Native.Nat.{◌-◌}
 use Rattle.tables.specs.Laws.PhoneTests.{RootsPassed}
 use Rattle.tables.proofs.known.roots_known.Given as goal
 
 abbrev pub invariant-loop-i : goal.invariant-loop-i
 invariant-loop-i l = RootsPassed l.header l.plains l.roots l.i
-
-abbrev pub decreases-loop-i : goal.decreases-loop-i
-decreases-loop-i l = l.phones - l.i

@@ -1,22 +1,12 @@
--- `naming::name_node` meets its contract, by whether the node has a count and the count has room.
-use mathlib.Core.Path.{sym}
+-- `naming::name_node` meets its contract, by whether the node has a count.
 use native.Mathlib.Omega.{arith}
-use Rattle.tables.specs.Laws.Naming.{again-out, again-full, again-more}
-use borrow.Author.Rules.{rules}
+use Rattle.tables.specs.Laws.Naming.{again-out, again-capped}
 use Rattle.tables.proofs.naming.name_node.Goals as goal
 
-pub returns-then-counts-at : goal.returns-then-counts-at
-returns-then-counts-at c = sym (again-out _ _ (search rules))
+pub returns-then-at-counts : goal.returns-then-at-counts
+returns-then-at-counts c =
+    rw (c.saturating_add.ensures, c.wide-at.ensures)
+    (again-capped _ _ (omega (arith, c.wide-at.ensures)) (search arith))
 
-pub returns-then-count : goal.returns-then-count
-returns-then-count c = sym (again-full _ _ (search rules))
-
-pub overflow_add-counts : goal.overflow_add-counts
-overflow_add-counts c =
-    let known = c.slice_known-1.given c.args.node in
-    omega (arith, known, c.if-count.false)
-
-pub returns : goal.returns
-returns c =
-    let known = c.slice_known-1.given c.args.node in
-    sym (again-more _ _ (search rules) (omega (arith, known, c.if-count.false)))
+pub returns-else-at-counts : goal.returns-else-at-counts
+returns-else-at-counts c = again-out _ _ (omega (arith, c.wide-at.ensures))
