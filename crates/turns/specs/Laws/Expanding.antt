@@ -1,6 +1,7 @@
 -- Laws about a turn: the own arcs of a metastate and the arc to FINAL appended, then the arcs to its followers; one law
 -- for each answer.
-use Rattle.std.specs.Prelude.{◌≡◌, refl, Bool, true, false, not, ℕ, ◌+◌, ◌*◌, ◌≤◌, ◌<◌, min, leb, length, take, drop, get_or}
+use Rattle.definitions.specs.declared.Fault.{Fault}
+use Rattle.std.specs.Prelude.{◌≡◌, refl, Bool, true, false, not, ℕ, ◌+◌, ◌*◌, ◌≤◌, ◌<◌, min, leb, length, take, drop, get_or, Result, Err}
 use Rattle.std.proofs.Common.{sym, ◌∙◌, subst, arith, length-append}
 use Rattle.std.proofs.Math.Path.{ap}
 use mathlib.Core.List.{List, [], ◌++◌, map, map-append, append-nil}
@@ -26,8 +27,6 @@ use Rattle.index.specs.declared.Follower.{Follower}
 use Rattle.index.specs.RecordWords.{IsMetastate}
 use Rattle.index.specs.Combinations.{combinations_in, nodes_book}
 use Rattle.growing.specs.declared.Sizes.{Sizes}
-use Rattle.growing.specs.declared.Step.{Step}
-use Rattle.growing.specs.declared.Step.TheVariants as step
 use Rattle.growing.specs.Kept.{Kept}
 use Rattle.growing.specs.Steps.{arc_room, sizes_of, step_of}
 use Rattle.growing.specs.Laws.KeptBack.{kept_back}
@@ -128,7 +127,7 @@ module _ {header : Header} {nodes combinations index metastates arcs chains span
                 (omega (arith, over, (arcs-asked s), are.counted)))
 
             pub turn-stops : not roomy ≡ true
-                → TurnLeft header nodes combinations metastates arcs chains spans outcome (step.Stop Tangle)
+                → TurnLeft header nodes combinations metastates arcs chains spans outcome (Err Tangle)
                 metastates arcs' chains spans
             turn-stops t =
                 let same : arcs' ≡ arcs = w ∙ rw (not-true roomy t) in
@@ -233,7 +232,7 @@ module _ {header : Header} {nodes combinations index metastates arcs chains span
                   same : following shifted ≡ outcome
                   same = followed shifted (shifted-is s is l a f)
 
-                  pub turn-goes : {answer : Step} {metastates'' arcs'' chains'' spans'' : List ℕ}
+                  pub turn-goes : {answer : Result Sizes Fault} {metastates'' arcs'' chains'' spans'' : List ℕ}
                       → TurnLeft header nodes combinations metastates arcs' chains spans
                       (following shifted) answer metastates'' arcs'' chains'' spans''
                       → TurnLeft header nodes combinations metastates arcs chains spans outcome answer
