@@ -1,8 +1,8 @@
--- `states::next_state` meets its contract, letter by letter.
+-- `State::next_state` meets its contract, letter by letter.
 use Rattle.definitions.specs.NetworkText.{counts_in_line}
 use Rattle.nettext.specs.Entries.{entry_line}
 use Rattle.nettext.specs.States.{next_state}
-use Rattle.nettext.proofs.states.next_state.Goals as goal
+use Rattle.nettext.proofs.State.next_state.Goals as goal
 
 pub returns-in-W : goal.returns-in-W
 unfolding entry_line next_state counts_in_line

@@ -1,10 +1,10 @@
--- `judging::table_fits` meets its contract, letter by letter. An A line promises no arcs.
+-- `Entry::table_fits` meets its contract, letter by letter. An A line promises no arcs.
 use mathlib.Core.Path.{sym}
 use native.Mathlib.Omega.{arith}
 use borrow.Author.Tests.{le-leb}
 use Rattle.definitions.specs.NetworkText.{counts_in_line}
 use Rattle.nettext.specs.Entries.{entry_line}
-use Rattle.nettext.proofs.judging.table_fits.Goals as goal
+use Rattle.nettext.proofs.Entry.table_fits.Goals as goal
 
 pub returns-in-W : goal.returns-in-W
 unfolding entry_line counts_in_line

@@ -1,7 +1,7 @@
--- `judging::in_order` meets its contract, letter by letter.
+-- `State::in_order` meets its contract, letter by letter.
 use Rattle.nettext.specs.Entries.{entry_line}
 use Rattle.nettext.specs.States.{in_order_in}
-use Rattle.nettext.proofs.judging.in_order.Goals as goal
+use Rattle.nettext.proofs.State.in_order.Goals as goal
 
 pub returns-in-W : goal.returns-in-W
 unfolding entry_line in_order_in

@@ -1,4 +1,4 @@
--- `judging::judge_line` meets its contract: it puts the tests in their order, and the first that fails gives
+-- `State::judge_line` meets its contract: it puts the tests in their order, and the first that fails gives
 -- the verdict.
 use mathlib.Core.Path.{refl}
 use mathlib.Core.List.{List}
@@ -13,12 +13,12 @@ use Rattle.nettext.specs.Entries.{entry_line}
 use Rattle.nettext.specs.States.{tests_in}
 use Rattle.std.proofs.lemmas.Bool.{not_from_true}
 use Rattle.std.proofs.lemmas.Bool.{not_from_false}
-use Rattle.nettext.proofs.judging.judge_line.Goals as goal
-use Rattle.nettext.proofs.judging.judge_line.Goals.{Else-not-follows, Else-not-in_fixed_ranges, Else-not-in_order, Else-not-table_fits, Else-not-within_counts, Start}
+use Rattle.nettext.proofs.State.judge_line.Goals as goal
+use Rattle.nettext.proofs.State.judge_line.Goals.{Else-not-follows, Else-not-in_fixed_ranges, Else-not-in_order, Else-not-table_fits, Else-not-within_counts, Start}
 
 -- the tests of the line, and that the verdict is left to those from the n-th on
 abbrev tests : goal.Start → List Test
-tests c = let a = c.args in tests_in a.lent a.s (line_in a.row) (entry_line a.entry)
+tests c = let a = c.args in tests_in a.lent a.self (line_in a.row) (entry_line a.entry)
 
 abbrev Left : goal.Start → ℕ → Type 0
 Left c n = LeftTo (verdict_of (tests c)) (drop n (tests c))

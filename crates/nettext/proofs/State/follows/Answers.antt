@@ -1,7 +1,7 @@
--- `judging::follows` meets its contract, letter by letter.
+-- `State::follows` meets its contract, letter by letter.
 use Rattle.nettext.specs.Entries.{entry_line}
 use Rattle.nettext.specs.States.{follows_in}
-use Rattle.nettext.proofs.judging.follows.Goals as goal
+use Rattle.nettext.proofs.State.follows.Goals as goal
 
 pub returns-in-W : goal.returns-in-W
 unfolding entry_line follows_in
