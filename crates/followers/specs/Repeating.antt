@@ -15,11 +15,6 @@ use Rattle.growing.specs.declared.Sizes.{Sizes}
 use Rattle.growing.specs.Steps.{arc_room}
 use Rattle.followers.specs.Spans.{copies_of, SlotWithin}
 
--- the words of one copy, as the code reads them
-abbrev pub copy_words : (from : ℕ) → (arcs : List ℕ) → (place : ℕ) → List ℕ
-copy_words from arcs place =
-    from ∷ arcs ! (arc_size * place + 1) ∷ arcs ! (arc_size * place + 2) ∷ arcs ! (arc_size * place + 3) ∷ []
-
 -- words that hold so many arcs, and nothing else
 abbrev pub HoldArcs : (count : ℕ) → (arcs : List ℕ) → Type 0
 HoldArcs count arcs = arcs ≡ padded (length arcs) (concat_map arc_words (arcs_in count arcs))
