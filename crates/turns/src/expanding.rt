@@ -93,7 +93,9 @@ pub fn expand(
     let header = search.rules.header;
     let q = metastate_at(header.half, metastates, place);
     let sizes = add_arcs(arcs, turn.sizes, plain_arcs(search.rules, place, q))?;
-    let shifted = q.met.shift(2 * wide(header.half), all_phones(header.phones));
+    let shifted = q
+        .met
+        .shift(2 * wide(header.half), all_phones(header.phones));
     let expanded = Expanded {
         place,
         shifted,

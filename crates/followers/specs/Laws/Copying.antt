@@ -3,7 +3,7 @@ use Rattle.std.specs.Prelude.{◌≡◌, List, [], ◌∷◌, ◌++◌, ℕ, ◌
 use Rattle.std.proofs.Common.{sym, ap, ap₂, ◌∙◌, append_assoc, append-nil, add-one, arith, length-append, length-drop, length-take-le, take-suc, take_all}
 use Rattle.std.proofs.lemmas.List.{length-map}
 use Rattle.std.proofs.Math.ListN.{get_or-append, get_or-map}
-use Rattle.definitions.specs.Lists.{◌!◌, concat_map, padded}
+use Rattle.definitions.specs.Lists.{concat_map, padded}
 use Rattle.definitions.specs.Arcs.{Arc, arc_size, arc_of, arc_words, arcs_in}
 use Rattle.definitions.proofs.Laws.Lists.Lists.{concat_map-snoc, padded-length, part_at}
 use Rattle.definitions.proofs.Laws.Networks.KnownNetworks.{arcs-length}

@@ -108,140 +108,140 @@ module _ {header : Header} {nodes combinations index metastates arcs chains span
         outcome = expanded_at header nodes combinations metastates arcs sizes place
 
         module _ {answer : Result Sizes Fault} {arcs' : List ℕ} (r : ArcsAdded sizes new arcs answer arcs') where
-            -- ---- no room for all of them
+          -- ---- no room for all of them
 
-            no-turn : arc_room arcs < sizes.arcs + new.count → outcome ≡ refuse Tangle 0
-            unfolding room_in and_then
-            no-turn over =
-                turn_is room
-                ∙ ap (λ (o : Outcome Network).
-                and_then o (λ next. perform_all (machine_of book cs) room next onward))
-                (performs-over book cs room net added (underway s).kept.arc-room
-                (omega (arith, over, (arcs-asked s), are.counted)))
+          no-turn : arc_room arcs < sizes.arcs + new.count → outcome ≡ refuse Tangle 0
+          unfolding room_in and_then
+          no-turn over =
+              turn_is room
+              ∙ ap (λ (o : Outcome Network).
+              and_then o (λ next. perform_all (machine_of book cs) room next onward))
+              (performs-over book cs room net added (underway s).kept.arc-room
+              (omega (arith, over, (arcs-asked s), are.counted)))
 
-            pub turn-stops : {fault : Fault} → answer ≡ Err fault
-                → TurnLeft header nodes combinations metastates arcs chains spans outcome (Err fault)
-                metastates arcs' chains spans
-            turn-stops {fault} e =
-                let (over, same, tangle) = added-none r e in
-                let none = no-turn over in
+          pub turn-stops : {fault : Fault} → answer ≡ Err fault
+              → TurnLeft header nodes combinations metastates arcs chains spans outcome (Err fault)
+              metastates arcs' chains spans
+          turn-stops {fault} e =
+              let (over, same, tangle) = added-none r e in
+              let none = no-turn over in
+              record {
+                left = record {
+                  step = left-refused refl (ap length same) refl Tangle none (ap Err (sym tangle));
+                  numbers = λ next e. absurd (refused-not-answered outcome Tangle 0 next none e);
+                };
+                spans_sized = refl;
+                spanned = λ next e. absurd (refused-not-answered outcome Tangle 0 next none e);
+              }
+
+          -- ---- room
+
+          module _ {next : Sizes} (t : answer ≡ Ok next) where
+            fits : length net.arcs + length added ≤ arc_room arcs
+            fits = omega (arith, (arcs-asked s), are.counted, (added-all r t).0)
+
+            arcs-are : arcs'
+                ≡ take (arc_size * length net.arcs) arcs ++ take (arc_size * new.count) new.words
+                ++ drop (arc_size * length net.arcs + arc_size * new.count) arcs
+            arcs-are = (added-all r t).1 ∙ rw (arcs-asked s)
+
+            held_next : Holds header.half (length cs) (with_arcs net added) metastates arcs' chains
+            held_next =
+                subst (λ (l : List ℕ).
+                Holds header.half (length cs) (with_arcs net added) metastates l chains)
+                (sym arcs-are) (holds-appended (underway s) new added are fits)
+
+            as_long : length arcs' ≡ length arcs
+            as_long = ap length arcs-are ∙ appended-length (underway s) new added are fits
+
+            sizes-are : next ≡ sizes_of (with_arcs net added)
+            sizes-are =
+                let more : sizes.arcs + new.count ≡ length (net.arcs ++ added) =
+                omega (arith, (arcs-asked s), are.counted, length-append net.arcs added) in
+                sym (added-all r t).2 ∙ (λ i. record { table = (sym (asked s) i).table; arcs = more i })
+
+            net-is : network_held header.half next metastates arcs' ≡ with_arcs net added
+            net-is =
+                ap (λ (z : Sizes). network_held header.half z metastates arcs') sizes-are
+                ∙ kept_back held_next.kept
+
+            next-holds : Holds header.half (length cs)
+                (network_held header.half next metastates arcs') metastates arcs' chains
+            next-holds =
+                subst (λ (z : Network). Holds header.half (length cs) z metastates arcs' chains)
+                (sym net-is) held_next
+
+            -- ---- the followers
+
+            -- what they start from
+            pub next-onward : {half all : ℕ} {shifted : List ℕ} → half ≡ header.half
+                → all ≡ all_phones (min header.phones 64)
+                → shifted ≡ shifted_words (2 * half) all columns
+                → Onward header nodes combinations index metastates arcs' chains spans next place shifted
+            next-onward {shifted = shifted} l a f =
                 record {
-                  left = record {
-                    step = left-refused refl (ap length same) refl Tangle none (ap Err (sym tangle));
-                    numbers = λ next e. absurd (refused-not-answered outcome Tangle 0 next none e);
+                  expandable = record {
+                    between = record {
+                      searchable = s.between.searchable;
+                      underway = next-holds;
+                      slots = s.between.slots;
+                      spanned =
+                          subst (λ (z : Network). Spanned book cs z spans) (sym net-is)
+                          (spans-stay book cs [] added (sym (append-nil net.table)) refl
+                          s.between.spanned);
+                    };
+                    listed = subst (λ (z : Sizes). place < z.table) (added-all r t).2 s.listed;
                   };
-                  spans_sized = refl;
-                  spanned = λ next e. absurd (refused-not-answered outcome Tangle 0 next none e);
+                  shaped = shifted-wide s is l a f;
+                  shifted =
+                      subst (λ (z : Sizes). matrix_in header.half shifted
+                      ≡ shift header.phones
+                      (get_or (network_held header.half z metastates arcs').table place no_metastate).carried)
+                      (added-all r t).2 (shifted-is s is l a f);
                 }
 
-            -- ---- room
+            abbrev following : (shifted : List ℕ) → Outcome Network
+            following shifted = followed_on header nodes combinations metastates arcs' next place shifted
 
-            module _ {next : Sizes} (t : answer ≡ Ok next) where
-              fits : length net.arcs + length added ≤ arc_room arcs
-              fits = omega (arith, (arcs-asked s), are.counted, (added-all r t).0)
+            followed : (shifted : List ℕ)
+                → matrix_in header.half shifted ≡ shift header.phones x.carried
+                → following shifted ≡ outcome
+            unfolding and_then room_in
+            followed shifted is =
+                rw (as_long, net-is, is)
+                (sym (turn_is room
+                ∙ ap (λ (o : Outcome Network).
+                and_then o (λ next. perform_all (machine_of book cs) room next onward))
+                (performs-arcs book cs room net added fits)))
 
-              arcs-are : arcs'
-                  ≡ take (arc_size * length net.arcs) arcs ++ take (arc_size * new.count) new.words
-                  ++ drop (arc_size * length net.arcs + arc_size * new.count) arcs
-              arcs-are = (added-all r t).1 ∙ rw (arcs-asked s)
+            module _ {half all : ℕ} {shifted : List ℕ} (l : half ≡ header.half)
+                (a : all ≡ all_phones (min header.phones 64))
+                (f : shifted ≡ shifted_words (2 * half) all q.met.columns)
+              where
+                same : following shifted ≡ outcome
+                same = followed shifted (shifted-is s is l a f)
 
-              held_next : Holds header.half (length cs) (with_arcs net added) metastates arcs' chains
-              held_next =
-                  subst (λ (l : List ℕ).
-                  Holds header.half (length cs) (with_arcs net added) metastates l chains)
-                  (sym arcs-are) (holds-appended (underway s) new added are fits)
-
-              as_long : length arcs' ≡ length arcs
-              as_long = ap length arcs-are ∙ appended-length (underway s) new added are fits
-
-              sizes-are : next ≡ sizes_of (with_arcs net added)
-              sizes-are =
-                  let more : sizes.arcs + new.count ≡ length (net.arcs ++ added) =
-                  omega (arith, (arcs-asked s), are.counted, length-append net.arcs added) in
-                  sym (added-all r t).2 ∙ (λ i. record { table = (sym (asked s) i).table; arcs = more i })
-
-              net-is : network_held header.half next metastates arcs' ≡ with_arcs net added
-              net-is =
-                  ap (λ (z : Sizes). network_held header.half z metastates arcs') sizes-are
-                  ∙ kept_back held_next.kept
-
-              next-holds : Holds header.half (length cs)
-                  (network_held header.half next metastates arcs') metastates arcs' chains
-              next-holds =
-                  subst (λ (z : Network). Holds header.half (length cs) z metastates arcs' chains)
-                  (sym net-is) held_next
-
-              -- ---- the followers
-
-              -- what they start from
-              pub next-onward : {half all : ℕ} {shifted : List ℕ} → half ≡ header.half
-                  → all ≡ all_phones (min header.phones 64)
-                  → shifted ≡ shifted_words (2 * half) all columns
-                  → Onward header nodes combinations index metastates arcs' chains spans next place shifted
-              next-onward {shifted = shifted} l a f =
-                  record {
-                    expandable = record {
-                      between = record {
-                        searchable = s.between.searchable;
-                        underway = next-holds;
-                        slots = s.between.slots;
-                        spanned =
-                            subst (λ (z : Network). Spanned book cs z spans) (sym net-is)
-                            (spans-stay book cs [] added (sym (append-nil net.table)) refl
-                            s.between.spanned);
-                      };
-                      listed = subst (λ (z : Sizes). place < z.table) (added-all r t).2 s.listed;
-                    };
-                    shaped = shifted-wide s is l a f;
-                    shifted =
-                        subst (λ (z : Sizes). matrix_in header.half shifted
-                        ≡ shift header.phones
-                        (get_or (network_held header.half z metastates arcs').table place no_metastate).carried)
-                        (added-all r t).2 (shifted-is s is l a f);
-                  }
-
-              abbrev following : (shifted : List ℕ) → Outcome Network
-              following shifted = followed_on header nodes combinations metastates arcs' next place shifted
-
-              followed : (shifted : List ℕ)
-                  → matrix_in header.half shifted ≡ shift header.phones x.carried
-                  → following shifted ≡ outcome
-              unfolding and_then room_in
-              followed shifted is =
-                  rw (as_long, net-is, is)
-                  (sym (turn_is room
-                  ∙ ap (λ (o : Outcome Network).
-                  and_then o (λ next. perform_all (machine_of book cs) room next onward))
-                  (performs-arcs book cs room net added fits)))
-
-              module _ {half all : ℕ} {shifted : List ℕ} (l : half ≡ header.half)
-                  (a : all ≡ all_phones (min header.phones 64))
-                  (f : shifted ≡ shifted_words (2 * half) all q.met.columns)
-                where
-                  same : following shifted ≡ outcome
-                  same = followed shifted (shifted-is s is l a f)
-
-                  pub turn-goes : {answer : Result Sizes Fault} {metastates'' arcs'' chains'' spans'' : List ℕ}
-                      → TurnLeft header nodes combinations metastates arcs' chains spans
-                      (following shifted) answer metastates'' arcs'' chains'' spans''
-                      → TurnLeft header nodes combinations metastates arcs chains spans outcome answer
-                      metastates'' arcs'' chains'' spans''
-                  turn-goes {metastates'' = metastates''} {arcs''} {chains''} turn =
-                      let after = turn.left.step in
-                      record {
-                        left = record {
-                          step = record {
-                            answers = after.answers ∙ ap step_of same;
-                            holds = λ n k.
-                                subst (λ r. Kept (metastate_code header.half) r n metastates'' arcs'' chains'')
-                                (same-room header.half metastates metastates arcs' arcs refl (sym as_long))
-                                (after.holds n (same ∙ k));
-                            table-sized = after.table-sized;
-                            arcs-sized = after.arcs-sized ∙ as_long;
-                            chains_sized = after.chains_sized;
-                          };
-                          numbers = λ n k. turn.left.numbers n (same ∙ k);
+                pub turn-goes : {answer : Result Sizes Fault} {metastates'' arcs'' chains'' spans'' : List ℕ}
+                    → TurnLeft header nodes combinations metastates arcs' chains spans
+                    (following shifted) answer metastates'' arcs'' chains'' spans''
+                    → TurnLeft header nodes combinations metastates arcs chains spans outcome answer
+                    metastates'' arcs'' chains'' spans''
+                turn-goes {metastates'' = metastates''} {arcs''} {chains''} turn =
+                    let after = turn.left.step in
+                    record {
+                      left = record {
+                        step = record {
+                          answers = after.answers ∙ ap step_of same;
+                          holds = λ n k.
+                              subst (λ r. Kept (metastate_code header.half) r n metastates'' arcs'' chains'')
+                              (same-room header.half metastates metastates arcs' arcs refl (sym as_long))
+                              (after.holds n (same ∙ k));
+                          table-sized = after.table-sized;
+                          arcs-sized = after.arcs-sized ∙ as_long;
+                          chains_sized = after.chains_sized;
                         };
-                        spans_sized = turn.spans_sized;
-                        spanned = λ n k. turn.spanned n (same ∙ k);
-                      }
+                        numbers = λ n k. turn.left.numbers n (same ∙ k);
+                      };
+                      spans_sized = turn.spans_sized;
+                      spanned = λ n k. turn.spanned n (same ∙ k);
+                    }

@@ -1,5 +1,5 @@
 -- `repeating::copy_span` meets its contract. The loop's invariant: `i` copies were appended.
-use Rattle.std.proofs.Common.{arith, ap, ◌∙◌, ℕ, ◌+◌, ◌*◌}
+use Rattle.std.proofs.Common.{arith, ap, ◌∙◌, ◌+◌, ◌*◌}
 use Rattle.definitions.specs.Arcs.{Arc, arc_size, arc_words}
 use Rattle.lines.specs.Putting.{put_at}
 use Rattle.followers.specs.Spans.{leaving_from}

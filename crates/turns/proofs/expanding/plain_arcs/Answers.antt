@@ -36,8 +36,8 @@ pub returns-else-phone_of-eq1 : goal.returns-else-phone_of-eq1
 returns-else-phone_of-eq1 c =
     let x = metastate_of c.args.rules.header.half c.args.q in
     elim c.else-phone_of-eq1.branch [
-      else-phone_of-eq1-via-then-phone_of-eq1+else-ends_here w ↦
-        plain-inside x c.requires w.ends_here.ensures w.if-ends_here.false c.own_arcs-own.ensures
-    | else-phone_of-eq1-via-else-phone_of-eq1 w ↦
-        plain_other x c.requires c.phone_of.ensures w.if-phone_of-eq1.false c.own_arcs-own.ensures
+      | else-phone_of-eq1-via-then-phone_of-eq1+else-ends_here w ↦
+          plain-inside x c.requires w.ends_here.ensures w.if-ends_here.false c.own_arcs-own.ensures
+      | else-phone_of-eq1-via-else-phone_of-eq1 w ↦
+          plain_other x c.requires c.phone_of.ensures w.if-phone_of-eq1.false c.own_arcs-own.ensures
     ]
