@@ -13,12 +13,9 @@ fn join_from(half: u32, words: &[u64], from: usize, m: Matrix) -> Matrix
     requires { (half ≤ most_half) × (from + width_of half ≤ length words.now) }
     ensures { result.columns ≡ matrix_words (join (matrix_in half m.columns) (columns_at half words.now from)) }
 {
-    let width = width_of(half);
     let mut columns = [0u64; 7];
-    let mut c = 0;
-    while c < width {
+    for c in 0..width_of(half) {
         columns[c] = m.columns[c] | words[from + c];
-        c += 1;
     }
     Matrix { columns }
 }
@@ -27,12 +24,9 @@ pub fn hull(half: u32, list: &[u64]) -> Matrix
     requires { Holds half list.now }
     ensures { result.columns ≡ matrix_words (hull (width_of half) (list_in half list.now)) }
 {
-    let count = matrices_in(list);
     let mut sofar = Matrix { columns: [0u64; 7] };
-    let mut place = 0;
-    while place < count {
+    for place in 0..matrices_in(list) {
         sofar = join_from(half, list, start_of(half, place), sofar);
-        place += 1;
     }
     sofar
 }

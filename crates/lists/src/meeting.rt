@@ -9,7 +9,6 @@ ghost use Rattle.lists.specs.Meeting.{meets_some};
 use crate::inserting::insert;
 use crate::places::{matrices_in, matrix_from, start_of, width_of};
 use matrix::Matrix;
-use matrix::meeting::{meet, meets};
 
 // Adds the meet of a matrix and the one in the words from a place on to a list, where it is valid: then its first word
 // is not 0.
@@ -20,12 +19,10 @@ fn add_met(half: u32, m: Matrix, words: &[u64], from: usize, out: &mut [u64]) ->
         (meet (matrix_in half m.columns) (columns_at half words.now from)))
         result out.old out.new }
 {
-    let meeting = meet(m, matrix_from(half, words, from), width_of(half));
-    let met = meeting.matrix;
-    if met.columns[0] == 0 {
-        return true;
-    }
-    insert(half, out, met)
+    let met = m
+        .meet(matrix_from(half, words, from), width_of(half))
+        .matrix;
+    met.columns[0] == 0 || insert(half, out, met)
 }
 
 // Adds the meets of a matrix and those of a list to another list.
@@ -36,13 +33,10 @@ fn meet_each(half: u32, m: Matrix, list: &[u64], out: &mut [u64]) -> bool
         (map (meet (matrix_in half m.columns)) (list_in half list.now)))
         result out.old out.new }
 {
-    let count = matrices_in(list);
-    let mut place = 0;
-    while place < count {
+    for place in 0..matrices_in(list) {
         if !add_met(half, m, list, start_of(half, place), out) {
             return false;
         }
-        place += 1;
     }
     true
 }
@@ -54,13 +48,10 @@ pub fn meet_lists(half: u32, a: &[u64], b: &[u64], out: &mut [u64]) -> bool
         result out.old out.new }
 {
     out[0] = 0;
-    let count = matrices_in(a);
-    let mut place = 0;
-    while place < count {
+    for place in 0..matrices_in(a) {
         if !meet_each(half, matrix_from(half, a, start_of(half, place)), b, out) {
             return false;
         }
-        place += 1;
     }
     true
 }
@@ -70,14 +61,11 @@ fn meets_one(half: u32, m: Matrix, list: &[u64]) -> bool
     requires { Holds half list.now }
     ensures { result ≡ meets_some (list_in half list.now) (matrix_in half m.columns) }
 {
-    let count = matrices_in(list);
-    let mut place = 0;
-    while place < count {
+    for place in 0..matrices_in(list) {
         let other = matrix_from(half, list, start_of(half, place));
-        if meets(m, other, width_of(half)) {
+        if m.meets(other, width_of(half)) {
             return true;
         }
-        place += 1;
     }
     false
 }
@@ -87,13 +75,10 @@ pub fn lists_meet(half: u32, a: &[u64], b: &[u64]) -> bool
     requires { (Holds half a.now) × (Holds half b.now) }
     ensures { result ≡ holds_some (meet_lists (list_in half a.now) (list_in half b.now)) }
 {
-    let count = matrices_in(a);
-    let mut place = 0;
-    while place < count {
+    for place in 0..matrices_in(a) {
         if meets_one(half, matrix_from(half, a, start_of(half, place)), b) {
             return true;
         }
-        place += 1;
     }
     false
 }

@@ -1,8 +1,9 @@
 -- Laws about matrices by value: made column by column in seven words, and read from a list at a turn of a loop.
-use Rattle.std.specs.Prelude.{◌≡◌, List, [], ℕ, ◌+◌, ◌≤◌, ◌<◌, length, get_or, set}
-use Rattle.std.proofs.Common.{sym, ◌∙◌, arith}
-use Rattle.definitions.specs.Lists.{◌!◌}
+use Rattle.std.specs.Prelude.{◌≡◌, List, [], ◌++◌, ℕ, ◌+◌, ◌≤◌, ◌<◌, length, get_or, set, drop}
+use Rattle.std.proofs.Common.{sym, ap, ◌∙◌, arith}
+use Rattle.definitions.specs.Lists.{◌!◌, cleared, padded}
 use Rattle.definitions.specs.Matrices.{Matrix, most_half, most_columns, matrix_words}
+use Rattle.definitions.proofs.Laws.Lists.Lists.{drop-cleared}
 use Rattle.definitions.proofs.Laws.Matrices.SevenWords.{words-column, words-length}
 use Rattle.matrix.specs.Shapes.{width_of, matrix_in}
 use Rattle.matrix.specs.Laws.Widths.{matrix-back}
@@ -22,6 +23,12 @@ module _ {half : ℕ} (narrow : half ≤ most_half) (x : Matrix) (e : length x �
 
   pub made-end : {c : ℕ} {s : List ℕ} → Columns (matrix_words x) c s → width_of half ≤ c → s ≡ matrix_words x
   made-end {c} f h = filled-rest f (words-rest x c (omega (arith, e)) (omega (arith, f.within)))
+
+-- those columns written over zeros
+pub over-zeros : (x : Matrix) → length x ≤ most_columns → {width : ℕ} → width ≡ length x
+    → x ++ drop width (cleared most_columns) ≡ matrix_words x
+unfolding matrix_words padded
+over-zeros x h {width} e = ap (λ (l : List ℕ). x ++ l) (drop-cleared width most_columns ∙ rw e)
 
 -- ---- read from a list
 

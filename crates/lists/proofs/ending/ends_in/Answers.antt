@@ -18,7 +18,7 @@ loop-place-init c = missed-start _ _
 module _ (c : goal.After-start_of) where
   turn : Turn c.args.half c.args.list.now c.loop-place.place c.start_of.result
   turn =
-      turn-of c.requires c.matrices_in-count.ensures c.loop-place.place
+      turn-of c.requires c.matrices_in-place-end.ensures c.loop-place.place
       c.loop-place-test.true c.start_of.ensures
 
 pub matrix_from-requires : goal.matrix_from-requires
@@ -30,7 +30,7 @@ module _ (c : goal.After-ends_here) where
       (get_or (list_in c.args.half c.args.list.now) c.loop-place.place [])
       ≡ c.ends_here.result
   tested =
-      ap (ends_here c.args.half) (turn-read (turn-of c.requires c.matrices_in-count.ensures c.loop-place.place
+      ap (ends_here c.args.half) (turn-read (turn-of c.requires c.matrices_in-place-end.ensures c.loop-place.place
       c.loop-place-test.true c.start_of.ensures) c.matrix_from.ensures)
       ∙ sym c.ends_here.ensures
 
@@ -49,5 +49,5 @@ pub returns : goal.returns
 unfolding list_ends
 returns c =
     missed-end c.loop-place.invariant
-    (turns-end c.requires c.matrices_in-count.ensures _
+    (turns-end c.requires c.matrices_in-place-end.ensures _
     c.loop-place-test.false)

@@ -13,7 +13,7 @@ module _ (c : goal.After-start_of) where
   turn : Turn c.args.half c.args.list.now c.loop-place.place
       c.start_of.result
   turn =
-      turn-of c.requires c.matrices_in-count.ensures c.loop-place.place
+      turn-of c.requires c.matrices_in-place-end.ensures c.loop-place.place
       c.loop-place-test.true c.start_of.ensures
 
 pub join_from-sofar-requires : goal.join_from-sofar-requires
@@ -27,5 +27,5 @@ loop-place-preserved c =
 pub returns : goal.returns
 returns c =
     joined_end c.loop-place.invariant
-    (turns-end c.requires c.matrices_in-count.ensures _
+    (turns-end c.requires c.matrices_in-place-end.ensures _
     c.loop-place-test.false)

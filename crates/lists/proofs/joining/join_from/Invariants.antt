@@ -1,17 +1,10 @@
 -- `joining::join_from` meets its contract. The loop's invariant: the first `c` columns are joined.
-use mathlib.Core.Path.{◌≡◌}
-use Prim.Native.Nat.{◌-◌, ◌≤◌}
 use Rattle.definitions.specs.Matrices.{matrix_words}
-use Rattle.matrix.specs.Shapes.{width_of, matrix_in}
+use Rattle.matrix.specs.Shapes.{matrix_in}
 use Rattle.matrix.specs.Laws.Words.{Columns}
 use Rattle.lists.specs.Held.{columns_at}
 use Rattle.lists.specs.Joining.{join}
 use Rattle.lists.proofs.joining.join_from.Given as goal
 
 abbrev pub invariant-loop-c : goal.invariant-loop-c
-invariant-loop-c l =
-    (l.width ≡ width_of l.half) × (l.c ≤ l.width)
-    × Columns (matrix_words (join (matrix_in l.half l.m.columns) (columns_at l.half l.words l.from))) l.c l.columns
-
-abbrev pub decreases-loop-c : goal.decreases-loop-c
-decreases-loop-c l = l.width - l.c
+invariant-loop-c l = Columns (matrix_words (join (matrix_in l.half l.m.columns) (columns_at l.half l.words l.from))) l.c l.columns

@@ -18,7 +18,7 @@ loop-place-init c = missed-start _ _
 module _ (c : goal.After-start_of) where
   turn : Turn c.args.half c.args.a.now c.loop-place.place c.start_of.result
   turn =
-      turn-of c.requires.0 c.matrices_in-count.ensures c.loop-place.place
+      turn-of c.requires.0 c.matrices_in-place-end.ensures c.loop-place.place
       c.loop-place-test.true c.start_of.ensures
 
 pub matrix_from-requires : goal.matrix_from-requires
@@ -31,7 +31,7 @@ module _ (c : goal.After-meets_one) where
       ≡ c.meets_one.result
   tested =
       ap (meets_some (list_in c.args.half c.args.b.now))
-      (turn-read (turn-of c.requires.0 c.matrices_in-count.ensures c.loop-place.place
+      (turn-read (turn-of c.requires.0 c.matrices_in-place-end.ensures c.loop-place.place
       c.loop-place-test.true c.start_of.ensures) c.matrix_from.ensures)
       ∙ sym c.meets_one.ensures
 
@@ -49,6 +49,6 @@ loop-place-preserved c =
 pub returns : goal.returns
 returns c =
     missed-end c.loop-place.invariant
-    (turns-end c.requires.0 c.matrices_in-count.ensures _
+    (turns-end c.requires.0 c.matrices_in-place-end.ensures _
     c.loop-place-test.false)
     ∙ meet-some _ _

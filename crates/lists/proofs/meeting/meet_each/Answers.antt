@@ -17,7 +17,7 @@ module _ (c : goal.After-start_of) where
   turn : Turn c.args.half c.args.list.now c.loop-place.place
       c.start_of.result
   turn =
-      turn-of c.requires.0 c.matrices_in-count.ensures c.loop-place.place
+      turn-of c.requires.0 c.matrices_in-place-end.ensures c.loop-place.place
       c.loop-place-test.true c.start_of.ensures
 
 pub loop-place-init : goal.loop-place-init
@@ -51,5 +51,5 @@ shape_of-out c = c.loop-place.invariant.sized
 pub returns : goal.returns
 returns c =
     gathered-end c.loop-place.invariant
-    (turns-end c.requires.0 c.matrices_in-count.ensures _
+    (turns-end c.requires.0 c.matrices_in-place-end.ensures _
     c.loop-place-test.false)

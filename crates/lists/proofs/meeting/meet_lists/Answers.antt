@@ -21,7 +21,7 @@ module _ (c : goal.After-start_of) where
   turn : Turn c.args.half c.args.a.now c.loop-place.place
       c.start_of.result
   turn =
-      turn-of c.requires.0 c.matrices_in-count.ensures c.loop-place.place
+      turn-of c.requires.0 c.matrices_in-place-end.ensures c.loop-place.place
       c.loop-place-test.true c.start_of.ensures
 
 pub loop-place-init : goal.loop-place-init
@@ -65,4 +65,4 @@ pub returns : goal.returns
 returns c =
     became-from (length-set c.args.out.now 0 0)
     (gathered-end c.loop-place.invariant
-    (turns-end c.requires.0 c.matrices_in-count.ensures _ c.loop-place-test.false))
+    (turns-end c.requires.0 c.matrices_in-place-end.ensures _ c.loop-place-test.false))

@@ -19,7 +19,7 @@ loop-place-init c = missed-start _ _
 module _ (c : goal.After-start_of) where
   turn : Turn c.args.half c.args.list.now c.loop-place.place c.start_of.result
   turn =
-      turn-of c.requires c.matrices_in-count.ensures c.loop-place.place
+      turn-of c.requires c.matrices_in-place-end.ensures c.loop-place.place
       c.loop-place-test.true c.start_of.ensures
 
 pub matrix_from-other-requires : goal.matrix_from-other-requires
@@ -34,7 +34,7 @@ module _ (c : goal.After-meets) where
       (get_or (list_in c.args.half c.args.list.now) c.loop-place.place [])
       ≡ c.meets.result
   tested =
-      let here = turn-of c.requires c.matrices_in-count.ensures c.loop-place.place
+      let here = turn-of c.requires c.matrices_in-place-end.ensures c.loop-place.place
       c.loop-place-test.true c.start_of.ensures in
       ap (meets_by (matrix_in c.args.half c.args.m.columns)) here.its
       ∙ sym (met-test c.args.m.columns _ (columns-length _ _ _ here.there)
@@ -51,5 +51,5 @@ loop-place-preserved c =
 pub returns : goal.returns
 returns c =
     missed-end c.loop-place.invariant
-    (turns-end c.requires c.matrices_in-count.ensures _
+    (turns-end c.requires c.matrices_in-place-end.ensures _
     c.loop-place-test.false)

@@ -6,5 +6,5 @@ use Rattle.writing.proofs.writing.last_byte.Goals as goal
 pub returns-then-rest-eq0 : goal.returns-then-rest-eq0
 returns-then-rest-eq0 c = last_none c.args.rest c.if-rest-eq0.true
 
-pub returns : goal.returns
-returns c = c.digit_byte.ensures ∙ last-digit c.args.rest c.if-rest-eq0.false
+pub returns-else-rest-eq0 : goal.returns-else-rest-eq0
+returns-else-rest-eq0 c = c.digit_byte.ensures ∙ last-digit c.args.rest c.if-rest-eq0.false
