@@ -5,6 +5,6 @@ use Rattle.arcs.specs.Arc.{the_arc}
 use Rattle.nettext.specs.declared.Entry.{Entry}
 use Rattle.nettext.specs.declared.Entry.TheVariants.{W, A}
 
-unfoldable pub entry_line : Entry → NetworkLine
+abbrev pub entry_line : Entry → NetworkLine
 entry_line (W counts) = lines.W counts.states counts.metastates counts.arcs
 entry_line (A a) = lines.A (the_arc a)

@@ -33,7 +33,7 @@ arcs_taken lent arcs (Ok s) bytes table = arcs_after arcs (line_taken (network_k
 arcs_taken lent arcs (Err fault) bytes table = table
 
 -- after the last line: 17 (ending early)
-unfoldable pub finish_of : State → Result Counts Refusal
+abbrev pub finish_of : State → Result Counts Refusal
 finish_of s = if complete_in s then Ok s.counts else Err (record { fault = Count; line = s.lines + 1 })
 
 -- a state in which a line can be taken: its counts do not overflow, and a line that passes has room

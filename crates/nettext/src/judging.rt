@@ -38,6 +38,7 @@ impl Entry {
     }
 
     // 13 by the counts of the W line.
+    #[tactic(auto, unfolding(definitions::specs::NetworkText::within_counts))]
     fn within_counts(self, counts: Counts) -> bool
         ensures { result ≡ within_counts counts (entry_line self) }
     {
@@ -48,6 +49,7 @@ impl Entry {
     }
 
     // 20 at the W line: whether so many words have room for its arcs.
+    #[tactic(auto, unfolding(definitions::specs::NetworkText::counts_in_line))]
     fn table_fits(self, lent: usize) -> bool
         ensures { result ≡ leb (arc_size * (counts_in_line (entry_line self)).arcs) lent }
     {
@@ -80,6 +82,7 @@ impl State {
     }
 
     // The first test of a row and of what it says that fails.
+    #[tactic(auto, unfolding(definitions::specs::NetworkText::network_tests, lines::specs::Judging::verdict_of))]
     pub fn judge_line(self, lent: usize, row: Row, entry: Entry) -> Result<(), Fault>
         ensures { result ≡ verdict_of (tests_in lent self (line_in row) (entry_line entry)) }
     {

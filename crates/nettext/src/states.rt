@@ -31,6 +31,7 @@ impl State {
     }
 
     // The state after one more line.
+    #[tactic(auto, unfolding(definitions::specs::NetworkText::counts_in_line))]
     pub fn next_state(self, entry: Entry) -> State
         requires { Countable self }
         ensures { result ≡ next_state self (entry_line entry) }

@@ -18,6 +18,7 @@ use lines::Row;
 use writing::writing::write as write_line;
 
 // The W line of counts.
+#[tactic(auto, unfolding(definitions::specs::NetworkText::line_of_counts, lines::specs::Rows::line_in))]
 fn counts_row(counts: Counts) -> Row
     ensures { line_in result ≡ line_of_counts counts }
 {
@@ -29,6 +30,7 @@ fn counts_row(counts: Counts) -> Row
 }
 
 // The A line of an arc.
+#[tactic(auto, unfolding(definitions::specs::Arcs::arc_words, definitions::specs::NetworkText::line_of_arc, lines::specs::Rows::line_in))]
 fn arc_row(arc: Arc) -> Row
     ensures { line_in result ≡ line_of_arc (the_arc arc) }
 {

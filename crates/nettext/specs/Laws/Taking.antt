@@ -1,15 +1,13 @@
--- Laws about taking a line, and about judging after the last: the answer on each way that the code goes, and
--- what a step says of the line.
-use Rattle.std.specs.Prelude.{◌≡◌, refl, List, true, false, ℕ, ◌+◌, T, Ok, Err}
+-- Laws about taking a line: the answer on each way that the code goes, and what a step says of the line.
+use Rattle.std.specs.Prelude.{◌≡◌, refl, List, ℕ, T, Ok, Err}
 use Rattle.std.specs.Result.{is_ok}
 use Rattle.std.proofs.Common.{sym, ap, subst}
 use Rattle.definitions.specs.declared.Fault.{Fault}
-use Rattle.definitions.specs.declared.Fault.TheVariants.{Count}
 use Rattle.definitions.specs.NetworkText.{NetworkLine, network_kind}
 use Rattle.lines.specs.Judging.{Verdict, line_taken}
 use Rattle.nettext.specs.declared.State.{State}
-use Rattle.nettext.specs.States.{complete_in, next_state}
-use Rattle.nettext.specs.Taking.{verdict_in, step_after, step_of, finish_of}
+use Rattle.nettext.specs.States.{next_state}
+use Rattle.nettext.specs.Taking.{verdict_in, step_after, step_of}
 
 -- ---- the step by the verdict, and what it says of the line
 
@@ -44,15 +42,3 @@ module _ (lent : ℕ) (s : State) (bytes : List ℕ) where
       by : (v : Verdict) → step_after v s (line_taken (network_kind lent) bytes) ≡ Err fault → v ≡ Err fault
       by (Ok done) q = absurd (subst T (ap is_ok q) tt)
       by (Err other) q = let same : other ≡ fault = cc in ap Err same
-
--- ---- after the last line
-
-module _ (s : State) where
-  pub finish-early : complete_in s ≡ false
-      → Err (record { fault = Count; line = s.lines + 1 }) ≡ finish_of s
-  unfolding finish_of
-  finish-early e = rw e
-
-  pub finish-fine : complete_in s ≡ true → Ok s.counts ≡ finish_of s
-  unfolding finish_of
-  finish-fine e = rw e
