@@ -1,10 +1,10 @@
 -- Copying the arcs of a span, with another source: what the steps of it ask, and what they leave and answer.
 use Rattle.definitions.specs.declared.Fault.{Fault}
-use Rattle.std.specs.Prelude.{if◌then◌else◌, ◌≡◌, List, [], ◌∷◌, ◌++◌, Bool, true, ℕ, suc, ◌+◌, ◌-◌, ◌*◌, ◌≤◌, ◌<◌, min, leb, length, drop, Result, Ok, Err}
+use Rattle.std.specs.Prelude.{if◌then◌else◌, ◌≡◌, List, ◌++◌, Bool, true, ℕ, ◌+◌, ◌-◌, ◌*◌, ◌≤◌, ◌<◌, min, leb, length, drop, Result, Ok, Err}
 use Rattle.definitions.specs.Building.{most_metastates, most_arcs}
 use Rattle.definitions.specs.declared.Fault.TheVariants.{Tangle}
 use Rattle.definitions.specs.declared.Header.{Header}
-use Rattle.definitions.specs.Lists.{◌!◌, concat_map, padded}
+use Rattle.definitions.specs.Lists.{concat_map, padded}
 use Rattle.definitions.specs.PhoneSets.{all_phones}
 use Rattle.definitions.specs.Arcs.{arc_size, arcs_in, arc_words}
 use Rattle.definitions.specs.Metastates.{metastate_size}
@@ -14,11 +14,6 @@ use Rattle.index.specs.RecordWords.{record_of}
 use Rattle.growing.specs.declared.Sizes.{Sizes}
 use Rattle.growing.specs.Steps.{arc_room}
 use Rattle.followers.specs.Spans.{copies_of, SlotWithin}
-
--- the words of one copy, as the code reads them
-abbrev pub copy_words : (from : ℕ) → (arcs : List ℕ) → (place : ℕ) → List ℕ
-copy_words from arcs place =
-    from ∷ arcs ! (arc_size * place + 1) ∷ arcs ! (arc_size * place + 2) ∷ arcs ! (arc_size * place + 3) ∷ []
 
 -- words that hold so many arcs, and nothing else
 abbrev pub HoldArcs : (count : ℕ) → (arcs : List ℕ) → Type 0

@@ -5,20 +5,18 @@
 // has is compared before it is used.
 ghost use Rattle.std.specs.Prelude.{◌≡◌, ◌+◌, ◌*◌, ◌≤◌, ◌<◌, length};
 ghost use Rattle.definitions.specs.Building.{most_metastates};
-ghost use Rattle.definitions.specs.Arcs.{arc_size};
-ghost use Rattle.lines.specs.Putting.{put_at};
 ghost use Rattle.metastates.specs.Outcomes.{followed_on};
 ghost use Rattle.followers.specs.Spans.{span_size, SlotWithin, span_in, noted_in};
-ghost use Rattle.followers.specs.Repeating.{copy_words, with_copies, Copyable, Repeatable, Repeated};
+ghost use Rattle.followers.specs.Repeating.{with_copies, Copyable, Repeatable, Repeated};
 ghost use Rattle.followers.specs.Repeating.{Repeats, Notable};
 ghost use Rattle.followers.specs.Turns.{TurnLeft, Onward};
 
 use crate::following::follow;
 use crate::{Expanded, Search, Source, Span};
 use arcs::Arc;
-use arcs::putting::put_arc;
+use arcs::putting::{arc_at, put_arc};
 use definitions::sizes::metastate_size;
-use definitions::{ARC_SIZE, Fault, Header, wide};
+use definitions::{Fault, Header, wide};
 use growing::Sizes;
 use growing::adding::arc_room;
 use index::records::metastate_at;
@@ -30,29 +28,14 @@ use metastates::chains::key_of;
 // How many words a span takes.
 pub const SPAN_SIZE: usize = 3;
 
-// Writes a copy of an arc, with another source.
-fn copy_arc(arcs: &mut [u32], place: usize, target: usize, from: u32)
-    requires { (arc_size * place + arc_size ≤ length arcs.old) × (arc_size * target + arc_size ≤ length arcs.old) }
-    ensures { arcs.new
-        ≡ put_at (arc_size * target) (copy_words from arcs.old place) arcs.old }
-{
-    let old = ARC_SIZE * place;
-    let copy = Arc {
-        from,
-        to: arcs[old + 1],
-        model: arcs[old + 2],
-        phone: arcs[old + 3],
-    };
-    put_arc(arcs, target, copy);
-}
-
 // Appends copies of `many` arcs, from the first on, with another source.
 fn copy_span(arcs: &mut [u32], count: usize, first: usize, many: usize, from: u32)
     requires { Copyable arcs.old count first many }
     ensures { arcs.new ≡ with_copies arcs.old count first many from }
 {
     for i in 0..many {
-        copy_arc(arcs, first + i, count + i, from);
+        let arc = arc_at(arcs, first + i);
+        put_arc(arcs, count + i, Arc { from, ..arc });
     }
 }
 

@@ -1,6 +1,6 @@
 -- What entering starts from: nodes and combinations that can be connected, and a network under construction in
 -- lent words.
-use Rattle.std.specs.Prelude.{List, ℕ, ◌≤◌, ◌<◌, length}
+use Rattle.std.specs.Prelude.{List, ℕ, ◌<◌, length}
 use Rattle.definitions.specs.Building.{most_metastates}
 use Rattle.definitions.specs.declared.Header.{Header}
 use Rattle.matrix.specs.Shapes.{width_of, HasWidth}

@@ -1,6 +1,6 @@
 -- Laws about entering the followers of a metastate: where another with the same shifted matrix has a span,
 -- the copies of its arcs are what entering them adds; else they are entered and make a span.
-use Rattle.std.specs.Prelude.{◌≡◌, Bool, false, ℕ, zero, suc, ◌+◌, ◌-◌, ◌*◌, ◌≤◌, ◌<◌, min, T, drop, get_or, Option, Some, is_some, Result, Ok, Err}
+use Rattle.std.specs.Prelude.{◌≡◌, Bool, false, ℕ, zero, suc, ◌+◌, ◌-◌, ◌*◌, ◌≤◌, min, T, drop, get_or, Some, is_some, Result, Ok, Err}
 use Rattle.std.proofs.Math.Path.{refl, sym, ap, subst}
 use Rattle.std.proofs.Common.{◌∙◌, arith, length-set}
 use mathlib.Core.List.{List, ◌++◌, map}
@@ -13,7 +13,7 @@ use Rattle.definitions.specs.declared.Header.{Header}
 use Rattle.definitions.specs.declared.Fault.{Fault}
 use Rattle.definitions.specs.declared.Fault.TheVariants.{Tangle}
 use Rattle.definitions.specs.Faults.{Outcome, answered, refuse}
-use Rattle.definitions.specs.Lists.{◌!◌, concat_map, padded, same, IsIn}
+use Rattle.definitions.specs.Lists.{◌!◌, concat_map, padded, IsIn}
 use Rattle.definitions.specs.PhoneSets.{all_phones}
 use Rattle.definitions.specs.Arcs.{Arc, arcs_in, arc_words, last_state}
 use Rattle.definitions.specs.Matrices.{shift}
@@ -26,7 +26,6 @@ use Rattle.definitions.specs.Connecting.{Network, no_metastate, machine_of}
 use Rattle.definitions.proofs.Construction.Performing.{Performed, all-performed, event_arc}
 use Rattle.definitions.proofs.Laws.Lists.Tests.{by-test}
 use Rattle.definitions.proofs.Laws.Text.Judging.{refused-not-answered}
-use Rattle.definitions.proofs.Laws.Lists.Lists.{same_lists}
 use Rattle.definitions.proofs.Laws.Networks.Metastates.{metastates-told}
 use Rattle.tables.specs.Usable.{book_with}
 use Rattle.matrix.specs.Shapes.{matrix_in, shifted_words}
@@ -43,7 +42,7 @@ use Rattle.metastates.specs.Steps.{StepLeft}
 use Rattle.metastates.specs.Outcomes.{followed_from, followed_on}
 use Rattle.followers.specs.Turns.{TurnLeft, BetweenTurns, Expandable, Onward}
 use Rattle.followers.specs.declared.Span.{Span}
-use Rattle.followers.specs.Spans.{span_of, span_in, leaving_from, copies_of, span_size, SlotWithin, place_in, first_in, end_in}
+use Rattle.followers.specs.Spans.{span_of, span_in, leaving_from, copies_of, SlotWithin, place_in, first_in, end_in}
 use Rattle.followers.specs.Spans.{noted_in, followers_at, arcs_to, IsSpan, Spanned}
 use Rattle.followers.specs.Repeating.{Repeated, Repeats}
 use Rattle.followers.specs.Laws.PerformedArcs.{performs-arcs, performs-over}

@@ -1,7 +1,7 @@
 -- Laws about keys: a loop over columns takes them in one by one.
 use Rattle.std.specs.Prelude.{◌≡◌, refl, List, ◌∷◌, ℕ, ◌+◌, ◌%◌, ◌≤◌, ◌<◌, length, drop}
 use Rattle.std.proofs.Math.Path.{sym}
-use Rattle.std.proofs.Common.{◌∙◌, add-one, arith, drop_of_length-le, drop-cons}
+use Rattle.std.proofs.Common.{◌∙◌, add-one, drop_of_length-le, drop-cons}
 use Rattle.std.specs.Int.Bits.{bit_xor}
 use Rattle.definitions.specs.Lists.{◌!◌}
 use Rattle.metastates.specs.Keys.{turned, key_from, key_of}

@@ -1,10 +1,10 @@
 -- `adding::enter` meets its contract, by what the search along the chain found and by the room.
-use Rattle.std.proofs.Common.{arith, rules, sym, subst, ℕ, ◌*◌, ◌≤◌, ◌<◌, length, take, length-take-le}
+use Rattle.std.proofs.Common.{arith, rules, sym, subst, ℕ, ◌*◌, ◌≤◌, length, take, length-take-le}
 use Rattle.definitions.specs.Metastates.{metastate_size}
 use Rattle.index.specs.Laws.CutRecords.{cut-used}
 use Rattle.index.specs.Laws.Followers.{narrow}
 use Rattle.growing.specs.Chains.{Findable, Found, elements_in}
-use Rattle.metastates.specs.Networks.{metastate_code, metastate_with, metastate_room}
+use Rattle.metastates.specs.Networks.{metastate_code, metastate_with}
 use Rattle.metastates.specs.Laws.Entering.{enter-used, enter-searchable, enter-arcs, enter-placed}
 use Rattle.metastates.specs.Laws.Entering.{enter-place-for, enter-known, enter-crowded, enter-new}
 use Rattle.metastates.proofs.adding.enter.Goals as goal

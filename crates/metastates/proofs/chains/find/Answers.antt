@@ -1,6 +1,6 @@
 -- `chains::find` meets its contract. The loop's invariant: the metastate stands nowhere from the next place on, which has
 -- its head.
-use Rattle.std.proofs.Common.{arith, ◌≡◌, ◌∷◌, List, ℕ, ◌≤◌, ap, ap₂, ◌∙◌, take}
+use Rattle.std.proofs.Common.{◌≡◌, ◌∷◌, ℕ, ap, ap₂, ◌∙◌, take}
 use Rattle.definitions.specs.Lists.{same}
 use Rattle.definitions.specs.Metastates.{Metastate, metastate_size, metastate_words}
 use Rattle.index.specs.RecordWords.{record_of}
