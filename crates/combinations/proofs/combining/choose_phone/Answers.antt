@@ -43,9 +43,6 @@ overflow_mul-a c =
     let list = c.list_leaves-a in
     omega (arith, list.ensures.room, list.ensures.list_sized, c.well_formed)
 
-pub slice_bounds-choose-end : goal.slice_bounds-choose-end
-slice_bounds-choose-end c = c.list_leaves-a.ensures.room
-
 pub slice_bounds-choose-end-2 : goal.slice_bounds-choose-end-2
 slice_bounds-choose-end-2 c = sym (length-take-le _ _ c.list_leaves-a.ensures.room)
 
@@ -53,9 +50,6 @@ pub overflow_mul-b : goal.overflow_mul-b
 overflow_mul-b c =
     let list = c.list_leaves-b in
     omega (arith, list.ensures.room, list.ensures.list_sized, c.well_formed)
-
-pub slice_bounds-choose-end-3 : goal.slice_bounds-choose-end-3
-slice_bounds-choose-end-3 c = c.list_leaves-b.ensures.room
 
 pub slice_bounds-choose-end-4 : goal.slice_bounds-choose-end-4
 slice_bounds-choose-end-4 c =
@@ -65,9 +59,6 @@ pub overflow_mul-c : goal.overflow_mul-c
 overflow_mul-c c =
     let list = c.list_leaves-c in
     omega (arith, list.ensures.room, list.ensures.list_sized, c.well_formed)
-
-pub slice_bounds-choose-end-5 : goal.slice_bounds-choose-end-5
-slice_bounds-choose-end-5 c = c.list_leaves-c.ensures.room
 
 pub slice_bounds-choose-end-6 : goal.slice_bounds-choose-end-6
 slice_bounds-choose-end-6 c =
@@ -98,10 +89,6 @@ pub shape_of-table : goal.shape_of-table
 shape_of-table c =
     c.list_leaves-c.ensures.table_sized ∙ c.list_leaves-b.ensures.table_sized
     ∙ c.list_leaves-a.ensures.table_sized
-
-pub shape_of-first : goal.shape_of-first
-shape_of-first c =
-    c.list_leaves-a.ensures.list_sized
 
 pub returns : goal.returns
 unfolding book_with
