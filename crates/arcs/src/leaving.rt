@@ -4,16 +4,17 @@ ghost use Rattle.definitions.specs.Arcs.{arc_size};
 ghost use Rattle.definitions.specs.Faults.{fault_of, fault_line};
 ghost use Rattle.definitions.specs.Leaving.{leaving, part_handed, part_words};
 ghost use Rattle.definitions.specs.NetworkText.{never_descending};
-ghost use Rattle.definitions.specs.Said.{said_of, span_of, no_span};
+ghost use Rattle.definitions.specs.Said.{result_of};
 ghost use Rattle.arcs.specs.Below.{below};
-ghost use Rattle.arcs.specs.Standing.{standing_said};
+ghost use Rattle.arcs.specs.Spans.{span_at};
 ghost use Rattle.arcs.specs.Whole.{all_arcs};
 
-use crate::Standing;
+use crate::Span;
 use crate::known::{is_state, network_known};
-use definitions::{ARC_SIZE, Counts, Fault, Refusal, number, wide};
+use definitions::{ARC_SIZE, Counts, Fault, Refusal, wide};
 
-// How many arcs have a source below a state, by bisection: sources never descend.
+// How many arcs have a source below a state, by bisection: sources never descend. (The library bisects single elements,
+// not records of four words.)
 pub fn arcs_below(arcs: &[u32], state: usize) -> usize
     requires { T (never_descending (all_arcs arcs.now)) }
     ensures { result ≡ below state (all_arcs arcs.now) }
@@ -31,34 +32,28 @@ pub fn arcs_below(arcs: &[u32], state: usize) -> usize
     low
 }
 
-// The refusal of a fault.
-fn no_part(fault: Fault) -> Standing
-    ensures { result ≡ Standing.Refused (record { fault = fault; line = 0 }) }
-{
-    Standing::Refused(Refusal { fault, line: 0 })
-}
-
 // Where the arcs that leave a state stand.
-pub fn part_leaving(counts: Counts, arcs: &[u32], state: u32) -> Standing
-    ensures { standing_said result ≡ said_of span_of no_span (leaving counts arcs.now state) }
+pub fn part_leaving(counts: Counts, arcs: &[u32], state: u32) -> Result<Span, Refusal>
+    ensures { result ≡ result_of span_at (leaving counts arcs.now state) }
 {
     if !network_known(counts, arcs) {
-        return no_part(Fault::Foreign);
+        return Err(Fault::Foreign.into());
     }
     if !is_state(counts, state) {
-        return no_part(Fault::State);
+        return Err(Fault::State.into());
     }
-    let used = ARC_SIZE * wide(counts.arcs);
-    let first = arcs_below(&arcs[..used], wide(state));
-    let end = arcs_below(&arcs[..used], wide(state) + 1);
-    Standing::Part {
+    let used = &arcs[..ARC_SIZE * wide(counts.arcs)];
+    let first = arcs_below(used, wide(state));
+    let end = arcs_below(used, wide(state) + 1);
+    Ok(Span {
         start: ARC_SIZE * first,
         length: ARC_SIZE * (end - first),
-    }
+    })
 }
 
 // Hands out the arcs that leave a state; `fault` and `line` become 0, or the number and line of the fault. The part's
-// address says where it stands, also where it has no arcs.
+// address says where it stands, also where it has no arcs. Fault and line stand beside the part, and not in an Err, since
+// a part is promised on a refusal too.
 pub fn leaving<'a>(
     counts: Counts,
     arcs: &'a [u32],
@@ -74,19 +69,16 @@ pub fn leaving<'a>(
     ) }
     ensures part { result.now ≡ part_words arcs.now (part_handed (leaving counts arcs.now state)) }
 {
-    let standing = part_leaving(counts, arcs, state);
-    match standing {
-        Standing::Part { start, length } => {
+    match part_leaving(counts, arcs, state) {
+        Ok(span) => {
             *fault = 0;
             *line = 0;
-            let end = start + length;
-            return &arcs[start..end];
+            &arcs[span.start..span.start + span.length]
         }
-        Standing::Refused(refusal) => {
-            let cause = refusal.fault;
-            *fault = number(cause);
+        Err(refusal) => {
+            *fault = refusal.fault.into();
             *line = refusal.line;
-            return &arcs[0..0];
+            &arcs[..0]
         }
     }
 }

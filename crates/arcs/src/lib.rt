@@ -6,11 +6,18 @@ pub mod leaving;
 pub mod putting;
 pub mod starting;
 
-use definitions::Refusal;
+// The four words of an arc.
+#[derive(Clone, Copy, PartialEq, Eq)]
+pub struct Arc {
+    pub from: u32,
+    pub to: u32,
+    pub model: u32,
+    pub phone: u32,
+}
 
-// Where the arcs that leave a state stand in the lent arcs, counted in words; or the refusal.
-#[derive(Clone, Copy)]
-pub enum Standing {
-    Part { start: usize, length: usize },
-    Refused(Refusal),
+// Where the arcs that leave a state stand in the lent arcs, counted in words.
+#[derive(Clone, Copy, PartialEq, Eq)]
+pub struct Span {
+    pub start: usize,
+    pub length: usize,
 }

@@ -1,18 +1,35 @@
-// The words of an arc, put into lent arcs.
-ghost use Rattle.std.specs.Prelude.{[], ◌∷◌, ◌≡◌, ◌+◌, ◌*◌, ◌≤◌, length};
-ghost use Rattle.definitions.specs.Arcs.{arc_size};
+// An arc in the four words that it takes.
+ghost use Rattle.std.specs.Prelude.{◌≡◌, ◌+◌, ◌*◌, ◌≤◌, length};
+ghost use Rattle.definitions.specs.Arcs.{arc_size, arc_words};
 ghost use Rattle.lines.specs.Putting.{put_at};
+ghost use Rattle.arcs.specs.Arc.{the_arc};
+ghost use Rattle.arcs.specs.Whole.{arc_at};
 
+use crate::Arc;
 use definitions::ARC_SIZE;
 
-// Writes the words of an arc at a place.
-pub fn put_arc(arcs: &mut [u32], place: usize, from: u32, to: u32, model: u32, phone: u32)
-    requires { arc_size * place + arc_size ≤ length arcs.old }
-    ensures { arcs.new ≡ put_at (arc_size * place) (from ∷ to ∷ model ∷ phone ∷ []) arcs.old }
+// The arc at a place.
+pub fn arc_at(arcs: &[u32], place: usize) -> Arc
+    requires { arc_size * place + arc_size ≤ length arcs.now }
+    ensures { the_arc result ≡ arc_at arcs.now place }
 {
     let at = ARC_SIZE * place;
-    arcs[at] = from;
-    arcs[at + 1] = to;
-    arcs[at + 2] = model;
-    arcs[at + 3] = phone;
+    Arc {
+        from: arcs[at],
+        to: arcs[at + 1],
+        model: arcs[at + 2],
+        phone: arcs[at + 3],
+    }
+}
+
+// Writes the words of an arc at a place.
+pub fn put_arc(arcs: &mut [u32], place: usize, arc: Arc)
+    requires { arc_size * place + arc_size ≤ length arcs.old }
+    ensures { arcs.new ≡ put_at (arc_size * place) (arc_words (the_arc arc)) arcs.old }
+{
+    let at = ARC_SIZE * place;
+    arcs[at] = arc.from;
+    arcs[at + 1] = arc.to;
+    arcs[at + 2] = arc.model;
+    arcs[at + 3] = arc.phone;
 }

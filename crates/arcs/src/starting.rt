@@ -15,14 +15,12 @@ fn counted_on(arcs: &[u32], some: usize, state: usize) -> usize
     ensures { result ≡ below state (all_arcs arcs.now) }
 {
     let count = arcs.len() / ARC_SIZE;
-    let mut at = some;
-    while at < count {
+    for at in some..count {
         if state <= wide(arcs[ARC_SIZE * at]) {
             return at;
         }
-        at += 1;
     }
-    at
+    count
 }
 
 // Fills the places of the states to the last that an arc leaves, as far as there are places; answers how many.
@@ -32,16 +30,14 @@ pub fn fill_starts(arcs: &[u32], starts: &mut [u32]) -> usize
 {
     let count = arcs.len() / ARC_SIZE;
     let mut at = 0;
-    let mut state = 0;
-    while state < starts.len() {
+    for state in 0..starts.len() {
         at = counted_on(arcs, at, state);
         if at == count {
             return state;
         }
         starts[state] = at as u32;
-        state += 1;
     }
-    state
+    starts.len()
 }
 
 // How many arcs have a source below a state: from the table, or by bisection where it has no place for the state.
@@ -49,8 +45,8 @@ pub fn arcs_before(arcs: &[u32], starts: &[u32], state: usize) -> usize
     requires { T (never_descending (all_arcs arcs.now)) × Started arcs.now starts.now }
     ensures { result ≡ below state (all_arcs arcs.now) }
 {
-    if state < starts.len() {
-        return wide(starts[state]);
+    match starts.get(state) {
+        Some(start) => wide(*start),
+        None => arcs_below(arcs, state),
     }
-    arcs_below(arcs, state)
 }

@@ -2,7 +2,7 @@
 -- element the one before it of the same head. The first half of the words are the heads, the second half the
 -- links between elements. Places count from 1, and 0 ends a chain. What an element is, how many words it takes
 -- and which key it has are the code's affair alone.
-use Rattle.std.specs.Prelude.{◌≡◌, List, map, ℕ, suc, ◌+◌, ◌-◌, ◌*◌, ◌/◌, ◌≤◌, ◌<◌, length, set, get_or}
+use Rattle.std.specs.Prelude.{◌≡◌, List, map, Option, None, Some, ℕ, suc, ◌+◌, ◌-◌, ◌*◌, ◌/◌, ◌≤◌, ◌<◌, length, set, get_or}
 use Rattle.std.specs.Int.Bits.{bit_and}
 use Rattle.definitions.specs.Lists.{◌!◌, records, concat_map, IsIn}
 
@@ -76,8 +76,13 @@ pub record Findable {X : Type 0} (code : Code X) (words chains : List ℕ) : Typ
   pub flat : Flat code (elements_in code words) words
   pub linked : Linked code (heads_in chains) chains (elements_in code words)
 
--- what looking for an element answers: a place that has it, counted from 1, or 0 where none has it
-pub record Found {X : Type 0} (code : Code X) (table : List X) (x : X) (answer : ℕ) : Type 0 where
-  pub none : answer ≡ 0 → IsIn x table → ⊥
-  pub some : (place : ℕ) → answer ≡ suc place
+-- the link that names a place, if there is one: links count from 1, and 0 names none
+abbrev pub link_of : Option ℕ → ℕ
+link_of None = 0
+link_of (Some place) = suc place
+
+-- what looking for an element answers: a place that has it, or none where no place has it
+pub record Found {X : Type 0} (code : Code X) (table : List X) (x : X) (answer : Option ℕ) : Type 0 where
+  pub none : answer ≡ None → IsIn x table → ⊥
+  pub some : (place : ℕ) → answer ≡ Some place
       → (place < length table) × (get_or table place code.nothing ≡ x)

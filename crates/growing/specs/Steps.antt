@@ -1,13 +1,12 @@
 -- What a step of growing starts from, leaves and answers, by what the definition performs.
-use Rattle.std.specs.Prelude.{if◌then◌else◌, ◌≡◌, List, ◌++◌, ℕ, ◌+◌, ◌*◌, ◌/◌, min, ltb, length, take, drop}
+use Rattle.std.specs.Prelude.{if◌then◌else◌, ◌≡◌, List, ◌++◌, ℕ, ◌+◌, ◌*◌, ◌/◌, min, ltb, length, take, drop, Result, Ok, Err}
+use Rattle.definitions.specs.declared.Fault.{Fault}
 use Rattle.definitions.specs.declared.Fault.TheVariants.{Tangle}
 use Rattle.definitions.specs.Faults.{Outcome, answered, refused}
 use Rattle.definitions.specs.Arcs.{Arc, arc_size, arc_words}
 use Rattle.definitions.specs.Growing.{Grown, Room}
 use Rattle.definitions.specs.Building.{most_arcs}
 use Rattle.growing.specs.declared.Sizes.{Sizes}
-use Rattle.growing.specs.declared.Step.{Step}
-use Rattle.growing.specs.declared.Step.TheVariants as step
 use Rattle.growing.specs.Chains.{Code}
 use Rattle.growing.specs.Kept.{grown_held, Kept}
 
@@ -30,13 +29,13 @@ pub record Underway {X : Type 0} (code : Code X) (room : Room) (sizes : Sizes) (
 
 -- ---- steps
 
-unfoldable pub step_of : {X : Type 0} → Outcome (Grown X) → Step
-step_of (answered net) = step.Next (sizes_of net)
-step_of (refused r) = step.Stop r.fault
+unfoldable pub step_of : {X : Type 0} → Outcome (Grown X) → Result Sizes Fault
+step_of (answered net) = Ok (sizes_of net)
+step_of (refused r) = Err r.fault
 
 -- the words before, the outcome, the answer, and the words after
 pub record StepLeft {X : Type 0} (code : Code X) (room : Room) (table arcs chains : List ℕ)
-    (outcome : Outcome (Grown X)) (answer : Step) (table' arcs' chains' : List ℕ) : Type 0 where
+    (outcome : Outcome (Grown X)) (answer : Result Sizes Fault) (table' arcs' chains' : List ℕ) : Type 0 where
   pub answers : answer ≡ step_of outcome
   pub holds : (net : Grown X) → outcome ≡ answered net → Kept code room net table' arcs' chains'
   pub table-sized : length table' ≡ length table
@@ -52,12 +51,12 @@ ArcAppended sizes a arcs arcs' =
     then take (arc_size * sizes.arcs) arcs ++ arc_words a ++ drop (arc_size * sizes.arcs + arc_size) arcs
     else arcs)
 
-abbrev pub ArcAnswered : Sizes → (arcs : List ℕ) → (answer : Step) → Type 0
+abbrev pub ArcAnswered : Sizes → (arcs : List ℕ) → (answer : Result Sizes Fault) → Type 0
 ArcAnswered sizes arcs answer =
     answer ≡ (if ltb sizes.arcs (arc_room arcs)
-    then step.Next (record { table = sizes.table; arcs = sizes.arcs + 1 })
-    else step.Stop Tangle)
+    then Ok (record { table = sizes.table; arcs = sizes.arcs + 1 })
+    else Err Tangle)
 
-pub record ArcAdded (sizes : Sizes) (a : Arc) (arcs : List ℕ) (answer : Step) (arcs' : List ℕ) : Type 0 where
+pub record ArcAdded (sizes : Sizes) (a : Arc) (arcs : List ℕ) (answer : Result Sizes Fault) (arcs' : List ℕ) : Type 0 where
   pub answers : ArcAnswered sizes arcs answer
   pub words : ArcAppended sizes a arcs arcs'

@@ -4,18 +4,9 @@
 pub mod adding;
 pub mod linking;
 
-use definitions::Fault;
-
 // How many elements and arcs have grown so far.
-#[derive(Clone, Copy)]
+#[derive(Clone, Copy, PartialEq, Eq)]
 pub struct Sizes {
     pub table: usize,
     pub arcs: usize,
-}
-
-// What adding leads to.
-#[derive(Clone, Copy)]
-pub enum Step {
-    Next(Sizes),
-    Stop(Fault),
 }

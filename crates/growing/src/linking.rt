@@ -1,6 +1,6 @@
 // Chains: the first half of `chains` has for each head the latest element of that head, the second half for each
-// element the one before it of the same head. Places in it count from 1; 0 ends a chain. An element's head is its key,
-// cut to the number of heads, which is a power of 2.
+// element the one before it of the same head. Places in it count from 1 and 0 ends a chain, since a lent word holds no
+// Option. An element's head is its key, cut to the number of heads, which is a power of 2.
 ghost use Rattle.std.specs.Prelude.{◌≡◌, ◌<◌};
 ghost use Rattle.growing.specs.Chains.{head_of, heads_in, linked_to};
 

@@ -1,97 +1,22 @@
 -- Laws about the test for foreign arcs, one for each answer of the code. Arcs are tested in one pass, each by
 -- itself and its source against the last one, so the whole is left to the arcs that follow and that source.
-use Rattle.std.specs.Prelude.{◌≡◌, refl, List, [], ◌∷◌, Bool, true, false, ◌&&◌, T, leb, ltb, length, take, drop, get_or}
+use Rattle.std.specs.Prelude.{◌≡◌, refl, List, [], ◌∷◌, Bool, true, false, ◌&&◌, T, leb, length, take, drop, get_or}
 use Rattle.std.proofs.Math.Path.{sym}
-use Rattle.std.proofs.Common.{ap, ◌∙◌, add-zero, add-one, arith, length-drop, drop_of_length-le, drop-cons, get_or-take, get_or-drop, length-take-le}
+use Rattle.std.proofs.Common.{ap, ◌∙◌, add-zero, add-one, arith, drop_of_length-le, drop-cons, get_or-take, get_or-drop, length-take-le}
 use Rattle.std.proofs.Math.Bool.{and-false}
-use Prim.Native.Nat.{ℕ, ◌+◌, ◌-◌, ◌*◌, ◌/◌, ◌≤◌, ◌<◌}
+use Prim.Native.Nat.{ℕ, ◌+◌, ◌*◌, ◌/◌, ◌≤◌, ◌<◌}
 use Rattle.std.proofs.Math.ListN.{get_or-map}
-use borrow.Author.Tests.{lt-ltb, le-ltb, le-leb, lt-leb, ltb-true, ltb-false}
+use borrow.Author.Tests.{le-leb, lt-leb}
 use Rattle.definitions.specs.declared.Counts.{Counts}
-use Rattle.definitions.specs.Lines.{in_ranges}
 use Rattle.definitions.specs.Lists.{◌!◌, every, records}
 use Rattle.definitions.specs.ForeignTables.{holds_only}
 use Rattle.definitions.specs.Arcs.{Arc, arc, arc_size, arc_of, arcs_in}
-use Rattle.definitions.specs.NetworkText.{is_state, arc_known, never_descending, network_known}
-use Rattle.definitions.proofs.Laws.Lists.Tests.{by-test}
+use Rattle.definitions.specs.NetworkText.{arc_known, never_descending, network_known}
 use Rattle.definitions.proofs.Laws.Lists.Records.{record-at, records-taken}
 use Rattle.definitions.proofs.Laws.Books.AcceptedKnown.{holds-padded}
-use Rattle.definitions.proofs.Laws.Networks.NetworkLines.{counts_ranged, arc_ranged}
+use Rattle.definitions.proofs.Laws.Networks.NetworkLines.{counts_ranged}
 use Rattle.definitions.proofs.Laws.Networks.KnownNetworks.{arcs-length, known-parts, known-holds}
 use Rattle.arcs.specs.Whole.{all_arcs, arc_at}
-
--- ---- states
-
--- every network has states 0 and 1; beyond them the code counts those of the metastates
-module _ (counts : Counts) {state : ℕ} where
-  pub state_low : state < 2 → true ≡ is_state counts state
-  unfolding is_state
-  state_low h = sym (lt-ltb state (2 + counts.states * counts.metastates) (omega arith))
-
-  pub state_high : {k metastates : ℕ} → k ≡ counts.states → metastates ≡ counts.metastates → 2 ≤ state
-      → ltb (state - 2) (k * metastates) ≡ is_state counts state
-  unfolding is_state
-  state_high e f h =
-      let states : ℕ = counts.states * counts.metastates in
-      rw (e, f)
-      (by-test (ltb (state - 2) states)
-      (λ e. e ∙ sym (lt-ltb state (2 + states) (omega (arith, ltb-true (state - 2) states e))))
-      (λ e. e ∙ sym (le-ltb state (2 + states) (omega (arith, ltb-false (state - 2) states e)))))
-
--- ---- an arc by itself
-
--- its words in the ranges of an A line, by the first that is beyond; none is below
-module _ (a : Arc) where
-  low : (n : ℕ) → leb 0 n ≡ true
-  low n = le-leb 0 n (omega arith)
-
-  pub source-far : 196606 < a.from → false ≡ arc_ranged a
-  unfolding in_ranges
-  source-far h = rw (low a.from, lt-leb a.from 196606 h)
-
-  pub target-far : a.from ≤ 196606 → 196606 < a.to → false ≡ arc_ranged a
-  unfolding in_ranges
-  target-far e h = rw (low a.from, le-leb a.from 196606 e, low a.to, lt-leb a.to 196606 h)
-
-  module _ (e : a.from ≤ 196606) (f : a.to ≤ 196606) where
-    pub model-far : 65535 < a.model → false ≡ arc_ranged a
-    unfolding in_ranges
-    model-far h =
-        rw (
-          low a.from,
-          le-leb a.from 196606 e,
-          low a.to,
-          le-leb a.to 196606 f,
-          low a.model,
-          lt-leb a.model 65535 h,
-        )
-
-    pub by-phone : a.model ≤ 65535 → leb a.phone 64 ≡ arc_ranged a
-    unfolding in_ranges
-    by-phone g =
-        rw (
-          low a.from,
-          le-leb a.from 196606 e,
-          low a.to,
-          le-leb a.to 196606 f,
-          low a.model,
-          le-leb a.model 65535 g,
-          low a.phone,
-        ) (by-test (leb a.phone 64) (λ t. rw t) (λ t. rw t))
-
-module _ (counts : Counts) (a : Arc) where
-  pub arc-misranged : arc_ranged a ≡ false → false ≡ arc_known counts a
-  unfolding arc_known
-  arc-misranged h = rw h
-
-  pub arc-adrift : arc_ranged a ≡ true → is_state counts a.from ≡ false → false ≡ arc_known counts a
-  unfolding arc_known
-  arc-adrift h k = rw (h, k)
-
-  pub arc-judged : arc_ranged a ≡ true → is_state counts a.from ≡ true
-      → is_state counts a.to ≡ arc_known counts a
-  unfolding arc_known
-  arc-judged h k = rw (h, k)
 
 -- ---- arcs in words
 
@@ -132,18 +57,6 @@ arcs-next count words i h =
 arcs-end : (count : ℕ) (words : List ℕ) (i : ℕ) → count ≤ i → drop i (arcs_in count words) ≡ []
 arcs-end count words i h = drop_of_length-le (arcs_in count words) {i = i} (rw (arcs-length count words) h)
 
--- the words of an arc, as the code lends them
-abbrev pub lent_at : (words : List ℕ) → (i : ℕ) → List ℕ
-lent_at words i = take (arc_size * i + arc_size - arc_size * i) (drop (arc_size * i) words)
-
-lent_is : (words : List ℕ) (i : ℕ) → lent_at words i ≡ take arc_size (drop (arc_size * i) words)
-lent_is words i = let size : arc_size * i + arc_size - arc_size * i ≡ arc_size = omega arith in rw size
-
-pub lent-sized : (words : List ℕ) (i : ℕ) → i < length words / arc_size → length (lent_at words i) ≡ arc_size
-lent-sized words i h =
-    ap length (lent_is words i)
-    ∙ length-take-le arc_size (drop (arc_size * i) words) (rw (length-drop (arc_size * i) words) (omega arith))
-
 -- ---- one pass over all arcs
 
 -- whether sources never descend from the last one on
@@ -178,31 +91,22 @@ module _ {counts : Counts} {words : List ℕ} {count last i : ℕ} (t : Tested c
   abbrev after : List Arc
   after = drop (i + 1) (arcs_in count words)
 
-  -- what is known of the next arc and those after it
-  abbrev known : Bool
-  known = arc_known counts (arc_of (lent_at words i)) && every (arc_known counts) after
+  module _ (h : i < count) {a : Arc} (e : a ≡ arc_at words i) where
+    tested-next : arcs_known counts (arcs_in count words)
+        ≡ ((arc_known counts a && every (arc_known counts) after) && (leb last a.from && descends_not a.from after))
+    unfolding every descends_not
+    tested-next = t.rest ∙ rw (arcs-next count words i h, ← e, descends-after a after)
 
-  tested-next : i < count → arcs_known counts (arcs_in count words)
-      ≡ (known && (leb last (words ! (arc_size * i)) && descends_not (words ! (arc_size * i)) after))
-  unfolding every descends_not
-  tested-next h =
-      t.rest
-      ∙ rw (arcs-next count words i h, descends-after (arc_at words i) after, ← lent_is words i)
-      (ap (λ (n : ℕ). known && (leb last n && descends_not n after)) (rw (lent_is words i) (source-at words i)))
+    pub tested-more : arc_known counts a ≡ true → last ≤ a.from → Tested counts words count a.from (i + 1)
+    tested-more k l = record { within = omega arith; rest = tested-next ∙ rw (k, le-leb last a.from l) }
 
-  pub tested-more : i < count → arc_known counts (arc_of (lent_at words i)) ≡ true → last ≤ words ! (arc_size * i)
-      → Tested counts words count (words ! (arc_size * i)) (i + 1)
-  tested-more h e l =
-      record { within = omega arith; rest = tested-next h ∙ rw (e, le-leb last (words ! (arc_size * i)) l) }
+    pub tested-foreign : arc_known counts a ≡ false → false ≡ arcs_known counts (arcs_in count words)
+    tested-foreign k = sym (tested-next ∙ rw k)
 
-  pub tested-foreign : i < count → arc_known counts (arc_of (lent_at words i)) ≡ false
-      → false ≡ arcs_known counts (arcs_in count words)
-  tested-foreign h e = sym (tested-next h ∙ rw e)
-
-  pub tested-descends : i < count → words ! (arc_size * i) < last
-      → false ≡ arcs_known counts (arcs_in count words)
-  tested-descends h l =
-      sym (tested-next h ∙ rw (lt-leb last (words ! (arc_size * i)) l) (and-false known))
+    pub tested-descends : a.from < last → false ≡ arcs_known counts (arcs_in count words)
+    tested-descends l =
+        sym (tested-next ∙ rw (lt-leb last a.from l)
+        (and-false (arc_known counts a && every (arc_known counts) after)))
 
   pub tested-end : count ≤ i → true ≡ arcs_known counts (arcs_in count words)
   unfolding every descends_not

@@ -1,16 +1,17 @@
 -- Laws about the arcs that leave a state. Sources never descend, so the arcs of smaller sources are the first
 -- ones: an arc's source tells on which side of their end it stands, which bisection needs and nothing more.
 use Rattle.std.proofs.Math.Path.{◌≡◌, refl, sym}
-use Rattle.std.proofs.Common.{ap, ◌∙◌, lt-ltb, le-ltb, ne_eqb, ltb-true, ltb-false, eqb-true}
+use Rattle.std.proofs.Common.{ap, ◌∙◌, subst, lt-ltb, le-ltb, ne_eqb, ltb-true, ltb-false, eqb-true}
 use mathlib.Core.List.{List, [], ◌∷◌}
-use Rattle.std.specs.Prelude.{Bool, true, false, ℕ, zero, suc, ◌+◌, ◌-◌, ◌*◌, ◌/◌, ◌≤◌, ◌<◌, T, leb, ltb, eqb, length, take, drop, get_or}
+use Rattle.std.specs.Prelude.{Bool, true, false, ℕ, zero, suc, ◌+◌, ◌-◌, ◌*◌, ◌/◌, ◌≤◌, ◌<◌, T, leb, ltb, eqb, length, take, drop, get_or, Ok, Err}
+use Rattle.std.specs.Result.{is_ok}
 use native.Mathlib.Omega.{arith}
 use Rattle.std.proofs.Math.Dec.{leb→le}
 use Rattle.std.proofs.lemmas.Bool.{eqb-false}
 use Rattle.definitions.specs.declared.Counts.{Counts}
 use Rattle.definitions.specs.declared.Fault.TheVariants.{Foreign, State}
 use Rattle.definitions.specs.declared.Refusal.{Refusal}
-use Rattle.definitions.specs.Faults.{Outcome, answered, refused, number_of, fault_of, fault_line, judge}
+use Rattle.definitions.specs.Faults.{Outcome, number_of, fault_of, fault_line, judge}
 use Rattle.definitions.specs.Lists.{◌!◌, select}
 use Rattle.definitions.specs.Arcs.{Arc, arc_size, arc_of, arcs_in}
 use Rattle.definitions.specs.NetworkText.{is_state, never_descending, network_known}
@@ -18,8 +19,10 @@ use Rattle.definitions.specs.Leaving.{Part, part_of, leaving, part_handed, part_
 use Rattle.definitions.proofs.Laws.Lists.Tests.{T_and, by-test}
 use Rattle.definitions.proofs.Laws.Lists.Selected.{select-here, select-past}
 use Rattle.definitions.proofs.Laws.Networks.KnownNetworks.{arcs-length}
-use Rattle.arcs.specs.declared.Standing.TheVariants as standing
-use Rattle.arcs.specs.Standing.{standing_of}
+use Rattle.definitions.specs.Said.{result_of}
+use Rattle.definitions.proofs.Laws.Results.{answered-ok, refused-err}
+use Rattle.arcs.specs.declared.Span.{Span}
+use Rattle.arcs.specs.Spans.{span_at}
 use Rattle.arcs.specs.Laws.KnownArcs.{arc-at, source-at, known-length, known-arcs}
 use Rattle.arcs.specs.Whole.{all_arcs}
 use Rattle.arcs.specs.Below.{IsBelow, below}
@@ -217,13 +220,13 @@ bracket-end b h = omega (arith, b.low_at, b.high_at)
 
 module _ (counts : Counts) (words : List ℕ) (state : ℕ) where
   pub standing-foreign : network_known counts words ≡ false
-      → standing.Refused (record { fault = Foreign; line = 0 }) ≡ standing_of (leaving counts words state)
-  unfolding leaving judge standing_of
+      → Err (record { fault = Foreign; line = 0 }) ≡ result_of span_at (leaving counts words state)
+  unfolding leaving judge result_of
   standing-foreign h = rw h
 
   pub standing-beyond : network_known counts words ≡ true → is_state counts state ≡ false
-      → standing.Refused (record { fault = State; line = 0 }) ≡ standing_of (leaving counts words state)
-  unfolding leaving judge standing_of
+      → Err (record { fault = State; line = 0 }) ≡ result_of span_at (leaving counts words state)
+  unfolding leaving judge result_of
   standing-beyond h k = rw (h, k)
 
 -- what the searches give where the network and the state are known: how many arcs have a source below the
@@ -261,9 +264,9 @@ module _ {counts : Counts} {words : List ℕ} {state first end : ℕ} (f : Searc
       let room = known-length counts words refl f.network-known in
       omega (arith, f.end_is, below-within (state + 1) arcs, arcs-length counts.arcs words, room)
 
-  pub standing-part : standing.Part (arc_size * first) (arc_size * (end - first))
-      ≡ standing_of (leaving counts words state)
-  unfolding leaving judge standing_of part_of
+  pub standing-part : Ok (record { start = arc_size * first; length = arc_size * (end - first) })
+      ≡ result_of span_at (leaving counts words state)
+  unfolding leaving judge result_of part_of
   standing-part =
       let size : end - first ≡ own = omega (arith, f.first_is, f.end_is, below_next state arcs) in
       rw (f.network-known, f.state_known, size, f.first_is)
@@ -280,35 +283,35 @@ Handed outcome words lent fault line address part =
     × ((address ≡ (lent.0, arc_size * (part_handed outcome).start * 4 + lent.1))
     × (part ≡ part_words words (part_handed outcome))))
 
-module _ (words : List ℕ) (lent : ℕ × ℕ) where
-  pub handed-part : (outcome : Outcome Part) {start size : ℕ} → standing.Part start size ≡ standing_of outcome
-      → Handed outcome words lent 0 0 (lent.0, start * 4 + lent.1) (take (start + size - start) (drop start words))
-  unfolding standing_of fault_of fault_line part_handed part_words
-  handed-part (answered part) {start} {size} e =
-      let first : start ≡ arc_size * part.start = cc in
-      let own : size ≡ arc_size * part.count = cc in
-      let whole : start + size - start ≡ size = omega arith in
-      (refl, (refl, (rw first, rw (whole, own, first))))
-  handed-part (refused r) e = let z : ◌≡◌ {A = ℕ} 0 1 = cc in absurd (omega arith)
+module _ (words : List ℕ) (lent : ℕ × ℕ) (outcome : Outcome Part) where
+  pub handed-part : {span : Span} → Ok span ≡ result_of span_at outcome
+      → Handed outcome words lent 0 0 (lent.0, span.start * 4 + lent.1)
+      (take (span.start + span.length - span.start) (drop span.start words))
+  unfolding fault_of fault_line part_handed part_words
+  handed-part {span} e =
+      let a = answered-ok span_at outcome span (sym e) in
+      let first : arc_size * a.answer.start ≡ span.start = ap (λ (s : Span). s.start) a.said in
+      let own : arc_size * a.answer.count ≡ span.length = ap (λ (s : Span). s.length) a.said in
+      let whole : span.start + span.length - span.start ≡ span.length = omega arith in
+      rw a.was (refl, (refl, (rw first, rw (whole, own, first))))
 
-  pub handed-nothing : (outcome : Outcome Part) {r : Refusal} {fault line : ℕ}
-      → standing.Refused r ≡ standing_of outcome → fault ≡ number_of r.fault → line ≡ r.line
-      → Handed outcome words lent fault line (lent.0, 0 + lent.1) []
-  unfolding standing_of fault_of fault_line part_handed part_words
-  handed-nothing (answered part) e f l = let z : ◌≡◌ {A = ℕ} 0 1 = cc in absurd (omega arith)
-  handed-nothing (refused q) {r} e f l = let same : r ≡ q = cc in (f ∙ rw same, (l ∙ rw same, (refl, refl)))
+  pub handed-nothing : {r : Refusal} → Err r ≡ result_of span_at outcome
+      → Handed outcome words lent (number_of r.fault) r.line lent []
+  unfolding fault_of fault_line part_handed part_words
+  handed-nothing {r} e = rw (refused-err span_at outcome r (sym e))
+      (refl, (refl, (ap (λ (n : ℕ). (lent.0, n)) {x = lent.1} {y = 0 + lent.1} (omega arith), refl)))
 
 -- it lies within the lent arcs
-pub part-within : (counts : Counts) (words : List ℕ) (state : ℕ) {start size : ℕ}
-    → standing.Part start size ≡ standing_of (leaving counts words state) → start + size ≤ length words
-part-within counts words state {start} {size} e =
+pub part-within : (counts : Counts) (words : List ℕ) (state : ℕ) {span : Span}
+    → Ok span ≡ result_of span_at (leaving counts words state) → span.start + span.length ≤ length words
+part-within counts words state {span} e =
     let arcs : List Arc = arcs_in counts.arcs words in
     by-test (network_known counts words)
     (λ h. by-test (is_state counts state)
     (λ k. let f : Searched counts words state (below state arcs) (below (state + 1) arcs) =
     record { network-known = h; state_known = k; first_is = refl; end_is = refl } in
-    let first : start ≡ arc_size * below state arcs = cc (standing-part f) in
-    let own : size ≡ arc_size * (below (state + 1) arcs - below state arcs) = cc (standing-part f) in
+    let first : span.start ≡ arc_size * below state arcs = cc (standing-part f) in
+    let own : span.length ≡ arc_size * (below (state + 1) arcs - below state arcs) = cc (standing-part f) in
     omega (arith, part-order f, part_end f))
-    (λ k. let z : ◌≡◌ {A = ℕ} 0 1 = cc (standing-beyond counts words state h k) in absurd (omega arith)))
-    (λ h. let z : ◌≡◌ {A = ℕ} 0 1 = cc (standing-foreign counts words state h) in absurd (omega arith))
+    (λ k. absurd (subst T (ap is_ok (e ∙ sym (standing-beyond counts words state h k))) tt)))
+    (λ h. absurd (subst T (ap is_ok (e ∙ sym (standing-foreign counts words state h))) tt))

@@ -1,10 +1,10 @@
 -- Laws about a table of where the arcs of each state begin: it is filled in the order of states.
-use Rattle.std.specs.Prelude.{◌≡◌, refl, List, ℕ, ◌+◌, ◌≤◌, ◌<◌, length, set, take}
-use Rattle.std.proofs.Common.{◌∙◌, arith, length-set, get_or-set_same, get_or-set_other, get_or-take, length-take-le}
+use Rattle.std.specs.Prelude.{◌≡◌, List, ℕ, ◌+◌, ◌≤◌, ◌<◌, length, set}
+use Rattle.std.proofs.Common.{◌∙◌, arith, length-set, get_or-set_same, get_or-set_other}
 use Rattle.std.proofs.Math.Decide.{ℕ_discrete}
 use Rattle.definitions.specs.Lists.{◌!◌}
 use Rattle.arcs.specs.Whole.{all_arcs}
-use Rattle.arcs.specs.Below.{below, Started}
+use Rattle.arcs.specs.Below.{below}
 use Rattle.arcs.specs.Laws.Leaving.{below_up}
 
 -- the places of the states before one are filled; its arcs do not begin before `at`
@@ -14,12 +14,8 @@ pub record Filling (words : List ℕ) (size : ℕ) (starts : List ℕ) (state at
   pub filled : (i : ℕ) → i < state → starts ! i ≡ below i (all_arcs words)
   pub low_at : at ≤ below state (all_arcs words)
 
-pub filling-start : (words starts : List ℕ) → Filling words (length starts) starts 0 0
-filling-start words starts =
-    record { sized = refl; within = omega arith; filled = λ i l. absurd (omega arith); low_at = omega arith }
-
 module _ {words starts : List ℕ} {size state at : ℕ} (f : Filling words size starts state at) where
-  pub filling-more : state < length starts → {next : ℕ} → next ≡ below state (all_arcs words)
+  pub filling-more : state < size → {next : ℕ} → next ≡ below state (all_arcs words)
       → Filling words size (set starts state next) (state + 1) next
   filling-more l {next} e =
       record {
@@ -30,17 +26,5 @@ module _ {words starts : List ℕ} {size state at : ℕ} (f : Filling words size
       }
     where
       at_each : (i : ℕ) → i < state + 1 → Dec (i ≡ state) → set starts state next ! i ≡ below i (all_arcs words)
-      at_each i h (yes same) = rw (same, get_or-set_same starts state next 0 l) e
+      at_each i h (yes same) = rw (same, get_or-set_same starts state next 0 (omega (arith, l, f.sized))) e
       at_each i h (no other) = get_or-set_other starts state i next 0 other ∙ f.filled i (omega arith)
-
-  pub filling-done : (state ≤ length starts) × Started words (take state starts)
-  filling-done =
-      let most : state ≤ length starts = omega (arith, f.sized, f.within) in
-      let sized : length (take state starts) ≡ state = length-take-le state starts most in (
-        most,
-        record {
-          begins = λ i l.
-              let h : i < state = omega (arith, sized) in
-              get_or-take state starts i 0 h ∙ f.filled i h;
-        },
-      )

@@ -1,15 +1,14 @@
 -- Laws about an arc into an element, whichever machine grows the table: what the search along the chain may rely on,
 -- and what each answer leaves, by what the definition performs.
-use Rattle.std.specs.Prelude.{◌≡◌, refl, List, [], ◌∷◌, ◌++◌, ℕ, ◌+◌, ◌-◌, ◌*◌, ◌≤◌, ◌<◌, length, take, drop}
+use Rattle.std.specs.Prelude.{◌≡◌, refl, List, [], ◌∷◌, ◌++◌, ℕ, ◌+◌, ◌*◌, ◌≤◌, ◌<◌, length, take, drop, Option, Some, None, Result, Err}
 use Rattle.std.proofs.Common.{sym, ap, ◌∙◌, subst, arith, length-append}
+use Rattle.definitions.specs.declared.Fault.{Fault}
 use Rattle.definitions.specs.declared.Fault.TheVariants.{Crowd}
 use Rattle.definitions.specs.Growing.{Grown, Machine, enter, Room, add_arc, perform}
 use Rattle.definitions.proofs.Laws.Lists.Tests.{Tells}
 use Rattle.definitions.proofs.Laws.Text.Judging.{AllPass}
 use Rattle.definitions.proofs.Laws.Networks.Limits.{with_element}
 use Rattle.growing.specs.declared.Sizes.{Sizes}
-use Rattle.growing.specs.declared.Step.{Step}
-use Rattle.growing.specs.declared.Step.TheVariants as step
 use Rattle.growing.specs.Chains.{Code, Coded, elements_in, Flat, heads_in, linked_to, Linked, Findable, Found}
 use Rattle.growing.specs.Kept.{Kept}
 use Rattle.growing.specs.Steps.{sizes_of, held_in, arc_room, Underway, StepLeft, ArcAdded}
@@ -65,34 +64,34 @@ module _ {X : Type 0} {code : Code X} {room : Room} {sizes : Sizes} {table arcs 
   -- ---- each answer
 
   module _ {E : Type 0} (m : Machine X E) (tells : Tells m.same) (from : ℕ) (e : E)
-      (passes : AllPass (m.tests e)) (some : 0 < code.size) {found : ℕ}
+      (passes : AllPass (m.tests e)) (some : 0 < code.size) {found : Option ℕ}
       (f : Found code (elements_in code (take (code.size * sizes.table) table)) (m.stored e) found) where
-    abbrev Left : Step → (table' arcs' chains' : List ℕ) → Type 0
+    abbrev Left : Result Sizes Fault → (table' arcs' chains' : List ℕ) → Type 0
     Left answer table' arcs' chains' =
         StepLeft code room table arcs chains (perform m room net (enter from e)) answer table' arcs' chains'
 
     looked : Found code net.table (m.stored e) found
     looked = subst (λ l. Found code l (m.stored e) found) (enter-elements some) f
 
-    pub enter-place : (found ≡ 0 → ⊥) → found - 1 < sizes.table
-    enter-place n = omega (arith, (looked.some (found - 1) (omega (arith, n))).0, places)
+    pub enter-place : {place : ℕ} → found ≡ Some place → place < sizes.table
+    enter-place {place} n = omega (arith, (looked.some place n).0, places)
 
     -- it stands in the table
-    pub enter-known : (found ≡ 0 → ⊥) → {answer : Step} {arcs' : List ℕ}
-        → ArcAdded sizes (m.arc_into from (found - 1) e) arcs answer arcs' → Left answer table arcs' chains
-    enter-known n added =
-        arc-left table chains kept u.whole refl refl (m.arc_into from (found - 1) e) sizes same-sizes
+    pub enter-known : {place : ℕ} → found ≡ Some place → {answer : Result Sizes Fault} {arcs' : List ℕ}
+        → ArcAdded sizes (m.arc_into from place e) arcs answer arcs' → Left answer table arcs' chains
+    enter-known {place} n added =
+        arc-left table chains kept u.whole refl refl (m.arc_into from place e) sizes same-sizes
         (entered-known code m tells room net from e passes looked kept.once n) added
 
     -- there is no room for it
-    pub enter-crowded : found ≡ 0 → room.table ≤ sizes.table → Left (step.Stop Crowd) table arcs chains
+    pub enter-crowded : found ≡ None → room.table ≤ sizes.table → Left (Err Crowd) table arcs chains
     enter-crowded n h =
         left-refused refl refl refl Crowd
         (entered-crowded code m tells room net from e passes looked n (omega (arith, h, places))) refl
 
     -- it is added, and the arc into it
-    pub enter-new : found ≡ 0 → sizes.table < room.table → Coded code (m.stored e)
-        → {answer : Step} {table' arcs' chains' : List ℕ}
+    pub enter-new : found ≡ None → sizes.table < room.table → Coded code (m.stored e)
+        → {answer : Result Sizes Fault} {table' arcs' chains' : List ℕ}
         → table' ≡ take (code.size * sizes.table) table ++ code.words (m.stored e)
         ++ drop (code.size * sizes.table + code.size) table
         → chains' ≡ linked_to (heads_in chains) chains sizes.table (code.key (m.stored e))

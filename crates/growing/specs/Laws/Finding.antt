@@ -1,82 +1,93 @@
 -- Laws about looking for an element along its chain. The idea: every place on the chain has the element's head, and
 -- the link from it names the latest before it of the same head, so no place that has the element is passed.
-use Rattle.std.specs.Prelude.{◌≡◌, List, [], map, Bool, true, false, ℕ, suc, ◌+◌, ◌-◌, ◌*◌, ◌≤◌, ◌<◌, T, ltb, length, take, drop, get_or}
+use Rattle.std.specs.Prelude.{◌≡◌, List, [], map, Option, None, Some, is_some, SomeIff, Bool, true, false, ℕ, suc, ◌+◌, ◌-◌, ◌*◌, ◌≤◌, ◌<◌, T, ltb, length, take, drop, get_or}
 use Rattle.std.proofs.Common.{sym, ap, ◌∙◌, subst, append-nil, mul-suc, mul-le-mul_left, arith, ltb-true, ltb-false}
 use Rattle.definitions.specs.Lists.{◌!◌, records, same}
 use Rattle.definitions.proofs.Laws.Lists.Tests.{by-test}
 use Rattle.definitions.proofs.Laws.Lists.Lists.{same_lists, same_self, map_at}
 use Rattle.definitions.proofs.Laws.Lists.Members.{in-at, place_of}
 use Rattle.definitions.proofs.Laws.Lists.Records.{record-at, written-length, written-records}
-use Rattle.growing.specs.Chains.{Code, Coded, Flat, head_of, head_at, Latest, Linked, Found}
+use Rattle.growing.specs.Chains.{Code, Coded, Flat, head_of, head_at, Latest, Linked, link_of, Found}
 use Rattle.growing.specs.Laws.Heads.{head-below}
 
--- the element stands nowhere from a place on, which counts from 1 and has its head
-pub record Passed {X : Type 0} (code : Code X) (heads : ℕ) (table : List X) (x : X) (at : ℕ) : Type 0 where
-  pub within : at ≤ length table
-  pub own : (i : ℕ) → at ≡ suc i → head_at code heads table i ≡ head_of heads (code.key x)
-  pub none_after : (i : ℕ) → at ≤ i → i < length table → get_or table i code.nothing ≡ x → ⊥
+-- the element stands nowhere from the next place of its chain on, if there is one, which has its head
+pub record Passed {X : Type 0} (code : Code X) (heads : ℕ) (table : List X) (x : X) (next : Option ℕ) : Type 0 where
+  pub within : link_of next ≤ length table
+  pub own : (i : ℕ) → next ≡ Some i → head_at code heads table i ≡ head_of heads (code.key x)
+  pub none_after : (i : ℕ) → link_of next ≤ i → i < length table → get_or table i code.nothing ≡ x → ⊥
+
+-- a place read from a link
+place-read : {link : ℕ} (next : Option ℕ) → SomeIff next (1 ≤ link) (link - 1) → link ≡ link_of next
+place-read None n = omega (arith, n)
+place-read (Some place) (some, e) = omega (arith, some, e)
 
 module _ {X : Type 0} {code : Code X} {heads : ℕ} {chains : List ℕ} {table : List X}
     (linked : Linked code heads chains table) (x : X) where
   abbrev head-of : X → ℕ
   head-of y = head_of heads (code.key y)
 
-  pub find-start : {head at : ℕ} → head ≡ head_of heads (code.key x) → at ≡ chains ! head
-      → Passed code heads table x at
-  find-start {head} {at} e f =
-      let latest = linked.firsts (head-of x) (head-below (code.key x) (omega (arith, linked.few))) in
-      subst (Passed code heads table x) (ap (λ (k : ℕ). chains ! k) (sym e) ∙ sym f) record {
+  pub find-start : {head link : ℕ} {next : Option ℕ} → head ≡ head_of heads (code.key x) → link ≡ chains ! head
+      → SomeIff next (1 ≤ link) (link - 1) → Passed code heads table x next
+  find-start {head} {link} {next} e f n =
+      let latest : Latest code heads table (head-of x) (length table) (link_of next) =
+      subst (Latest code heads table (head-of x) (length table))
+      (ap (λ (k : ℕ). chains ! k) (sym e) ∙ sym f ∙ place-read next n)
+      (linked.firsts (head-of x) (head-below (code.key x) (omega (arith, linked.few)))) in
+      record {
         within = latest.within;
-        own = latest.own;
+        own = λ i g. latest.own i (ap link_of g);
         none_after = λ i h l g. latest.none_after i h l (ap head-of g);
       }
 
-  module _ {at : ℕ} (p : Passed code heads table x at) where
-    pub find-end : at ≡ 0 → Found code table x 0
+  module _ {next : Option ℕ} (p : Passed code heads table x next) where
+    pub find-end : next ≡ None → Found code table x None
     find-end e = record {
       none = λ f member.
-          let (i, l, g) = place_of x table code.nothing member in p.none_after i (omega arith) l g;
-      some = λ place f. absurd (omega (arith, f));
+          let (i, l, g) = place_of x table code.nothing member in
+          p.none_after i (omega (arith, ap link_of e)) l g;
+      some = λ place f. absurd (subst T (sym (ap is_some f)) tt);
     }
 
-    pub find-here : (at ≡ 0 → ⊥) → get_or table (at - 1) code.nothing ≡ x → Found code table x at
-    find-here n e = record {
-      none = λ f. absurd (n f);
-      some = λ place f.
-          let here : at - 1 ≡ place = omega arith in
-          (omega (arith, p.within), subst (λ i. get_or table i code.nothing ≡ x) here e);
-    }
+    module _ {place : ℕ} (is : next ≡ Some place) where
+      listed : place < length table
+      listed = omega (arith, p.within, ap link_of is)
 
-    -- the link from a place
-    pub link-within : heads + at - 1 < length chains
-    link-within = omega (arith, linked.sized, linked.few, p.within)
-
-    module _ {next : ℕ} (n : at ≡ 0 → ⊥) (e : next ≡ chains ! (heads + at - 1)) where
-      next-latest : Latest code heads table (head-of x) (at - 1) next
-      next-latest =
-          let before : at ≡ suc (at - 1) = omega arith in
-          let place : heads + (at - 1) ≡ heads + at - 1 = omega arith in
-          subst (λ k. Latest code heads table k (at - 1) next) (p.own (at - 1) before)
-          (subst (λ j. Latest code heads table (head_at code heads table (at - 1)) (at - 1) j)
-          (ap (λ (j : ℕ). chains ! j) place ∙ sym e)
-          (linked.nexts (at - 1) (omega (arith, p.within))))
-
-      pub find-less : next < at
-      find-less = omega (arith, next-latest.within)
-
-      pub find-next : (get_or table (at - 1) code.nothing ≡ x → ⊥) → Passed code heads table x next
-      find-next other = record {
-        within = omega (arith, next-latest.within, p.within);
-        own = next-latest.own;
-        none_after = λ i h l f.
-            by-test (ltb i (at - 1))
-            (λ t. next-latest.none_after i h (ltb-true i (at - 1) t) (ap head-of f))
-            (λ t. by-test (ltb (at - 1) i)
-            (λ u. p.none_after i (omega (arith, ltb-true (at - 1) i u)) l f)
-            (λ u.
-            let here : i ≡ at - 1 = omega (arith, ltb-false i (at - 1) t, ltb-false (at - 1) i u) in
-            other (subst (λ j. get_or table j code.nothing ≡ x) here f)));
+      pub find-here : get_or table place code.nothing ≡ x → Found code table x (Some place)
+      find-here e = record {
+        none = λ f. absurd (subst T (ap is_some f) tt);
+        some = λ other f.
+            let here : place ≡ other = cc in
+            subst (λ i. (i < length table) × (get_or table i code.nothing ≡ x)) here (listed, e);
       }
+
+      -- the link from a place
+      pub link-within : heads + place < length chains
+      link-within = omega (arith, linked.sized, linked.few, listed)
+
+      module _ {link : ℕ} (after : Option ℕ) (e : link ≡ chains ! (heads + place))
+          (n : SomeIff after (1 ≤ link) (link - 1)) where
+        after-latest : Latest code heads table (head-of x) place (link_of after)
+        after-latest =
+            subst (λ k. Latest code heads table k place (link_of after)) (p.own place is)
+            (subst (λ j. Latest code heads table (head_at code heads table place) place j)
+            (sym e ∙ place-read after n) (linked.nexts place listed))
+
+        pub find-less : link_of after < link_of next
+        find-less = omega (arith, after-latest.within, ap link_of is)
+
+        pub find-next : (get_or table place code.nothing ≡ x → ⊥) → Passed code heads table x after
+        find-next other = record {
+          within = omega (arith, after-latest.within, listed);
+          own = λ i g. after-latest.own i (ap link_of g);
+          none_after = λ i h l f.
+              by-test (ltb i place)
+              (λ t. after-latest.none_after i h (ltb-true i place t) (ap head-of f))
+              (λ t. by-test (ltb place i)
+              (λ u. p.none_after i (omega (arith, ltb-true place i u, ap link_of is)) l f)
+              (λ u.
+              let here : i ≡ place = omega (arith, ltb-false i place t, ltb-false place i u) in
+              other (subst (λ j. get_or table j code.nothing ≡ x) here f)));
+        }
 
 -- ---- elements that stand in words
 
@@ -100,30 +111,31 @@ module _ {X : Type 0} {code : Code X} {table : List X} {words : List ℕ} (flat 
 
 -- and whether they are those of an element
 module _ {X : Type 0} {code : Code X} {table : List X} {words : List ℕ} (flat : Flat code table words)
-    {x : X} (own : Coded code x) {heads at : ℕ} (p : Passed code heads table x at) (n : at ≡ 0 → ⊥) where
+    {x : X} (own : Coded code x) {heads : ℕ} {next : Option ℕ} (p : Passed code heads table x next) {place : ℕ}
+    (is : next ≡ Some place) where
   abbrev part : List ℕ
-  part = take code.size (drop (code.size * (at - 1)) words)
+  part = take code.size (drop (code.size * place) words)
 
   abbrev there : X
-  there = get_or table (at - 1) code.nothing
+  there = get_or table place code.nothing
 
-  listed : at - 1 < length table
-  listed = omega (arith, p.within)
+  inside : place < length table
+  inside = omega (arith, p.within, ap link_of is)
 
-  pub part-within : code.size * (at - 1) + code.size ≤ length words
-  part-within = words-within flat listed
+  pub part-within : code.size * place + code.size ≤ length words
+  part-within = words-within flat inside
 
   part-row : part ≡ code.words there
-  part-row = words-at flat listed
+  part-row = words-at flat inside
 
   module _ {answer : Bool} (e : answer ≡ same part (code.words x)) where
-    pub part-is : answer ≡ true → get_or table (at - 1) code.nothing ≡ x
+    pub part-is : answer ≡ true → there ≡ x
     part-is h =
         let alike : code.words there ≡ code.words x =
         sym part-row ∙ same_lists part (code.words x) (subst T (sym h ∙ e) tt) in
-        sym (flat.coded there (in-at table (at - 1) code.nothing listed)).back
+        sym (flat.coded there (in-at table place code.nothing inside)).back
         ∙ ap code.read alike ∙ own.back
 
-    pub part-other : answer ≡ false → get_or table (at - 1) code.nothing ≡ x → ⊥
+    pub part-other : answer ≡ false → there ≡ x → ⊥
     part-other h f =
         subst T (ap (same part) (part-row ∙ ap code.words f) ∙ sym e ∙ h) (same_self part)

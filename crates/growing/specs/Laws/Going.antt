@@ -1,6 +1,6 @@
 -- Laws about steps one after the other: what has been done so far leaves the rest to do, each step takes its part of
 -- it, and the last one answers for the whole.
-use Rattle.std.specs.Prelude.{◌≡◌, refl, List, length}
+use Rattle.std.specs.Prelude.{◌≡◌, refl, List, length, Result, Ok, Err}
 use Rattle.std.proofs.Common.{sym, ◌∙◌}
 use Rattle.std.proofs.Math.Path.{ap}
 use Prim.Native.Nat.{ℕ, ◌/◌, min}
@@ -11,8 +11,6 @@ use Rattle.definitions.specs.Growing.{Grown, Room}
 use Rattle.definitions.specs.Building.{most_arcs}
 use Rattle.definitions.proofs.Laws.Text.Judging.{refused-not-answered}
 use Rattle.growing.specs.declared.Sizes.{Sizes}
-use Rattle.growing.specs.declared.Step.{Step}
-use Rattle.growing.specs.declared.Step.TheVariants as step
 use Rattle.growing.specs.Chains.{Code}
 use Rattle.growing.specs.Steps.{held_in, Underway, step_of, StepLeft}
 use Rattle.growing.specs.Laws.Steps.{held-sizes, step-stop, next-answered, next-kept, left-answered}
@@ -41,13 +39,13 @@ module _ {X : Type 0} {code : Code X} {room : Room} where
       (g : Going code room table₀ arcs₀ chains₀ whole rest sizes table arcs chains) where
     -- all is done
     pub going_done : rest (held_in code sizes table arcs) ≡ answered (held_in code sizes table arcs)
-        → StepLeft code room table₀ arcs₀ chains₀ whole (step.Next sizes) table arcs chains
+        → StepLeft code room table₀ arcs₀ chains₀ whole (Ok sizes) table arcs chains
     going_done e =
         left-answered g.table-sized g.arcs-sized g.chains_sized (held_in code sizes table arcs) (g.equal ∙ e)
-        (ap step.Next (sym (held-sizes code sizes table arcs))) g.underway.kept
+        (ap Ok (sym (held-sizes code sizes table arcs))) g.underway.kept
 
     -- a step does all that is left
-    module _ {answer : Step} {table' arcs' chains' : List ℕ} where
+    module _ {answer : Result Sizes Fault} {table' arcs' chains' : List ℕ} where
       pub going-last
           : StepLeft code room table arcs chains (rest (held_in code sizes table arcs)) answer table' arcs' chains'
           → StepLeft code room table₀ arcs₀ chains₀ whole answer table' arcs' chains'
@@ -65,7 +63,7 @@ module _ {X : Type 0} {code : Code X} {room : Room} where
           (left : StepLeft code room table arcs chains outcome answer table' arcs' chains')
           (e : rest (held_in code sizes table arcs) ≡ and_then outcome after) where
         -- and goes on
-        pub going_more : {next : Sizes} → answer ≡ step.Next next
+        pub going_more : {next : Sizes} → answer ≡ Ok next
             → Going code room table₀ arcs₀ chains₀ whole after next table' arcs' chains'
         unfolding and_then
         going_more {next} a =
@@ -84,14 +82,14 @@ module _ {X : Type 0} {code : Code X} {room : Room} where
             }
 
         -- or stops
-        pub going-stop : {fault : Fault} → answer ≡ step.Stop fault
-            → StepLeft code room table₀ arcs₀ chains₀ whole (step.Stop fault) table' arcs' chains'
+        pub going-stop : {fault : Fault} → answer ≡ Err fault
+            → StepLeft code room table₀ arcs₀ chains₀ whole (Err fault) table' arcs' chains'
         unfolding and_then step_of
         going-stop {fault} a =
             let (r, is, same) = step-stop outcome fault (sym a ∙ left.answers) in
             let whole_is : whole ≡ refused r = g.equal ∙ e ∙ ap (λ o. and_then o after) is in
             record {
-              answers = ap step.Stop (sym same) ∙ ap step_of (sym whole_is);
+              answers = ap Err (sym same) ∙ ap step_of (sym whole_is);
               holds = λ net f. absurd (refused-not-answered whole r.fault r.line net whole_is f);
               table-sized = left.table-sized ∙ g.table-sized;
               arcs-sized = left.arcs-sized ∙ g.arcs-sized;

@@ -1,6 +1,6 @@
 -- Laws about the answer of a step: the outcome that it stands for, what the words hold then, and an arc that is
 -- appended as the definition appends it.
-use Rattle.std.specs.Prelude.{◌≡◌, List, [], ◌∷◌, ◌++◌, ℕ, ◌+◌, ◌*◌, ◌≤◌}
+use Rattle.std.specs.Prelude.{◌≡◌, List, [], ◌∷◌, ◌++◌, ℕ, ◌+◌, ◌*◌, ◌≤◌, Result, Ok, Err}
 use Rattle.std.proofs.Math.Path.{refl, ap, subst}
 use Rattle.std.proofs.Common.{sym, ◌∙◌, arith, length-append}
 use Rattle.std.proofs.Math.Bool.{true, false}
@@ -20,8 +20,6 @@ use Rattle.definitions.proofs.Laws.Text.Judging.{refused-not-answered}
 use Rattle.definitions.proofs.Laws.Networks.KnownNetworks.{arcs-length}
 use Rattle.definitions.proofs.Laws.Networks.Limits.{with_arc}
 use Rattle.growing.specs.declared.Sizes.{Sizes}
-use Rattle.growing.specs.declared.Step.{Step}
-use Rattle.growing.specs.declared.Step.TheVariants as step
 use Rattle.growing.specs.Chains.{Code}
 use Rattle.growing.specs.Kept.{Kept}
 use Rattle.growing.specs.Steps.{sizes_of, held_in, step_of, StepLeft, arc_room, ArcAppended, ArcAnswered}
@@ -31,13 +29,13 @@ use Rattle.growing.specs.Laws.KeptMore.{kept-arcs, put-arcs}
 
 -- ---- the outcome of an answer
 
-pub step-next : {X : Type 0} (outcome : Outcome (Grown X)) (sizes : Sizes) → step.Next sizes ≡ step_of outcome
+pub step-next : {X : Type 0} (outcome : Outcome (Grown X)) (sizes : Sizes) → Ok sizes ≡ step_of outcome
     → (net : Grown X) × (outcome ≡ answered net) × (sizes_of net ≡ sizes)
 unfolding step_of
 step-next (answered net) sizes e = (net, refl, cc)
 step-next (refused r) sizes e = let z : ◌≡◌ {A = ℕ} 0 1 = cc in absurd (omega arith)
 
-pub step-stop : {X : Type 0} (outcome : Outcome (Grown X)) (fault : Fault) → step.Stop fault ≡ step_of outcome
+pub step-stop : {X : Type 0} (outcome : Outcome (Grown X)) (fault : Fault) → Err fault ≡ step_of outcome
     → (r : Refusal) × (outcome ≡ refused r) × (r.fault ≡ fault)
 unfolding step_of
 step-stop (refused r) fault e = (r, refl, cc)
@@ -54,9 +52,9 @@ held-sizes code sizes table arcs = λ i. record {
 
 -- where a step goes on, the words hold what has grown by its outcome; where it stops, nothing has
 module _ {X : Type 0} {code : Code X} {room : Room} {table arcs chains table' arcs' chains' : List ℕ}
-    {outcome : Outcome (Grown X)} {answer : Step}
+    {outcome : Outcome (Grown X)} {answer : Result Sizes Fault}
     (left : StepLeft code room table arcs chains outcome answer table' arcs' chains') where
-  pub next-answered : {next : Sizes} → answer ≡ step.Next next
+  pub next-answered : {next : Sizes} → answer ≡ Ok next
       → outcome ≡ answered (held_in code next table' arcs')
   next-answered {next} a =
       let (net, is, sized) = step-next outcome next (sym a ∙ left.answers) in
@@ -64,11 +62,11 @@ module _ {X : Type 0} {code : Code X} {room : Room} {table arcs chains table' ar
       ap (λ (z : Sizes). held_in code z table' arcs') (sym sized) ∙ kept_back (left.holds net is) in
       is ∙ ap answered (sym back)
 
-  pub next-kept : {next : Sizes} → answer ≡ step.Next next
+  pub next-kept : {next : Sizes} → answer ≡ Ok next
       → Kept code room (held_in code next table' arcs') table' arcs' chains'
   next-kept {next} a = left.holds (held_in code next table' arcs') (next-answered a)
 
-  pub stop-refused : {fault : Fault} → answer ≡ step.Stop fault → (net : Grown X) → outcome ≡ answered net → ⊥
+  pub stop-refused : {fault : Fault} → answer ≡ Err fault → (net : Grown X) → outcome ≡ answered net → ⊥
   stop-refused {fault} a net e =
       let (r, is, _) = step-stop outcome fault (sym a ∙ left.answers) in
       refused-not-answered outcome r.fault r.line net is e
@@ -76,9 +74,9 @@ module _ {X : Type 0} {code : Code X} {room : Room} {table arcs chains table' ar
 -- ---- what a step leaves
 
 module _ {X : Type 0} {code : Code X} {room : Room} {table arcs chains table' arcs' chains' : List ℕ}
-    {outcome : Outcome (Grown X)} {answer : Step} (t : length table' ≡ length table)
+    {outcome : Outcome (Grown X)} {answer : Result Sizes Fault} (t : length table' ≡ length table)
     (a : length arcs' ≡ length arcs) (c : length chains' ≡ length chains) where
-  pub left-answered : (net : Grown X) → outcome ≡ answered net → answer ≡ step.Next (sizes_of net)
+  pub left-answered : (net : Grown X) → outcome ≡ answered net → answer ≡ Ok (sizes_of net)
       → Kept code room net table' arcs' chains'
       → StepLeft code room table arcs chains outcome answer table' arcs' chains'
   unfolding step_of
@@ -91,7 +89,7 @@ module _ {X : Type 0} {code : Code X} {room : Room} {table arcs chains table' ar
     chains_sized = c;
   }
 
-  pub left-refused : (fault : Fault) → outcome ≡ refuse fault 0 → answer ≡ step.Stop fault
+  pub left-refused : (fault : Fault) → outcome ≡ refuse fault 0 → answer ≡ Err fault
       → StepLeft code room table arcs chains outcome answer table' arcs' chains'
   unfolding step_of
   left-refused fault e f = record {
@@ -116,7 +114,7 @@ module _ (table₀ chains₀ : List ℕ) {X : Type 0} {code : Code X} {room : Ro
       ap (λ (n : ℕ). n + 1) counted ∙ sym (length-append net.arcs (a ∷ [])) in
       λ i. record { table = (e i).table; arcs = one i }
 
-  by-room : {outcome : Outcome (Grown X)} {answer : Step} {arcs' : List ℕ} → outcome ≡ add_arc room a net
+  by-room : {outcome : Outcome (Grown X)} {answer : Result Sizes Fault} {arcs' : List ℕ} → outcome ≡ add_arc room a net
       → ArcAnswered sizes arcs answer → ArcAppended sizes a arcs arcs'
       → StepLeft code room table₀ arcs chains₀ outcome answer table arcs' chains
   unfolding add_arc concat_map arc_words
@@ -131,13 +129,13 @@ module _ (table₀ chains₀ : List ℕ) {X : Type 0} {code : Code X} {room : Ro
       (rw t₁ at g)
       ∙ ap (λ (k : ℕ). take (arc_size * k) arcs ++ arc_words a ++ drop (arc_size * k + arc_size) arcs) counted in
       let (size, grown) = kept-arcs kept (a ∷ []) free (put-arcs kept (a ∷ []) refl free put) in
-      left-answered t size c (with_arc net a) (o ∙ rw test) ((rw t₁ at f) ∙ ap step.Next more) grown)
+      left-answered t size c (with_arc net a) (o ∙ rw test) ((rw t₁ at f) ∙ ap Ok more) grown)
       (λ t₁.
       let test : ltb (length net.arcs) room.arcs ≡ false =
       ap (λ (n : ℕ). ltb n room.arcs) (sym counted) ∙ ap (ltb sizes.arcs) r ∙ t₁ in
       left-refused t (ap length (rw t₁ at g)) c Tangle (o ∙ rw test) (rw t₁ at f))
 
-  pub arc-left : {outcome : Outcome (Grown X)} {answer : Step} {arcs' : List ℕ} → outcome ≡ add_arc room a net
+  pub arc-left : {outcome : Outcome (Grown X)} {answer : Result Sizes Fault} {arcs' : List ℕ} → outcome ≡ add_arc room a net
       → ArcAdded sizes a arcs answer arcs'
       → StepLeft code room table₀ arcs chains₀ outcome answer table arcs' chains
   arc-left o added = by-room o added.answers added.words

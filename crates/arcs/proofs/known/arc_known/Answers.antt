@@ -1,24 +1,14 @@
--- `known::arc_known` meets its contract, by the first test that fails.
-use mathlib.Core.Path.{◌∙◌}
-use Rattle.definitions.specs.Arcs.{arc_words, arc_of}
-use Rattle.definitions.proofs.Laws.Lists.Tests.{held, failed}
-use Rattle.arcs.specs.Laws.KnownArcs.{arc-misranged, arc-adrift, arc-judged}
-use Rattle.std.proofs.lemmas.Bool.{not_from_true}
-use Rattle.std.proofs.lemmas.Bool.{not_from_false}
+-- `known::arc_known` meets its contract.
+use Rattle.std.proofs.Common.{rules}
+use borrow.Author.Tests.{tests}
+use Rattle.definitions.specs.Arcs.{arc_words}
+use Rattle.definitions.specs.NetworkText.{arc_known}
 use Rattle.arcs.proofs.known.arc_known.Goals as goal
 
-pub returns-then-not-arc_ranged : goal.returns-then-not-arc_ranged
-unfolding arc_of arc_words
-returns-then-not-arc_ranged c = arc-misranged _ _ (failed c.arc_ranged.ensures (not_from_false _ c.if-not-arc_ranged.true))
+pub returns-then-is_state : goal.returns-then-is_state
+unfolding arc_known arc_words
+returns-then-is_state c = search (rules, tests)
 
-pub returns-then-not-is_state : goal.returns-then-not-is_state
-unfolding arc_of arc_words
-returns-then-not-is_state c =
-    arc-adrift _ _ (held c.arc_ranged.ensures (not_from_true _ c.if-not-arc_ranged.false))
-    (failed c.is_state.ensures (not_from_false _ c.if-not-is_state.true))
-
-pub returns : goal.returns
-unfolding arc_of arc_words
-returns c =
-    c.is_state-2.ensures ∙ arc-judged _ _ (held c.arc_ranged.ensures (not_from_true _ c.if-not-arc_ranged.false))
-    (held c.is_state.ensures (not_from_true _ c.if-not-is_state.false))
+pub returns-else-is_state : goal.returns-else-is_state
+unfolding arc_known arc_words
+returns-else-is_state c = search (rules, tests)

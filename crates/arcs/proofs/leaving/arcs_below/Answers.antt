@@ -1,7 +1,7 @@
 -- `leaving::arcs_below` meets its contract. The loop's invariant: the arcs of smaller sources end from `low` to
 -- `high`.
 use native.Mathlib.Omega.{arith}
-use Rattle.arcs.specs.Laws.Leaving.{bracket-from, bracket-up, bracket-down, bracket-end}
+use Rattle.arcs.specs.Laws.Leaving.{bracket-from, bracket-up, bracket-down}
 use borrow.Author.Rules.{rules}
 use Rattle.arcs.proofs.leaving.arcs_below.Goals as goal
 
@@ -17,6 +17,3 @@ pub loop-low-preserved : goal.loop-low-preserved
 loop-low-preserved c =
     bracket-down c.requires c.loop-low.invariant (search rules)
     (omega (arith, c.wide.ensures, c.if-wide-state.false))
-
-pub returns : goal.returns
-returns c = bracket-end c.loop-low.invariant (search rules)

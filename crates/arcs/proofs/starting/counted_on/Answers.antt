@@ -16,6 +16,3 @@ pub loop-at-preserved : goal.loop-at-preserved
 loop-at-preserved c =
     bracket-up c.requires.0 c.loop-at.invariant c.loop-at-test.true
     (omega (arith, c.wide.ensures, c.if-state-wide.false))
-
-pub returns : goal.returns
-returns c = bracket-end c.loop-at.invariant c.loop-at-test.false

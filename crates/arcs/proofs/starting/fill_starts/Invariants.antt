@@ -1,11 +1,7 @@
 -- `starting::fill_starts` meets its contract. The loop's invariant: the places of the states before `state` are filled.
-use Prim.Native.Nat.{◌-◌}
 use lib.ListN.{length}
 use Rattle.arcs.specs.Laws.Starting.{Filling}
 use Rattle.arcs.proofs.starting.fill_starts.Given as goal
 
 abbrev pub invariant-loop-state : goal.invariant-loop-state
 invariant-loop-state l = Filling l.arcs (length l.initial.starts) l.starts l.state l.at
-
-abbrev pub decreases-loop-state : goal.decreases-loop-state
-decreases-loop-state l = length l.initial.starts - l.state

@@ -11,17 +11,17 @@ use Rattle.matrix.specs.Laws.Shapes.{root-shaped}
 use Rattle.combinations.specs.Laws.Starting.{list-is, start-chosen, start-all}
 use Rattle.combinations.specs.Laws.Working.{still-unused, worked}
 use Rattle.combinations.proofs.combining.choose_phone.Goals as goal
-use Rattle.combinations.proofs.combining.choose_phone.Goals.{After-around-top}
+use Rattle.combinations.proofs.combining.choose_phone.Goals.{After-around}
 
-top-is : (c : goal.After-around-top)
-    → c.around-top.result.columns
+top-is : (c : goal.After-around)
+    → c.around.result.columns
     ≡ matrix_words (root_matrix (book_with c.args.header c.args.nodes.now c.args.classes.now c.args.roots.now).half
     (book_with c.args.header c.args.nodes.now c.args.classes.now c.args.roots.now).phones c.args.phone)
 unfolding book_with
 top-is c =
     let r = c.requires.0.ranges in
     root-shaped _ _ _ r.half_range.high r.phones_range.high c.requires.1.high
-    c.all_phones-all.ensures c.alone.ensures c.around-top.ensures
+    c.all_phones-all.ensures c.alone.ensures c.around.ensures
 
 pub list_leaves-b-requires : goal.list_leaves-b-requires
 list_leaves-b-requires c =
@@ -43,9 +43,6 @@ overflow_mul-a c =
     let list = c.list_leaves-a in
     omega (arith, list.ensures.room, list.ensures.list_sized, c.well_formed)
 
-pub slice_bounds-choose-end : goal.slice_bounds-choose-end
-slice_bounds-choose-end c = c.list_leaves-a.ensures.room
-
 pub slice_bounds-choose-end-2 : goal.slice_bounds-choose-end-2
 slice_bounds-choose-end-2 c = sym (length-take-le _ _ c.list_leaves-a.ensures.room)
 
@@ -53,9 +50,6 @@ pub overflow_mul-b : goal.overflow_mul-b
 overflow_mul-b c =
     let list = c.list_leaves-b in
     omega (arith, list.ensures.room, list.ensures.list_sized, c.well_formed)
-
-pub slice_bounds-choose-end-3 : goal.slice_bounds-choose-end-3
-slice_bounds-choose-end-3 c = c.list_leaves-b.ensures.room
 
 pub slice_bounds-choose-end-4 : goal.slice_bounds-choose-end-4
 slice_bounds-choose-end-4 c =
@@ -65,9 +59,6 @@ pub overflow_mul-c : goal.overflow_mul-c
 overflow_mul-c c =
     let list = c.list_leaves-c in
     omega (arith, list.ensures.room, list.ensures.list_sized, c.well_formed)
-
-pub slice_bounds-choose-end-5 : goal.slice_bounds-choose-end-5
-slice_bounds-choose-end-5 c = c.list_leaves-c.ensures.room
 
 pub slice_bounds-choose-end-6 : goal.slice_bounds-choose-end-6
 slice_bounds-choose-end-6 c =
@@ -84,7 +75,7 @@ choose-requires c =
     let narrow = r.half_range.high in (
       record {
         chosen =
-            start-chosen b a.phone _ width narrow _ (top-is (goal.at.choose-requires c).After-around-top)
+            start-chosen b a.phone _ width narrow _ (top-is (goal.at.choose-requires c).After-around)
             p.1.low p.1.high;
         few = omega (arith, r.states_range.high);
         first_is = list-is b a.phone _ width narrow 1 c.list_leaves-a.ensures.holds;
@@ -99,10 +90,6 @@ shape_of-table c =
     c.list_leaves-c.ensures.table_sized ∙ c.list_leaves-b.ensures.table_sized
     ∙ c.list_leaves-a.ensures.table_sized
 
-pub shape_of-first : goal.shape_of-first
-shape_of-first c =
-    c.list_leaves-a.ensures.list_sized
-
 pub returns : goal.returns
 unfolding book_with
 returns c =
@@ -113,7 +100,7 @@ returns c =
     let first = c.list_leaves-a.ensures in
     let second = c.list_leaves-b.ensures in
     let third = c.list_leaves-c.ensures in
-    let all = start-all b a.phone _ width r.half_range.high _ (top-is (goal.at.returns c).After-around-top)
+    let all = start-all b a.phone _ width r.half_range.high _ (top-is (goal.at.returns c).After-around)
     r.states_range.low r.states_range.high first.holds second.holds third.holds in
     let table = third.table_sized ∙ second.table_sized ∙ first.table_sized in
     record {

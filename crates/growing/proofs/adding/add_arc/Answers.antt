@@ -1,18 +1,11 @@
 -- `adding::add_arc` meets its contract: with room, the words of the arc stand after the others.
-use Prim.Native.Nat.{◌≤◌, ◌<◌}
+use Prim.Native.Nat.{◌<◌}
 use native.Mathlib.Omega.{arith}
-use borrow.Author.Tests.{lt-ltb, le-ltb}
+use borrow.Author.Tests.{lt-ltb}
 use Rattle.definitions.specs.Arcs.{arc_words}
 use Rattle.lines.specs.Putting.{put_at}
 use Rattle.growing.specs.Steps.{arc_room}
 use Rattle.growing.proofs.adding.add_arc.Goals as goal
-
-pub returns-then-arc_room-sizes : goal.returns-then-arc_room-sizes
-returns-then-arc_room-sizes c =
-    let a = c.args in
-    let full : arc_room a.arcs.now ≤ a.sizes.arcs =
-    omega (arith, c.if-arc_room-sizes.true, c.arc_room.ensures) in
-    record { answers = rw (le-ltb _ _ full); words = rw (le-ltb _ _ full) }
 
 pub returns : goal.returns
 unfolding put_at arc_words
