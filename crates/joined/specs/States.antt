@@ -1,5 +1,6 @@
 -- Joined states in lent words, and what entering one starts from and leaves.
-use Rattle.std.specs.Prelude.{◌≡◌, List, [], ℕ, ◌+◌, ◌*◌, ◌%◌, ◌≤◌, ◌<◌, length, take, drop}
+use Rattle.std.specs.Prelude.{◌≡◌, List, [], ℕ, ◌+◌, ◌*◌, ◌%◌, ◌≤◌, ◌<◌, length, take, drop, Result}
+use Rattle.definitions.specs.declared.Fault.{Fault}
 use Rattle.definitions.specs.Lists.{◌!◌}
 use Rattle.definitions.specs.Faults.{Outcome}
 use Rattle.definitions.specs.Arcs.{INITIAL}
@@ -7,7 +8,6 @@ use Rattle.definitions.specs.Growing.{Grown, Machine, enter, Room, perform}
 use Rattle.definitions.specs.Joining.{Joined, joined, Move, joined_size, joined_words, joining, join_room, most_joined}
 use Rattle.lines.specs.Putting.{put_at}
 use Rattle.growing.specs.declared.Sizes.{Sizes}
-use Rattle.growing.specs.declared.Step.{Step}
 use Rattle.growing.specs.Chains.{Code, heads_in, linked_to}
 use Rattle.growing.specs.Steps as growing
 use Rattle.growing.specs.Steps.{held_in}
@@ -57,7 +57,7 @@ abbrev pub Underway : Sizes → (states arcs chains : List ℕ) → Type 0
 Underway sizes states arcs chains = growing.Underway joined_code (room_of states arcs) sizes states arcs chains
 
 -- the words before, the outcome, the answer, and the words after
-abbrev pub StepLeft : (states arcs chains : List ℕ) → Outcome (Grown Joined) → Step
+abbrev pub StepLeft : (states arcs chains : List ℕ) → Outcome (Grown Joined) → Result Sizes Fault
     → (states' arcs' chains' : List ℕ) → Type 0
 StepLeft states arcs chains outcome answer states' arcs' chains' =
     growing.StepLeft joined_code (room_of states arcs) states arcs chains outcome answer states' arcs' chains'

@@ -1,25 +1,24 @@
 // Arcs into joined states: 31 for a new state is judged before 32 for the arc into it.
-ghost use Rattle.std.specs.Prelude.{◌≡◌, ◌/◌, min};
+ghost use Rattle.std.specs.Prelude.{◌≡◌, ◌/◌, ◌≤◌, ◌<◌, min};
 ghost use Rattle.definitions.specs.Joining.{joined_size, most_joined};
-ghost use Rattle.joined.specs.States.{joined_of, move_to, Underway, StepLeft, entered, HasPlace, JoinedAdded};
+ghost use Rattle.definitions.specs.Arcs.{arc};
+ghost use Rattle.growing.specs.Steps.{arc_room};
+ghost use Rattle.joined.specs.States.{joined_of, move_to, HasPlace, JoinedAdded};
+ghost use Rattle.joined.specs.Joins.{Grows, Left, enters, JoinArcAdded};
 
-use crate::Joined;
 use crate::finding::{find, key_of};
 use crate::rows::put_joined;
+use crate::{Join, Joined};
+use arcs::Arc;
 use definitions::{Fault, JOINED_SIZE, MOST_JOINED};
 use growing::adding::add_arc;
 use growing::linking::link;
-use growing::{Sizes, Step};
 
 // How many joined states the lent words have room for.
 pub fn state_room(words: usize) -> usize
     ensures { result ≡ min (words / joined_size) most_joined }
 {
-    let room = words / JOINED_SIZE;
-    if MOST_JOINED < room {
-        return MOST_JOINED;
-    }
-    room
+    (words / JOINED_SIZE).min(MOST_JOINED)
 }
 
 // Puts a new state at the end of the table and at the front of its chain.
@@ -32,34 +31,40 @@ pub fn add_joined(states: &mut [u32], chains: &mut [u32], place: usize, x: Joine
     link(chains, place, key_of(x));
 }
 
-// Appends the arc from a joined state into one, which is added first if it is new.
-pub fn enter(
-    states: &mut [u32],
-    arcs: &mut [u32],
-    chains: &mut [u32],
-    sizes: Sizes,
-    from: u32,
-    target: Joined,
-    model: u32,
-    label: u32,
-) -> Step
-    requires { Underway sizes states.old arcs.old chains.old }
-    ensures { StepLeft states.old arcs.old chains.old
-        (entered states.old arcs.old sizes from (move_to (joined_of target) model label))
-        result states.new arcs.new chains.new }
-{
-    let place = sizes.table;
-    let found = find(&states[..JOINED_SIZE * place], chains, target);
-    if found != 0 {
-        return add_arc(arcs, sizes, from, (found - 1) as u32, model, label);
+impl Join<'_, '_, '_> {
+    // Appends the arc from a joined state into one, which is added first if it is new.
+    pub fn enter(&mut self, from: u32, target: Joined, model: u32, label: u32) -> Result<(), Fault>
+        requires { Grows self.old }
+        ensures { Left self.old (enters self.old from (move_to (joined_of target) model label)) result self.new }
+    {
+        let place = self.sizes.table;
+        let states = &mut *self.states;
+        let chains = &mut *self.chains;
+        match find(&states[..JOINED_SIZE * place], chains, target) {
+            Some(known) => self.add_arc(from, known, model, label),
+            None => {
+                if state_room(states.len()) <= place {
+                    return Err(Fault::Crowd);
+                }
+                add_joined(states, chains, place, target);
+                self.sizes.table = place + 1;
+                self.add_arc(from, place, model, label)
+            }
+        }
     }
-    if state_room(states.len()) <= place {
-        return Step::Stop(Fault::Crowd);
+
+    // Appends an arc into the joined state at a place.
+    fn add_arc(&mut self, from: u32, place: usize, model: u32, label: u32) -> Result<(), Fault>
+        requires { (self.old.sizes.arcs ≤ arc_room self.old.arcs.now) × (place < most_joined) }
+        ensures { JoinArcAdded (arc from place model label) self.old result self.new }
+    {
+        let arc = Arc {
+            from,
+            to: place as u32,
+            model,
+            phone: label,
+        };
+        self.sizes = add_arc(self.arcs, self.sizes, arc)?;
+        Ok(())
     }
-    add_joined(states, chains, place, target);
-    let next = Sizes {
-        table: place + 1,
-        arcs: sizes.arcs,
-    };
-    add_arc(arcs, next, from, place as u32, model, label)
 }

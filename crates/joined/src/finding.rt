@@ -16,18 +16,18 @@ pub fn key_of(x: Joined) -> usize
     (10007 * wide(x.state) + 67 * wide(x.word) + wide(x.mark)) % 65521
 }
 
-// The place of a joined state in the table, counted from 1, or 0 where it is new.
-pub fn find(states: &[u32], chains: &[u32], x: Joined) -> usize
+// The place of a joined state in the table, or none where it is new.
+pub fn find(states: &[u32], chains: &[u32], x: Joined) -> Option<usize>
     requires { Findable joined_code states.now chains.now }
     ensures { Found joined_code (elements_in joined_code states.now) (joined_of x) result }
 {
     let heads = chains.len() / 2;
-    let mut at = wide(chains[head_of(heads, key_of(x))]);
-    while at != 0 {
-        if stands_at(states, at - 1, x) {
-            return at;
+    let mut next = wide(chains[head_of(heads, key_of(x))]).checked_sub(1);
+    while let Some(place) = next {
+        if stands_at(states, place, x) {
+            return Some(place);
         }
-        at = wide(chains[heads + at - 1]);
+        next = wide(chains[heads + place]).checked_sub(1);
     }
-    0
+    None
 }

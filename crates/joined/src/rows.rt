@@ -26,14 +26,7 @@ pub fn stands_at(states: &[u32], place: usize, x: Joined) -> bool
     requires { joined_size * place + joined_size ≤ length states.now }
     ensures { result ≡ same (row_at states.now place) (joined_words (joined_of x)) }
 {
-    let at = JOINED_SIZE * place;
-    if states[at] != x.state {
-        return false;
-    }
-    if states[at + 1] != x.word {
-        return false;
-    }
-    states[at + 2] == x.mark
+    joined_at(states, place) == x
 }
 
 // Writes the words of a joined state at a place.

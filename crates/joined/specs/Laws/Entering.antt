@@ -1,14 +1,13 @@
 -- Laws about the arc into a joined state: what the calls of the code ask, and what each answer leaves.
-use Rattle.std.specs.Prelude.{◌≡◌, List, ℕ, ◌-◌, ◌*◌, ◌/◌, ◌≤◌, ◌<◌, min, length, take}
+use Rattle.std.specs.Prelude.{◌≡◌, List, ℕ, ◌*◌, ◌/◌, ◌≤◌, ◌<◌, min, length, take, Option, Some, None, Result, Err}
 use Rattle.std.proofs.Common.{arith}
+use Rattle.definitions.specs.declared.Fault.{Fault}
 use Rattle.definitions.specs.declared.Fault.TheVariants.{Crowd}
 use Rattle.definitions.specs.Arcs.{arc}
 use Rattle.definitions.specs.Joining.{Joined, joined_size, joined_words, joining, most_joined, join_room}
 use Rattle.definitions.proofs.Laws.Text.Judging.{AllPass, pass-none}
 use Rattle.lines.specs.Putting.{put_at}
 use Rattle.growing.specs.declared.Sizes.{Sizes}
-use Rattle.growing.specs.declared.Step.{Step}
-use Rattle.growing.specs.declared.Step.TheVariants as step
 use Rattle.growing.specs.Chains.{elements_in, Findable, Found}
 use Rattle.growing.specs.Steps.{arc_room, ArcAdded}
 use Rattle.growing.specs.Laws.Entering as growing
@@ -45,7 +44,7 @@ module _ {sizes : Sizes} {states arcs chains : List ℕ} (u : Underway sizes sta
         few = omega (arith, h);
       }
 
-  module _ (from : ℕ) (x : Joined) (model label : ℕ) {found : ℕ}
+  module _ (from : ℕ) (x : Joined) (model label : ℕ) {found : Option ℕ}
       (f : Found joined_code (elements_in joined_code (take (joined_size * sizes.table) states)) x found) where
     passes : AllPass (entering.tests (move_to x model label))
     unfolding joining
@@ -56,11 +55,11 @@ module _ {sizes : Sizes} {states arcs chains : List ℕ} (u : Underway sizes sta
     unfolding joining
     looked = f
 
-    abbrev Left : Step → (states' arcs' chains' : List ℕ) → Type 0
+    abbrev Left : Result Sizes Fault → (states' arcs' chains' : List ℕ) → Type 0
     Left answer states' arcs' chains' =
         StepLeft states arcs chains (entered states arcs sizes from (move_to x model label)) answer states' arcs' chains'
 
-    pub joined-place : (found ≡ 0 → ⊥) → found - 1 < most_joined
+    pub joined-place : {place : ℕ} → found ≡ Some place → place < most_joined
     joined-place n =
         omega (
           arith,
@@ -68,19 +67,19 @@ module _ {sizes : Sizes} {states arcs chains : List ℕ} (u : Underway sizes sta
           growing.enter-place u entering entering-told from (move_to x model label) passes (omega arith) looked n,
         )
 
-    pub joined-known : (found ≡ 0 → ⊥) → {answer : Step} {arcs' : List ℕ}
-        → ArcAdded sizes (arc from (found - 1) model label) arcs answer arcs' → Left answer states arcs' chains
+    pub joined-known : {place : ℕ} → found ≡ Some place → {answer : Result Sizes Fault} {arcs' : List ℕ}
+        → ArcAdded sizes (arc from place model label) arcs answer arcs' → Left answer states arcs' chains
     unfolding joining
     joined-known n added =
         growing.enter-known u entering entering-told from (move_to x model label) passes (omega arith) looked n added
 
-    pub joined-crowded : found ≡ 0 → state_room states ≤ sizes.table → Left (step.Stop Crowd) states arcs chains
+    pub joined-crowded : found ≡ None → state_room states ≤ sizes.table → Left (Err Crowd) states arcs chains
     unfolding join_room
     joined-crowded n h =
         growing.enter-crowded u entering entering-told from (move_to x model label) passes (omega arith) looked n h
 
-    pub joined-new : found ≡ 0 → sizes.table < state_room states
-        → {answer : Step} {states' arcs' chains' : List ℕ}
+    pub joined-new : found ≡ None → sizes.table < state_room states
+        → {answer : Result Sizes Fault} {states' arcs' chains' : List ℕ}
         → JoinedAdded x sizes.table states chains states' chains'
         → ArcAdded (with_one sizes) (arc from sizes.table model label) arcs answer arcs'
         → Left answer states' arcs' chains'

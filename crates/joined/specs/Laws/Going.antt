@@ -1,11 +1,11 @@
 -- Laws about steps of a join one after the other: the lent words keep their lengths, so each has the same room.
-use Rattle.std.specs.Prelude.{◌≡◌, List, ℕ}
+use Rattle.std.specs.Prelude.{◌≡◌, List, ℕ, Result}
 use Rattle.std.proofs.Common.{sym, ap₂, subst}
+use Rattle.definitions.specs.declared.Fault.{Fault}
 use Rattle.definitions.specs.Faults.{Outcome}
 use Rattle.definitions.specs.Growing.{Grown, Room}
 use Rattle.definitions.specs.Joining.{Joined, join_room}
 use Rattle.growing.specs.declared.Sizes.{Sizes}
-use Rattle.growing.specs.declared.Step.{Step}
 use Rattle.growing.specs.Steps as growing
 use Rattle.growing.specs.Laws.Going as going
 use Rattle.joined.specs.States.{joined_code, room_of, Underway, StepLeft}
@@ -27,7 +27,7 @@ module _ {states₀ joined₀ chains₀ : List ℕ} {whole : Outcome (Grown Join
   going_on = subst (λ room. growing.Underway joined_code room sizes states joined chains) (sym same-room) g.underway
 
   -- and what it says, in the room of the beginning
-  pub step_in : (outcome : Room → Outcome (Grown Joined)) {answer : Step} {states' joined' chains' : List ℕ}
+  pub step_in : (outcome : Room → Outcome (Grown Joined)) {answer : Result Sizes Fault} {states' joined' chains' : List ℕ}
       → StepLeft states joined chains (outcome (room_of states joined)) answer states' joined' chains'
       → growing.StepLeft joined_code (room_of states₀ joined₀) states joined chains (outcome (room_of states₀ joined₀))
       answer states' joined' chains'

@@ -1,13 +1,13 @@
 -- Laws about the words of joined states: three words at a place, one by one; they tell the state; and whether they are
 -- those of a state.
-use Rattle.std.specs.Prelude.{◌≡◌, refl, List, [], ◌∷◌, Bool, false, eqb, ℕ, suc, ◌+◌, ◌*◌, ◌≤◌, length, take, drop}
+use Rattle.std.specs.Prelude.{◌≡◌, refl, List, [], ◌∷◌, Bool, ◌&&◌, eqb, ℕ, suc, ◌+◌, ◌*◌, ◌≤◌, length, take, drop}
 use Rattle.std.proofs.Math.Path.{sym}
 use Rattle.std.proofs.Common.{ap, ◌∙◌, add-one, arith, drop-cons}
-use borrow.Author.Tests.{ne_eqb, eq-eqb}
+use Rattle.std.proofs.Math.Bool.{and-true}
 use Rattle.definitions.specs.Lists.{◌!◌, same}
 use Rattle.definitions.specs.Joining.{Joined, joined_size, joined_words, joining}
 use Rattle.definitions.proofs.Joined.States.{joined-told}
-use Rattle.definitions.proofs.Laws.Lists.Tests.{Tells, by-test}
+use Rattle.definitions.proofs.Laws.Lists.Tests.{Tells}
 use Rattle.growing.specs.Chains.{Coded}
 use Rattle.joined.specs.States.{joined_in, row_at, joined_code, entering}
 
@@ -30,29 +30,15 @@ module _ (states : List ℕ) (place : ℕ) (h : joined_size * place + joined_siz
       ∙ ap (λ (l : List ℕ). states ! at₀ ∷ take 2 l) second
       ∙ ap (λ (l : List ℕ). states ! at₀ ∷ states ! (at₀ + 1) ∷ take 1 l) third
 
-  -- by the word that differs first
-  module _ (x : Joined) where
-    abbrev told : Bool
-    told = same (row_at states place) (joined_words x)
-
-    by-words : told ≡ same
-        (states ! at₀ ∷ states ! (at₀ + 1) ∷ states ! (at₀ + 2) ∷ []) (joined_words x)
-    by-words = ap (λ (l : List ℕ). same l (joined_words x)) row_words
-
-    pub other-state : (states ! at₀ ≡ x.state → ⊥) → false ≡ told
-    unfolding same joined_words
-    other-state n = sym (by-words ∙ rw (ne_eqb _ _ n))
-
-    pub other_word : states ! at₀ ≡ x.state → (states ! (at₀ + 1) ≡ x.mark.word → ⊥) → false ≡ told
-    unfolding same joined_words
-    other_word e n = sym (by-words ∙ rw (eq-eqb _ _ e, ne_eqb _ _ n))
-
-    pub by-mark : states ! at₀ ≡ x.state → states ! (at₀ + 1) ≡ x.mark.word
-        → eqb (states ! (at₀ + 2)) x.mark.mark ≡ told
-    unfolding same joined_words
-    by-mark e f =
-        sym (by-words ∙ rw (eq-eqb _ _ e, eq-eqb _ _ f)
-        (by-test (eqb (states ! (at₀ + 2)) x.mark.mark) (λ t. rw t) (λ t. rw t)))
+  -- a state is the one that stands there where the words are its words
+  pub row-same : (y x : Joined) → y ≡ joined_in (row_at states place)
+      → (eqb y.state x.state && (eqb y.mark.word x.mark.word && eqb y.mark.mark x.mark.mark))
+      ≡ same (row_at states place) (joined_words x)
+  unfolding same joined_words joined_in
+  row-same y x e =
+      rw (e, row_words)
+      (ap (λ (b : Bool). eqb (states ! at₀) x.state && (eqb (states ! (at₀ + 1)) x.mark.word && b))
+      (sym (and-true (eqb (states ! (at₀ + 2)) x.mark.mark))))
 
 -- ---- their states
 
