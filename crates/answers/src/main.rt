@@ -5,45 +5,34 @@
 ghost use Rattle.program.specs.Reading.{ReadInto};
 
 use program::running::run;
-use program::{BUFFER_SIZE, LONGEST_INPUT};
-use showing::printing::{print, print_number};
+use program::{BUFFER_SIZE, LONGEST_INPUT, Output};
 use showing::reading::{INPUT_SIZE, read_full};
-use showing::titles::{end_of, text_of, title_of};
+use showing::titles::{Texts, Titled};
 use std::io;
 
 // What the program prints; of a network of more than 48 lines the first 48, and how many bytes there are.
 fn show_run(rt: &impl Print, buffer: &[u8; BUFFER_SIZE], got: usize) -> io::Result<()> {
-    let output = run(buffer, got);
-    let bytes = output.bytes;
-    let length = output.length;
+    let Output { bytes, length } = run(buffer, got);
     if length <= 1536 {
-        return print(rt, &bytes[0..length]);
+        return rt.write_all(&bytes[..length]);
     }
-    print(rt, &bytes[0..1536])?;
-    print(rt, b"..")?;
-    print_number(rt, length as u64)?;
-    print(rt, b" bytes\n")
+    rt.write_all(&bytes[..1536])?;
+    println!(rt; ".. {length} bytes")
 }
 
 fn show_title(rt: &impl Print, title: &[u8]) -> io::Result<()> {
-    print(rt, b"=")?;
-    print(rt, title)?;
-    print(rt, b"\n")
+    rt.write_all(b"=")?;
+    rt.write_all(title)?;
+    rt.write_all(b"\n")
 }
 
 // Reads an input into a buffer, until it ends or the buffer is full, and counts the bytes.
 fn read_into(input: &[u8], buffer: &mut [u8]) -> usize
     ensures { ReadInto buffer.new result input.now }
 {
-    let mut at = 0;
-    while at < input.len() {
-        if at >= buffer.len() {
-            return at;
-        }
-        buffer[at] = input[at];
-        at += 1;
-    }
-    at
+    let got = input.len().min(buffer.len());
+    buffer[..got].copy_from_slice(&input[..got]);
+    got
 }
 
 fn show_book(rt: &impl Print, book: &[u8]) -> io::Result<()> {
@@ -52,21 +41,18 @@ fn show_book(rt: &impl Print, book: &[u8]) -> io::Result<()> {
     show_run(rt, &buffer, got)
 }
 
-fn show_all(rt: &impl Print, text: &[u8]) -> io::Result<()> {
-    let mut at = 1;
-    while at < text.len() {
-        let rest = &text[at..];
-        show_title(rt, title_of(rest))?;
-        show_book(rt, text_of(rest))?;
-        at += end_of(rest) + 1;
+fn show_all(rt: &impl Print, input: &[u8]) -> io::Result<()> {
+    for Titled { title, text } in Texts(input.get(1..).unwrap_or(&[])) {
+        show_title(rt, title)?;
+        show_book(rt, text)?;
     }
     Ok(())
 }
 
 fn main(rt: HostRuntime) -> io::Result<()> {
-    let mut text = [0u8; INPUT_SIZE];
-    let got = read_full(&mut rt.stdin(), &mut text)?;
-    show_all(&rt, &text[..got])?;
+    let mut input = [0u8; INPUT_SIZE];
+    let got = read_full(&mut rt.stdin(), &mut input)?;
+    show_all(&rt, &input[..got])?;
     let long = [b' '; BUFFER_SIZE];
     show_title(&rt, b" 22 before 11: 65537 blanks")?;
     show_run(&rt, &long, BUFFER_SIZE)?;

@@ -1,15 +1,20 @@
 -- What the code takes a line to say, as a line of document 01; and the lengths of the lent tables.
-use Rattle.definitions.specs.BookLines.{BookLine}
+use Rattle.definitions.specs.BookLines.{BookLine, Member}
 use Rattle.definitions.specs.BookReading.{Lent}
 use Rattle.booklines.specs.declared.Entry.{Entry}
 use Rattle.booklines.specs.declared.Entry.TheVariants.{H, Q, N, L, B, R}
 use Rattle.booklines.specs.declared.Lengths.{Lengths}
+use Rattle.booklines.specs.declared.Member as declared
 use Rattle.definitions.specs.BookLines as lines
+
+-- a member as the code says it
+abbrev pub member_of : declared.Member → Member
+member_of member = record { class = member.class; phone = member.phone }
 
 unfoldable pub entry_line : Entry → BookLine
 entry_line (H header) =
     lines.H header.half header.states header.phones header.classes header.nodes
-entry_line (Q class phone) = lines.Q class phone
+entry_line (Q member) = lines.Q member.class member.phone
 entry_line (N node class position yes_node no_node) = lines.N node class position yes_node no_node
 entry_line (L node model) = lines.L node model
 entry_line (B boundary plain) = lines.B boundary plain

@@ -1,6 +1,5 @@
--- The laws of this crate: numbers and rows of a line, its tests, boundary phones, and what is kept of the lines so
+-- The laws of this crate: rows of a line, its tests, boundary phones, and what is kept of the lines so
 -- far.
-pub mod Numbers
 pub mod Rows
 pub mod Judged
 pub mod Boundaries

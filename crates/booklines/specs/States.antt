@@ -1,6 +1,6 @@
 -- What the code keeps of the lines it has taken, the tests it puts to the next line by it, and the state after
 -- that line.
-use Rattle.std.specs.Prelude.{List, [], ◌∷◌, map, Bool, true, not, ◌&&◌, ℕ, suc, ◌+◌, ◌≤◌, ◌<◌, leb, ltb, eqb, length}
+use Rattle.std.specs.Prelude.{Option, Some, None, List, [], ◌∷◌, map, Bool, true, not, ◌&&◌, ℕ, suc, ◌+◌, ◌≤◌, ◌<◌, leb, ltb, eqb, length}
 use Rattle.std.specs.Int.Bits.{bit_and, bit_or}
 use Rattle.definitions.specs.declared.Fault.TheVariants.{Range, Order}
 use Rattle.definitions.specs.Faults.{Test, ◌unless◌}
@@ -11,13 +11,13 @@ use Rattle.definitions.specs.BookLines.{BookLine, H, Q, N, L, B, R, header_in, h
 use Rattle.definitions.specs.BookLines.{nodes_of, Boundary, boundaries_of, roots_of, root_place, next_place}
 use Rattle.definitions.specs.BookReading.{Lent, within_header, comes_before, left_out, book_tests}
 use Rattle.booklines.specs.declared.State.{State}
-use Rattle.booklines.specs.declared.Last.{Last}
-use Rattle.booklines.specs.declared.Last.TheVariants as last
+use Rattle.booklines.specs.declared.Member as declared
+use Rattle.booklines.specs.Entries.{member_of}
 
 -- the last Q line among the members
-unfoldable pub last_of : List Member → Last
-last_of [] = last.Nothing
-last_of (m ∷ []) = last.Member m.class m.phone
+unfoldable pub last_of : List Member → Option declared.Member
+last_of [] = None
+last_of (m ∷ []) = Some (record { class = m.class; phone = m.phone })
 last_of (m ∷ n ∷ members) = last_of (n ∷ members)
 
 -- the phone after the last boundary phone, 0 before the first
@@ -74,9 +74,9 @@ follows_in s (L _ _) = ltb s.nodes s.header.nodes
 follows_in s (B _ _) = ltb 0 s.lines && eqb s.nodes s.header.nodes && eqb s.next 0
 follows_in s (R _ _ _) = ltb 0 s.lines && eqb s.nodes s.header.nodes
 
-unfoldable pub after_last_member : Last → Member → Bool
-after_last_member last.Nothing m = true
-after_last_member (last.Member class phone) m = comes_before (record { class = class; phone = phone }) m
+unfoldable pub after_last_member : Option declared.Member → Member → Bool
+after_last_member None m = true
+after_last_member (Some last) m = comes_before (member_of last) m
 
 -- whether the R lines from the next place up to another may be left out
 unfoldable pub left_out_in : State → (place : ℕ) → Bool
@@ -168,7 +168,7 @@ next_state s (Q class phone) =
     record {
       lines = s.lines + 1;
       header = s.header;
-      last = last.Member class phone;
+      last = Some (record { class = class; phone = phone });
       nodes = s.nodes;
       after = s.after;
       boundaries = s.boundaries;

@@ -4,38 +4,51 @@ ghost use Rattle.definitions.specs.BookLines.{book_line};
 ghost use Rattle.lines.specs.Rows.{line_in, row_of};
 ghost use Rattle.booklines.specs.Entries.{entry_line};
 
-use crate::Entry;
+use crate::{Entry, Member};
 use definitions::Header;
 use lines::Row;
 
-// What a row says. A row of another letter than these six says what an R line says.
-pub fn entry_of(row: Row) -> Entry
-    requires { row ≡ row_of (line_in row) }
-    ensures { entry_line result ≡ book_line (line_in row) }
-{
-    let letter = row.letter;
-    let n = row.numbers;
-    if letter == b'H' {
-        let header = Header {
-            half: n[0],
-            states: n[1],
-            phones: n[2],
-            classes: n[3],
-            nodes: n[4],
-        };
-        return Entry::H(header);
+impl Entry {
+    // What a row says; one of another letter than these says what an R line says. It is no `From`, since it requires
+    // that the numbers beyond the line's are 0.
+    #[tactic(auto, using(crate::specs::Laws::Rows::row_says), unfolding(crate::specs::Entries::entry_line, definitions::specs::BookLines::book_line))]
+    pub fn of(row: Row) -> Entry
+        requires { row ≡ row_of (line_in row) }
+        ensures { entry_line result ≡ book_line (line_in row) }
+    {
+        let n = row.numbers;
+        match row.letter {
+            b'H' => Entry::H(Header {
+                half: n[0],
+                states: n[1],
+                phones: n[2],
+                classes: n[3],
+                nodes: n[4],
+            }),
+            b'Q' => Entry::Q(Member {
+                class: n[0],
+                phone: n[1],
+            }),
+            b'N' => Entry::N {
+                node: n[0],
+                class: n[1],
+                position: n[2],
+                yes: n[3],
+                no: n[4],
+            },
+            b'L' => Entry::L {
+                node: n[0],
+                model: n[1],
+            },
+            b'B' => Entry::B {
+                boundary: n[0],
+                plain: n[1],
+            },
+            _ => Entry::R {
+                phone: n[0],
+                state: n[1],
+                root: n[2],
+            },
+        }
     }
-    if letter == b'Q' {
-        return Entry::Q(n[0], n[1]);
-    }
-    if letter == b'N' {
-        return Entry::N(n[0], n[1], n[2], n[3], n[4]);
-    }
-    if letter == b'L' {
-        return Entry::L(n[0], n[1]);
-    }
-    if letter == b'B' {
-        return Entry::B(n[0], n[1]);
-    }
-    Entry::R(n[0], n[1], n[2])
 }

@@ -8,35 +8,48 @@ pub mod states;
 
 use definitions::Header;
 
+// A class and its phone, as a Q line says; they are ordered by class and phone.
+#[derive(Clone, Copy, PartialEq, Eq, PartialOrd, Ord)]
+pub struct Member {
+    pub class: u32,
+    pub phone: u32,
+}
+
 // What a line says, by its letter.
-#[derive(Clone, Copy)]
+#[derive(Clone, Copy, PartialEq, Eq)]
 pub enum Entry {
     H(Header),
-    // A class and its phone.
-    Q(u32, u32),
-    // A node's number, its class, position, yes node and no node.
-    N(u32, u32, u32, u32, u32),
-    // A node's number and its model.
-    L(u32, u32),
-    // A boundary phone and its plain phone.
-    B(u32, u32),
-    // A phone, a state and their root.
-    R(u32, u32, u32),
+    Q(Member),
+    N {
+        node: u32,
+        class: u32,
+        position: u32,
+        yes: u32,
+        no: u32,
+    },
+    L {
+        node: u32,
+        model: u32,
+    },
+    B {
+        boundary: u32,
+        plain: u32,
+    },
+    R {
+        phone: u32,
+        state: u32,
+        root: u32,
+    },
 }
 
-// The last Q line.
-#[derive(Clone, Copy)]
-pub enum Last {
-    Nothing,
-    Member(u32, u32),
-}
-
-// What is kept of the lines taken so far.
-#[derive(Clone, Copy)]
+// What is kept of the lines taken so far. That a header has states is no invariant: `state_of` of specs/States.antt,
+// which says what is kept of any lines, has also headers without states.
+#[derive(Clone, Copy, PartialEq, Eq)]
 pub struct State {
     pub lines: usize,
     pub header: Header,
-    pub last: Last,
+    // What the last Q line says.
+    pub last: Option<Member>,
     pub nodes: u32,
     // The lowest phone that the next B line may name.
     pub after: usize,
@@ -48,7 +61,7 @@ pub struct State {
 }
 
 // The lengths of the lent tables.
-#[derive(Clone, Copy)]
+#[derive(Clone, Copy, PartialEq, Eq)]
 pub struct Lengths {
     pub nodes: usize,
     pub classes: usize,

@@ -5,151 +5,122 @@ ghost use Rattle.booklines.specs.States.{Countable, HasStates, PhonesFit, full_i
 ghost use Rattle.booklines.specs.States.{next_state, state_of, with_node, with_boundary, with_root};
 
 use crate::leaving::may_leave_out;
-use crate::{Entry, Last, State};
+use crate::{Entry, State};
 use definitions::{Header, wide};
 use lines::counting::root_place;
 use matrix::sets::alone;
 
-// Before the first line.
-pub fn no_lines() -> State
-    ensures { result ≡ state_of [] }
-{
-    State {
-        lines: 0,
-        header: Header {
-            half: 0,
-            states: 0,
-            phones: 0,
-            classes: 0,
+impl State {
+    // Before the first line.
+    pub fn new() -> State
+        ensures { result ≡ state_of [] }
+    {
+        State {
+            lines: 0,
+            header: Header {
+                half: 0,
+                states: 0,
+                phones: 0,
+                classes: 0,
+                nodes: 0,
+            },
+            last: None,
             nodes: 0,
-        },
-        last: Last::Nothing,
-        nodes: 0,
-        after: 0,
-        boundaries: 0,
-        plains: 0,
-        next: 0,
+            after: 0,
+            boundaries: 0,
+            plains: 0,
+            next: 0,
+        }
     }
-}
 
-// Whether the last phone's last R line was read, so that no line may follow.
-pub fn full(s: State) -> bool
-    ensures { result ≡ full_in s }
-{
-    if s.lines == 0 {
-        return false;
+    // Whether the last phone's last R line was read, so that no line may follow.
+    #[tactic(auto, unfolding(crate::specs::States::full_in, definitions::specs::BookLines::root_count))]
+    pub fn full(self) -> bool
+        ensures { result ≡ full_in self }
+    {
+        self.lines > 0 && self.next == wide(self.header.phones) * wide(self.header.states)
     }
-    s.next == wide(s.header.phones) * wide(s.header.states)
-}
 
-// Whether the lines so far are all that the header promised, but for what may be left out.
-pub fn enough(s: State) -> bool
-    requires { HasStates s }
-    ensures { result ≡ enough_in s }
-{
-    if s.lines == 0 {
-        return false;
+    // Whether the lines so far are all that the header promised, but for what may be left out.
+    #[tactic(auto, unfolding(crate::specs::States::enough_in, crate::specs::States::left_out_in, definitions::specs::BookLines::root_count))]
+    pub fn enough(self) -> bool
+        requires { HasStates self }
+        ensures { result ≡ enough_in self }
+    {
+        let roots = wide(self.header.phones) * wide(self.header.states);
+        self.lines > 0 && may_leave_out(self.boundaries, self.header.states, self.next, roots)
     }
-    let roots = wide(s.header.phones) * wide(s.header.states);
-    may_leave_out(s.boundaries, s.header.states, s.next, roots)
-}
 
-// Whether some plain phone is a boundary phone.
-pub fn chained(s: State) -> bool
-    ensures { result ≡ chained_in s }
-{
-    s.boundaries & s.plains != 0
-}
-
-// The state after a node's line.
-fn with_node(s: State) -> State
-    requires { Countable s }
-    ensures { result ≡ with_node s }
-{
-    let header = s.header;
-    let last = s.last;
-    State {
-        lines: s.lines + 1,
-        header,
-        last,
-        nodes: s.nodes + 1,
-        after: s.after,
-        boundaries: s.boundaries,
-        plains: s.plains,
-        next: s.next,
+    // Whether some plain phone is a boundary phone.
+    #[tactic(auto, unfolding(crate::specs::States::chained_in))]
+    pub fn chained(self) -> bool
+        ensures { result ≡ chained_in self }
+    {
+        self.boundaries & self.plains != 0
     }
-}
 
-// The state after a B line.
-fn with_boundary(s: State, boundary: u32, plain: u32) -> State
-    requires { Countable s × (boundary ≤ 64) × (plain ≤ 64) }
-    ensures { result ≡ with_boundary s boundary plain }
-{
-    let header = s.header;
-    let last = s.last;
-    State {
-        lines: s.lines + 1,
-        header,
-        last,
-        nodes: s.nodes,
-        after: wide(boundary) + 1,
-        boundaries: s.boundaries | alone(boundary),
-        plains: s.plains | alone(plain),
-        next: s.next,
+    // The state after a node's line.
+    #[tactic(auto, unfolding(crate::specs::States::with_node))]
+    fn with_node(self) -> State
+        requires { Countable self }
+        ensures { result ≡ with_node self }
+    {
+        State {
+            lines: self.lines + 1,
+            nodes: self.nodes + 1,
+            ..self
+        }
     }
-}
 
-// The state after an R line.
-fn with_root(s: State, phone: u32, state: u32) -> State
-    requires { Countable s }
-    ensures { result ≡ with_root s phone state }
-{
-    let header = s.header;
-    let last = s.last;
-    State {
-        lines: s.lines + 1,
-        header,
-        last,
-        nodes: s.nodes,
-        after: s.after,
-        boundaries: s.boundaries,
-        plains: s.plains,
-        next: root_place(s.header.states, phone, state) + 1,
+    // The state after a B line.
+    #[tactic(auto, unfolding(crate::specs::States::with_boundary))]
+    fn with_boundary(self, boundary: u32, plain: u32) -> State
+        requires { Countable self × (boundary ≤ 64) × (plain ≤ 64) }
+        ensures { result ≡ with_boundary self boundary plain }
+    {
+        State {
+            lines: self.lines + 1,
+            after: wide(boundary) + 1,
+            boundaries: self.boundaries | alone(boundary),
+            plains: self.plains | alone(plain),
+            ..self
+        }
     }
-}
 
-// The state after one more line.
-pub fn next_state(s: State, entry: Entry) -> State
-    requires { Countable s × PhonesFit (entry_line entry) }
-    ensures { result ≡ next_state s (entry_line entry) }
-{
-    let header = s.header;
-    let last = s.last;
-    let lines = s.lines + 1;
-    match entry {
-        Entry::H(header) => State {
-            lines,
-            header,
-            last,
-            nodes: s.nodes,
-            after: s.after,
-            boundaries: s.boundaries,
-            plains: s.plains,
-            next: s.next,
-        },
-        Entry::Q(class, phone) => State {
-            lines,
-            header,
-            last: Last::Member(class, phone),
-            nodes: s.nodes,
-            after: s.after,
-            boundaries: s.boundaries,
-            plains: s.plains,
-            next: s.next,
-        },
-        Entry::N(_, _, _, _, _) => with_node(s),
-        Entry::L(_, _) => with_node(s),
-        Entry::B(boundary, plain) => with_boundary(s, boundary, plain),
-        Entry::R(phone, state, _) => with_root(s, phone, state),
+    // The state after an R line.
+    #[tactic(auto, unfolding(crate::specs::States::with_root))]
+    fn with_root(self, phone: u32, state: u32) -> State
+        requires { Countable self }
+        ensures { result ≡ with_root self phone state }
+    {
+        State {
+            lines: self.lines + 1,
+            next: root_place(self.header.states, phone, state) + 1,
+            ..self
+        }
+    }
+
+    // The state after one more line.
+    #[tactic(auto, unfolding(crate::specs::Entries::entry_line, crate::specs::States::next_state, definitions::specs::BookLines::header_in))]
+    pub fn next(self, entry: Entry) -> State
+        requires { Countable self × PhonesFit (entry_line entry) }
+        ensures { result ≡ next_state self (entry_line entry) }
+    {
+        let lines = self.lines + 1;
+        match entry {
+            Entry::H(header) => State {
+                lines,
+                header,
+                ..self
+            },
+            Entry::Q(member) => State {
+                lines,
+                last: Some(member),
+                ..self
+            },
+            Entry::N { .. } | Entry::L { .. } => self.with_node(),
+            Entry::B { boundary, plain } => self.with_boundary(boundary, plain),
+            Entry::R { phone, state, .. } => self.with_root(phone, state),
+        }
     }
 }

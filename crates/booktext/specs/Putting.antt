@@ -1,8 +1,10 @@
 -- Lines written one after the other into a text, each where there is room for it, and counted in any case.
-use Rattle.std.specs.Prelude.{if◌then◌else◌, ◌≡◌, List, [], ◌∷◌, Bool, ◌&&◌, ℕ, suc, ◌+◌, ◌*◌, ◌≤◌, leb, ltb, length}
+use Rattle.std.specs.Prelude.{if◌then◌else◌, ◌≡◌, List, [], ◌∷◌, ◌++◌, Bool, ◌&&◌, ℕ, zero, suc, Option, Some, None, ◌+◌, ◌*◌, ◌≤◌, leb, ltb, length}
 use Rattle.definitions.specs.Lists.{every}
 use Rattle.definitions.specs.Lines.{Line, line_text}
 use Rattle.lines.specs.Putting.{put_at}
+use Rattle.lines.specs.Rows.{line_in}
+use Rattle.lines.specs.declared.Row.{Row}
 
 -- a line whose numbers have room in their fields: at most six digits each
 abbrev pub line_fits : Line → Bool
@@ -25,3 +27,23 @@ Countable lines count = count + length lines ≤ 18446744073709551615
 pub record Put (lines : List Line) (before : List ℕ) (count : ℕ) (after : List ℕ) (next : ℕ) : Type 0 where
   pub counts : next ≡ count + length lines
   pub puts : after ≡ put_lines lines count before
+
+-- the line of a row, where there is one; and a row that is for a line, or for none
+abbrev pub row_lines : Option Row → List Line
+row_lines None = []
+row_lines (Some row) = line_in row ∷ []
+
+abbrev pub Narrow : Option Row → Type 0
+Narrow None = Unit {0}
+Narrow (Some row) = row.used ≤ 5
+
+pub record RowFor (lines : List Line) (row : Option Row) : Type 0 where
+  pub narrow : Narrow row
+  pub says : row_lines row ≡ lines
+
+-- the lines of the rows that are given at the first places, in order
+abbrev pub Given : (gives : ℕ → Option Row → Type 0) → (places : ℕ) → List Line → Type 0
+Given gives zero lines = lines ≡ []
+Given gives (suc place) lines =
+    (before : List Line) × (row : Option Row) × Given gives place before × gives place row
+    × (lines ≡ before ++ row_lines row)

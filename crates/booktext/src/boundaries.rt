@@ -1,25 +1,23 @@
 // The B lines of boundary phones, from the words of their plain phones.
 ghost use Rattle.std.specs.Prelude.{[], ◌∷◌, ◌<◌, length};
 ghost use Rattle.booktext.specs.Parts.{boundary_lines};
-ghost use Rattle.booktext.specs.Putting.{Countable, Put};
+ghost use Rattle.booktext.specs.Putting.{Countable, Put, RowFor};
 
-use crate::putting::put_line;
+use crate::putting::put_rows;
 use lines::Row;
 
 // The B line of a phone, where its word names a plain phone.
-fn put_boundary(phone: u32, plain: u32, text: &mut [u8], count: usize) -> usize
-    requires { Countable (boundary_lines phone (plain ∷ [])) count }
-    ensures { Put (boundary_lines phone (plain ∷ [])) text.old count text.new result }
+fn boundary_row(phone: u32, plain: u32) -> Option<Row>
+    ensures { RowFor (boundary_lines phone (plain ∷ [])) result }
 {
     if plain == 0 {
-        return count;
+        return None;
     }
-    let row = Row {
+    Some(Row {
         letter: b'B',
         used: 2,
         numbers: [phone, plain, 0, 0, 0],
-    };
-    put_line(row, text, count)
+    })
 }
 
 // The B lines of all phones.
@@ -27,12 +25,6 @@ pub fn put_boundaries(plains: &[u32], text: &mut [u8], count: usize) -> usize
     requires { (length plains.now < 4294967296) × Countable (boundary_lines 1 plains.now) count }
     ensures { Put (boundary_lines 1 plains.now) text.old count text.new result }
 {
-    let mut next = count;
-    let mut i = 0;
-    while i < plains.len() {
-        let phone = (i + 1) as u32;
-        next = put_boundary(phone, plains[i], text, next);
-        i += 1;
-    }
-    next
+    let row_at = |i: usize| boundary_row((i + 1) as u32, plains[i]);
+    put_rows(row_at, plains.len(), text, count)
 }

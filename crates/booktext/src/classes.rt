@@ -2,26 +2,25 @@
 ghost use Rattle.std.specs.Prelude.{[], ◌∷◌, ◌<◌, length};
 ghost use Rattle.definitions.specs.Lists.{up_from};
 ghost use Rattle.booktext.specs.Parts.{member_lines, class_lines};
-ghost use Rattle.booktext.specs.Putting.{Countable, Put};
+ghost use Rattle.booktext.specs.Putting.{Countable, Put, RowFor};
 
-use crate::putting::put_line;
+use crate::putting::put_rows;
+use definitions::wide;
 use lines::Row;
 use matrix::sets::has_phone;
 
 // The Q line of a class with a phone, where its set has that phone.
-fn put_member(class: u32, set: u64, phone: u32, text: &mut [u8], count: usize) -> usize
-    requires { Countable (member_lines class set (phone ∷ [])) count }
-    ensures { Put (member_lines class set (phone ∷ [])) text.old count text.new result }
+fn member_row(class: u32, set: u64, phone: u32) -> Option<Row>
+    ensures { RowFor (member_lines class set (phone ∷ [])) result }
 {
     if !has_phone(set, phone) {
-        return count;
+        return None;
     }
-    let row = Row {
+    Some(Row {
         letter: b'Q',
         used: 2,
         numbers: [class, phone, 0, 0, 0],
-    };
-    put_line(row, text, count)
+    })
 }
 
 // The Q lines of a class.
@@ -29,13 +28,8 @@ fn put_class(phones: u32, class: u32, set: u64, text: &mut [u8], count: usize) -
     requires { Countable (member_lines class set (up_from 1 phones)) count }
     ensures { Put (member_lines class set (up_from 1 phones)) text.old count text.new result }
 {
-    let mut next = count;
-    let mut phone = 0;
-    while phone < phones {
-        phone += 1;
-        next = put_member(class, set, phone, text, next);
-    }
-    next
+    let row_at = |i: usize| member_row(class, set, (i + 1) as u32);
+    put_rows(row_at, wide(phones), text, count)
 }
 
 // The Q lines of all classes, which have these sets.
@@ -44,11 +38,9 @@ pub fn put_classes(phones: u32, sets: &[u64], text: &mut [u8], count: usize) -> 
     ensures { Put (class_lines phones 1 sets.now) text.old count text.new result }
 {
     let mut next = count;
-    let mut i = 0;
-    while i < sets.len() {
+    for (i, set) in sets.iter().enumerate() {
         let class = (i + 1) as u32;
-        next = put_class(phones, class, sets[i], text, next);
-        i += 1;
+        next = put_class(phones, class, *set, text, next);
     }
     next
 }

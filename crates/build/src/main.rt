@@ -3,16 +3,14 @@
 // write that fails ends it with that error.
 #![tactic(auto)]
 
-use program::BUFFER_SIZE;
 use program::running::run;
+use program::{BUFFER_SIZE, Output};
 use showing::reading::read_full;
 use std::io;
 
 fn main(rt: HostRuntime) -> io::Result<()> {
     let mut buffer = [0u8; BUFFER_SIZE];
     let got = read_full(&mut rt.stdin(), &mut buffer)?;
-    let output = run(&buffer, got);
-    let bytes = output.bytes;
-    let length = output.length;
-    rt.write_all(&bytes[0..length])
+    let Output { bytes, length } = run(&buffer, got);
+    rt.write_all(&bytes[..length])
 }

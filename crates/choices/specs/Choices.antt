@@ -1,5 +1,6 @@
 -- Choices of leaves, one from each of a phone's first trees, and the combinations that begin with one.
-use Rattle.std.specs.Prelude.{◌≡◌, List, [], ◌∷◌, Bool, true, ℕ, ◌+◌, ◌≤◌, ◌<◌, T, length, set, take, get_or}
+use Rattle.std.specs.Option.{unwrap_or}
+use Rattle.std.specs.Prelude.{Option, IfSome, ◌≡◌, List, [], ◌∷◌, Bool, true, ℕ, ◌+◌, ◌≤◌, ◌<◌, T, length, set, take, get_or}
 use Rattle.definitions.specs.Lists.{padded}
 use Rattle.definitions.specs.Matrices.{Matrix, most_columns, matrix_words, valid, meet}
 use Rattle.definitions.specs.Combinations.{Leaf, Combination, choose}
@@ -56,6 +57,11 @@ fits_at m leaves place = valid (meet m (get_or leaves place no_leaf).carried)
 -- the first place, from one on, of a leaf that meets a matrix validly, or the number of leaves
 abbrev pub FirstFit : (m : Matrix) → List Leaf → (from place : ℕ) → Type 0
 FirstFit m leaves from place = FirstFrom (fits_at m leaves) (length leaves) from place
+
+-- that place, if there is one
+pub record FitFound (m : Matrix) (leaves : List Leaf) (from : ℕ) (place : Option ℕ) : Type 0 where
+  pub first : FirstFit m leaves from (unwrap_or place (length leaves))
+  pub inside : IfSome place (λ p. p < length leaves)
 
 -- a leaf that can be taken too: it meets the choice's matrix validly, and a tree is left for it
 pub record Takeable (width : ℕ) (choice : Choice) (words : List ℕ) (place : ℕ) : Type 0 where

@@ -3,15 +3,7 @@
 
 pub mod choosing;
 
-use definitions::Fault;
 use matrix::Matrix;
-
-// What adding combinations leads to: how many there are then, or the fault.
-#[derive(Clone, Copy)]
-pub enum Adding {
-    Count(usize),
-    Stop(Fault),
-}
 
 // A phone with the leaves chosen so far, one from each of its first trees, and the meet of their matrices.
 #[derive(Clone, Copy)]

@@ -1,14 +1,12 @@
 -- What combining answers, and what it leaves.
-use Rattle.std.specs.Prelude.{◌≡◌, List, map, ℕ, suc, length}
+use Rattle.std.specs.Prelude.{Result, ◌≡◌, List, map, ℕ, suc, length}
+use Rattle.definitions.specs.declared.Fault.{Fault}
 use Rattle.definitions.specs.Faults.{Outcome, answered, refused}
-use Rattle.definitions.specs.Said.{Said, answer_said, refusal_said}
 use Rattle.definitions.specs.Lists.{concat_map, up_from, cleared, padded}
 use Rattle.definitions.specs.Tables.{Book}
 use Rattle.definitions.specs.Combinations.{Combination, combinations_of, combinations}
-use Rattle.choices.specs.declared.Adding.{Adding}
 use Rattle.choices.specs.Space.{added_in, Grown}
-use Rattle.combinations.specs.declared.Combined.{Combined}
-use Rattle.combinations.specs.declared.Combined.TheVariants as combined
+use Rattle.combinations.specs.declared.ByPhone.{ByPhone}
 
 -- how many combinations belong to phones up to one
 unfoldable pub end_of : Book → (phone : ℕ) → ℕ
@@ -23,14 +21,9 @@ unfoldable pub ends_left : Book → Outcome (List Combination) → List ℕ
 ends_left book (answered found) = padded 65 (ends_of book)
 ends_left book (refused r) = cleared 65
 
-unfoldable pub combined_of : Outcome (List Combination) → Combined
-combined_of (answered found) = combined.Combinations (length found)
-combined_of (refused r) = combined.Refused r
-
--- number, line, and how many combinations
-abbrev pub combined_said : Combined → Said ℕ
-combined_said (combined.Combinations count) = answer_said count
-combined_said (combined.Refused r) = refusal_said 0 r
+-- the count and the ends
+abbrev pub by_phone : Book → (found : List Combination) → ByPhone
+by_phone book found = record { count = length found; ends = padded 65 (ends_of book) }
 
 -- ---- the combinations of all phones
 
@@ -43,6 +36,6 @@ abbrev pub all_in : Book → (space : List ℕ) → Outcome (List Combination)
 all_in book space = added_in book.half (length space) 0 (combinations book)
 
 -- what adding them to such space answers and leaves, with how many there are after each phone
-pub record AllAdded (book : Book) (space : List ℕ) (answer : Adding) (space' ends' : List ℕ) : Type 0 where
+pub record AllAdded (book : Book) (space : List ℕ) (answer : Result ℕ Fault) (space' ends' : List ℕ) : Type 0 where
   pub grown : Grown book.half space 0 (all_in book space) answer space'
   pub noted : (found : List Combination) → all_in book space ≡ answered found → ends' ≡ padded 65 (ends_of book)

@@ -1,7 +1,5 @@
--- The laws of this crate: the working lists, the first choice of a phone, phone after phone, and the answer,
--- which what it says determines.
+-- The laws of this crate: the working lists, the first choice of a phone, phone after phone, and the answer.
 pub mod Working
 pub mod Starting
 pub mod Phones
 pub mod Combining
-pub mod Said

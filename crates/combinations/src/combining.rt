@@ -1,24 +1,23 @@
 // The combinations of a book, in lent space: 18, then 30.
-ghost use Rattle.std.specs.Prelude.{◌≡◌, length};
+ghost use Rattle.std.specs.Prelude.{◌≡◌, ◌*◌, ◌≤◌, length};
 ghost use Rattle.definitions.specs.Combinations.{combinations_of, combine, combination_space};
-ghost use Rattle.definitions.specs.Lists.{cleared};
-ghost use Rattle.definitions.specs.Said.{said_of};
+ghost use Rattle.definitions.specs.Said.{result_of};
 ghost use Rattle.definitions.specs.Tables.{tables_book};
 ghost use Rattle.tables.specs.Lending.{lent_tables};
 ghost use Rattle.tables.specs.Usable.{book_with, Fit};
+ghost use Rattle.leafsets.specs.Leaves.{leaf_size};
 ghost use Rattle.leafsets.specs.Working.{IsPhone, Working, Worked};
 ghost use Rattle.choices.specs.Space.{Holding, Added};
-ghost use Rattle.combinations.specs.Answers.{combined_said, ends_left, Clear, AllAdded};
+ghost use Rattle.combinations.specs.Answers.{by_phone, Clear, AllAdded};
 
-use crate::{ByPhone, Combined};
+use crate::ByPhone;
+use choices::Choice;
 use choices::choosing::choose;
-use choices::{Adding, Choice};
 use definitions::{Fault, Header, MOST_NODES, Refusal, wide};
 use leafsets::LEAF_SIZE;
 use leafsets::collecting::list_leaves;
-use lines::clearing::clear_wide_words;
+use matrix::Matrix;
 use matrix::sets::{all_phones, alone};
-use matrix::shaping::around;
 use tables::forcing::{MOST_ROOTS, roots_in_force};
 use tables::foreign::tables_known;
 
@@ -42,7 +41,7 @@ fn choose_phone(
     third: &mut [u64],
     space: &mut [u64],
     count: usize,
-) -> Adding
+) -> Result<usize, Fault>
     requires { Fit header nodes.now classes.now roots.now × IsPhone header phone
         × Working header.nodes table.old first.old second.old third.old
         × Holding header.half space.old count }
@@ -57,12 +56,11 @@ fn choose_phone(
     let b = list_leaves(header, nodes, classes, roots, phone, 2, table, second);
     let c = list_leaves(header, nodes, classes, roots, phone, 3, table, third);
     let all = all_phones(header.phones);
-    let top = around(header.half, all, alone(phone), all);
     let start = Choice {
         phone,
         taken: 0,
         leaves: [0, 0, 0],
-        matrix: top,
+        matrix: Matrix::around(header.half, all, alone(phone), all),
     };
     choose(
         &first[..LEAF_SIZE * a],
@@ -88,69 +86,41 @@ fn choose_phones(
     third: &mut [u64],
     space: &mut [u64],
     ends: &mut [u32],
-) -> Adding
+) -> Result<usize, Fault>
     requires { Fit header nodes.now classes.now roots.now × Clear space.old ends.old
         × Working header.nodes table.old first.old second.old third.old }
     ensures { AllAdded (book_with header nodes.now classes.now roots.now)
         space.old result space.new ends.new }
 {
     let mut count = 0;
-    let mut phone = 1;
-    while phone <= header.phones {
-        let adding = choose_phone(
+    for phone in 1..header.phones + 1 {
+        count = choose_phone(
             header, nodes, classes, roots, phone, table, first, second, third, space, count,
-        );
-        match adding {
-            Adding::Count(more) => {
-                count = more;
-            }
-            Adding::Stop(fault) => {
-                return Adding::Stop(fault);
-            }
-        }
+        )?;
         ends[wide(phone)] = count as u32;
-        phone += 1;
     }
-    Adding::Count(count)
+    Ok(count)
 }
 
-// Adds the combinations of all phones. A short table of leaves gets short arrays, for itself and for the lists,
-// so that few words are cleared for a small book.
-fn choose_all(
+// Adds the combinations of all phones, in arrays of so many words for the table and the lists.
+fn choose_in<const N: usize>(
     header: Header,
     nodes: &[u32],
     classes: &[u64],
     roots: &[u32],
     space: &mut [u64],
     ends: &mut [u32],
-) -> Adding
-    requires { Fit header nodes.now classes.now roots.now × Clear space.old ends.old }
+) -> Result<usize, Fault>
+    requires { Fit header nodes.now classes.now roots.now × Clear space.old ends.old
+        × (leaf_size * header.nodes ≤ N) × (N ≤ 32768) }
     ensures { AllAdded (book_with header nodes.now classes.now roots.now)
         space.old result space.new ends.new }
 {
+    let mut table = [0u64; N];
+    let mut first = [0u64; N];
+    let mut second = [0u64; N];
+    let mut third = [0u64; N];
     let size = LEAF_SIZE * wide(header.nodes);
-    if size <= SHORT_LIST {
-        let mut table = [0u64; SHORT_LIST];
-        let mut first = [0u64; SHORT_LIST];
-        let mut second = [0u64; SHORT_LIST];
-        let mut third = [0u64; SHORT_LIST];
-        return choose_phones(
-            header,
-            nodes,
-            classes,
-            roots,
-            &mut table[..size],
-            &mut first,
-            &mut second,
-            &mut third,
-            space,
-            ends,
-        );
-    }
-    let mut table = [0u64; LONG_LIST];
-    let mut first = [0u64; LONG_LIST];
-    let mut second = [0u64; LONG_LIST];
-    let mut third = [0u64; LONG_LIST];
     choose_phones(
         header,
         nodes,
@@ -165,14 +135,24 @@ fn choose_all(
     )
 }
 
-// The refusal of a fault.
-fn no_combinations(fault: Fault) -> ByPhone
-    ensures { (result.answer ≡ Combined.Refused (record { fault = fault; line = 0 })) × (result.ends ≡ cleared 65) }
+// Adds the combinations of all phones. A short table of leaves gets short arrays, for itself and for the lists,
+// so that few words are cleared for a small book.
+fn choose_all(
+    header: Header,
+    nodes: &[u32],
+    classes: &[u64],
+    roots: &[u32],
+    space: &mut [u64],
+    ends: &mut [u32],
+) -> Result<usize, Fault>
+    requires { Fit header nodes.now classes.now roots.now × Clear space.old ends.old }
+    ensures { AllAdded (book_with header nodes.now classes.now roots.now)
+        space.old result space.new ends.new }
 {
-    let answer = Combined::Refused(Refusal { fault, line: 0 });
-    ByPhone {
-        answer,
-        ends: [0; 65],
+    if wide(header.nodes) <= FEW_NODES {
+        choose_in::<SHORT_LIST>(header, nodes, classes, roots, space, ends)
+    } else {
+        choose_in::<LONG_LIST>(header, nodes, classes, roots, space, ends)
     }
 }
 
@@ -184,14 +164,10 @@ pub fn combine(
     roots: &[u32],
     plains: &[u32],
     space: &mut [u64],
-) -> ByPhone
-    ensures answer { combined_said result.answer ≡ said_of length 0
-        (combine header
-        (lent_tables nodes.now classes.now roots.now plains.now)
-        (length space.old)) }
-    ensures ends { result.ends ≡ ends_left
-        (tables_book header
-        (lent_tables nodes.now classes.now roots.now plains.now))
+) -> Result<ByPhone, Refusal>
+    ensures answer { result ≡ result_of
+        (by_phone (tables_book header
+        (lent_tables nodes.now classes.now roots.now plains.now)))
         (combine header
         (lent_tables nodes.now classes.now roots.now plains.now)
         (length space.old)) }
@@ -200,22 +176,18 @@ pub fn combine(
         (lent_tables nodes.now classes.now roots.now plains.now)
         (length space.old)) }
 {
-    clear_wide_words(space);
+    space.fill(0);
     if !tables_known(header, nodes, classes, roots, plains) {
-        return no_combinations(Fault::Foreign);
+        return Err(Fault::Foreign.at(0));
     }
     let mut forced = [0u32; MOST_ROOTS];
     roots_in_force(header, roots, plains, &mut forced);
     let mut ends = [0u32; 65];
-    let adding = choose_all(header, nodes, classes, &forced, space, &mut ends);
-    match adding {
-        Adding::Count(count) => {
-            let answer = Combined::Combinations(count);
-            return ByPhone { answer, ends };
-        }
-        Adding::Stop(fault) => {
-            clear_wide_words(space);
-            return no_combinations(fault);
+    match choose_all(header, nodes, classes, &forced, space, &mut ends) {
+        Ok(count) => Ok(ByPhone { count, ends }),
+        Err(fault) => {
+            space.fill(0);
+            Err(fault.at(0))
         }
     }
 }

@@ -1,9 +1,10 @@
 -- Copying the arcs of a span, with another source: what the steps of it ask, and what they leave and answer.
-use Rattle.std.specs.Prelude.{if◌then◌else◌, ◌≡◌, List, [], ◌∷◌, ◌++◌, Bool, true, ℕ, suc, ◌+◌, ◌-◌, ◌*◌, ◌≤◌, ◌<◌, min, leb, length, drop}
+use Rattle.definitions.specs.declared.Fault.{Fault}
+use Rattle.std.specs.Prelude.{if◌then◌else◌, ◌≡◌, List, ◌++◌, Bool, true, ℕ, ◌+◌, ◌-◌, ◌*◌, ◌≤◌, ◌<◌, min, leb, length, drop, Result, Ok, Err}
 use Rattle.definitions.specs.Building.{most_metastates, most_arcs}
 use Rattle.definitions.specs.declared.Fault.TheVariants.{Tangle}
 use Rattle.definitions.specs.declared.Header.{Header}
-use Rattle.definitions.specs.Lists.{◌!◌, concat_map, padded}
+use Rattle.definitions.specs.Lists.{concat_map, padded}
 use Rattle.definitions.specs.PhoneSets.{all_phones}
 use Rattle.definitions.specs.Arcs.{arc_size, arcs_in, arc_words}
 use Rattle.definitions.specs.Metastates.{metastate_size}
@@ -11,15 +12,8 @@ use Rattle.matrix.specs.Shapes.{shifted_words}
 use Rattle.matrix.specs.Words.{first_seven}
 use Rattle.index.specs.RecordWords.{record_of}
 use Rattle.growing.specs.declared.Sizes.{Sizes}
-use Rattle.growing.specs.declared.Step.{Step}
-use Rattle.growing.specs.declared.Step.TheVariants as step
 use Rattle.growing.specs.Steps.{arc_room}
-use Rattle.followers.specs.Spans.{copies_of, SlotWithin, place_in}
-
--- the words of one copy, as the code reads them
-abbrev pub copy_words : (from : ℕ) → (arcs : List ℕ) → (place : ℕ) → List ℕ
-copy_words from arcs place =
-    from ∷ arcs ! (arc_size * place + 1) ∷ arcs ! (arc_size * place + 2) ∷ arcs ! (arc_size * place + 3) ∷ []
+use Rattle.followers.specs.Spans.{copies_of, SlotWithin}
 
 -- words that hold so many arcs, and nothing else
 abbrev pub HoldArcs : (count : ℕ) → (arcs : List ℕ) → Type 0
@@ -52,22 +46,20 @@ pub record Notable (spans : List ℕ) (slot place first end : ℕ) : Type 0 wher
   pub end_few : end ≤ most_arcs
 
 -- whether they have room, the answer, and the words after
-pub record Repeated (sizes : Sizes) (first end from : ℕ) (arcs : List ℕ) (answer : Step) (arcs' : List ℕ)
+pub record Repeated (sizes : Sizes) (first end from : ℕ) (arcs : List ℕ) (answer : Result Sizes Fault) (arcs' : List ℕ)
     : Type 0 where
   pub answers : answer
       ≡ (if leb (sizes.arcs + (end - first)) (arc_room arcs)
-      then step.Next (record { table = sizes.table; arcs = sizes.arcs + (end - first) })
-      else step.Stop Tangle)
+      then Ok (record { table = sizes.table; arcs = sizes.arcs + (end - first) })
+      else Err Tangle)
   pub words : arcs'
       ≡ (if leb (sizes.arcs + (end - first)) (arc_room arcs)
       then with_copies arcs sizes.arcs first (end - first) from
       else arcs)
 
--- where the answer is yes, a slot's span is of a metastate whose record, shifted, has these columns
-abbrev pub Repeats : Header → (metastates spans : List ℕ) → (slot : ℕ) → (columns : List ℕ) → (answer : Bool)
-    → Type 0
-Repeats header metastates spans slot columns answer =
+-- where the answer is yes, the record at a place, shifted, has these columns
+abbrev pub Repeats : Header → (metastates : List ℕ) → (place : ℕ) → (columns : List ℕ) → (answer : Bool) → Type 0
+Repeats header metastates place columns answer =
     answer ≡ true
-    → (place : ℕ) × (place_in spans slot ≡ suc place)
-    × (shifted_words (2 * header.half) (all_phones (min header.phones 64))
-    (first_seven (drop 1 (record_of (metastate_size header.half) metastates place))) ≡ columns)
+    → shifted_words (2 * header.half) (all_phones (min header.phones 64))
+    (first_seven (drop 1 (record_of (metastate_size header.half) metastates place))) ≡ columns

@@ -1,12 +1,13 @@
 -- Spans: where the arcs to a metastate's followers stand. Metastates with the same shifted matrix have the
 -- same followers, so the arcs to them are copied, with another source.
-use Rattle.std.specs.Prelude.{◌≡◌, List, map, ℕ, suc, ◌+◌, ◌*◌, ◌≤◌, ◌<◌, length, take, drop, get_or, set}
+use Rattle.std.specs.Prelude.{◌≡◌, List, map, Option, None, Some, ℕ, zero, suc, ◌+◌, ◌*◌, ◌≤◌, ◌<◌, length, take, drop, get_or, set}
 use Rattle.definitions.specs.Lists.{◌!◌, IsIn}
 use Rattle.definitions.specs.Tables.{Book}
 use Rattle.definitions.specs.Combinations.{Combination}
 use Rattle.definitions.specs.Arcs.{Arc, arc, last_state}
 use Rattle.definitions.specs.Metastates.{Metastate, followers}
 use Rattle.definitions.specs.Connecting.{rules_of, Network, no_metastate, arc_to}
+use Rattle.followers.specs.declared.Span.{Span}
 
 -- an arc with another source, and copies of `many` arcs from the first on
 unfoldable pub leaving_from : (from : ℕ) → Arc → Arc
@@ -34,6 +35,14 @@ first_in spans slot = spans ! (span_size * slot + 1)
 
 abbrev pub end_in : (spans : List ℕ) → (slot : ℕ) → ℕ
 end_in spans slot = spans ! (span_size * slot + 2)
+
+-- the span in it, if one is noted there
+abbrev pub span_of : (word first end : ℕ) → Option Span
+span_of zero first end = None
+span_of (suc place) first end = Some (record { place = place; first = first; end = end })
+
+abbrev pub span_in : (spans : List ℕ) → (slot : ℕ) → Option Span
+span_in spans slot = span_of (place_in spans slot) (first_in spans slot) (end_in spans slot)
 
 -- words with a span in a slot
 abbrev pub noted_in : (spans : List ℕ) → (slot place first end : ℕ) → List ℕ

@@ -1,6 +1,7 @@
 -- What following starts from: combinations that can be connected, with an index, and a network between two turns, with
 -- spans; and what it leaves.
-use Rattle.std.specs.Prelude.{◌≡◌, List, ℕ, ◌≤◌, ◌<◌, length, get_or}
+use Rattle.definitions.specs.declared.Fault.{Fault}
+use Rattle.std.specs.Prelude.{◌≡◌, List, ℕ, ◌≤◌, ◌<◌, length, get_or, Result}
 use Rattle.definitions.specs.declared.Header.{Header}
 use Rattle.definitions.specs.Matrices.{shift}
 use Rattle.definitions.specs.Connecting.{no_metastate, Network}
@@ -9,7 +10,6 @@ use Rattle.matrix.specs.Shapes.{width_of, matrix_in, HasWidth}
 use Rattle.index.specs.Combinations.{combinations_in, nodes_book, Connectable}
 use Rattle.index.specs.Indexing.{Indexed}
 use Rattle.growing.specs.declared.Sizes.{Sizes}
-use Rattle.growing.specs.declared.Step.{Step}
 use Rattle.metastates.specs.Networks.{network_held}
 use Rattle.metastates.specs.Underway.{Underway}
 use Rattle.metastates.specs.Steps.{StepLeft}
@@ -53,7 +53,7 @@ pub record Onward (header : Header) (nodes words index metastates arcs chains sp
 
 -- what a step leaves of all its buffers and of spans: where the step answers, they are spans of its network
 pub record TurnLeft (header : Header) (nodes words metastates arcs chains spans : List ℕ)
-    (outcome : Outcome Network) (answer : Step) (metastates' arcs' chains' spans' : List ℕ) : Type 0 where
+    (outcome : Outcome Network) (answer : Result Sizes Fault) (metastates' arcs' chains' spans' : List ℕ) : Type 0 where
   pub left : StepLeft header words metastates arcs chains outcome answer metastates' arcs' chains'
   pub spans_sized : length spans' ≡ length spans
   pub spanned : (net : Network) → outcome ≡ answered net

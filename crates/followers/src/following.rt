@@ -3,67 +3,54 @@ ghost use Rattle.metastates.specs.Outcomes.{followed_from};
 ghost use Rattle.metastates.specs.Steps.{StepLeft};
 ghost use Rattle.followers.specs.Turns.{Following};
 
-use crate::Source;
-use definitions::{Header, wide};
-use growing::Step;
+use crate::{Search, Source};
+use definitions::{Fault, wide};
+use growing::Sizes;
 use index::Follower;
 use index::records::{count_of, matrix_of};
 use index::rows::rows_for;
 use index::searching::next_follower;
 use matrix::Matrix;
-use matrix::meeting::meet;
 use metastates::adding::enter;
 
 // Appends the arcs from a state into the metastates that a shifted matrix leads to, in combination order. A combination
 // that the search finds meets the matrix validly.
 pub fn follow(
-    header: Header,
-    nodes: &[u32],
-    combinations: &[u64],
-    index: &[u64],
+    search: Search,
     metastates: &mut [u64],
     arcs: &mut [u32],
     chains: &mut [u32],
     source: Source,
     shifted: Matrix,
-) -> Step
-    requires { Following header nodes.now combinations.now index.now metastates.old arcs.old
-        chains.old source.sizes shifted.columns }
-    ensures { StepLeft header combinations.now metastates.old arcs.old
-        chains.old
-        (followed_from header nodes.now combinations.now metastates.old
-        arcs.old source.sizes source.state shifted.columns)
+) -> Result<Sizes, Fault>
+    requires { Following search.rules.header search.rules.nodes.now search.rules.combinations.now search.index.now
+        metastates.old arcs.old chains.old source.sizes shifted.columns }
+    ensures { StepLeft search.entry.rules.header search.entry.rules.combinations.now metastates.old arcs.old chains.old
+        (followed_from search.entry.rules.header search.entry.rules.nodes.now search.entry.rules.combinations.now
+        metastates.old arcs.old source.sizes source.state shifted.columns)
         result metastates.new arcs.new chains.new }
 {
-    let rows = rows_for(header, combinations, index, shifted);
+    let rules = search.rules;
+    let header = rules.header;
+    let combinations = rules.combinations;
+    let rows = rows_for(header, combinations, search.index, shifted);
     let count = count_of(header.half, combinations);
     let width = 2 * wide(header.half) + 1;
     let mut now = source.sizes;
-    let mut number = next_follower(header, combinations, index, rows, 0, shifted);
+    let mut number = next_follower(header, combinations, search.index, rows, 0, shifted);
     while number < count {
         let own = matrix_of(header.half, combinations, number);
-        let meeting = meet(shifted, own, width);
-        let met = meeting.matrix;
-        let step = enter(
+        let met = shifted.meet(own, width).matrix;
+        let follower = Follower { number, met };
+        now = enter(rules, metastates, arcs, chains, now, source.state, follower)?;
+        number = next_follower(
             header,
-            nodes,
             combinations,
-            metastates,
-            arcs,
-            chains,
-            now,
-            source.state,
-            Follower { number, met },
+            search.index,
+            rows,
+            number + 1,
+            shifted,
         );
-        match step {
-            Step::Next(next) => {
-                now = next;
-            }
-            Step::Stop(fault) => {
-                return Step::Stop(fault);
-            }
-        }
-        number = next_follower(header, combinations, index, rows, number + 1, shifted);
     }
-    Step::Next(now)
+    Ok(now)
 }

@@ -1,7 +1,8 @@
 -- An index of combinations: where those of each phone end, then rows of bits. The row of a column and a phone
 -- has the bit of each combination that has the phone in that column. A word of a row is a set of places,
 -- 1 to 64.
-use Rattle.std.specs.Prelude.{◌≡◌, List, false, ℕ, ◌+◌, ◌*◌, ◌/◌, ◌%◌, ◌≤◌, ◌<◌, T, length}
+use Rattle.std.specs.Option.{unwrap_or}
+use Rattle.std.specs.Prelude.{Option, IfSome, ◌≡◌, List, false, ℕ, ◌+◌, ◌*◌, ◌/◌, ◌%◌, ◌≤◌, ◌<◌, T, length}
 use Rattle.definitions.specs.declared.Header.{Header}
 use Rattle.definitions.specs.Lists.{◌!◌}
 use Rattle.definitions.specs.PhoneSets.{has}
@@ -63,3 +64,8 @@ pub record NextMember (set from next : ℕ) : Type 0 where
   pub after : from ≤ next
   pub within : next ≤ 65
   pub passed : (p : ℕ) → from ≤ p → p < next → has p set ≡ false
+
+-- the member that is found, if there is one
+pub record MemberFound (set from : ℕ) (member : Option ℕ) : Type 0 where
+  pub next : NextMember set from (unwrap_or member 65)
+  pub some : IfSome member (λ m. m ≤ 64)

@@ -7,7 +7,7 @@ ghost use Rattle.definitions.specs.Combinations.{most_combinations};
 ghost use Rattle.index.specs.Filling.{Narrow, InRows, Markable, Fillable, PlaceMarked, PhonesMarked};
 ghost use Rattle.index.specs.Filling.{ColumnsMarked, CombinationsMarked, Noted, Filled};
 ghost use Rattle.index.specs.RecordWords.{count_in};
-ghost use Rattle.index.specs.Indexing.{ends_size, blocks_in, row_at, farthest, NearRow, NextMember};
+ghost use Rattle.index.specs.Indexing.{ends_size, blocks_in, row_at, farthest, NearRow, MemberFound};
 
 use crate::records::{count_of, record_at};
 use definitions::sizes::combination_size;
@@ -19,20 +19,16 @@ pub const BLOCK_SIZE: usize = 64;
 
 pub const ENDS_SIZE: usize = 65;
 
-// The first member of a set, from one on, or 65 where there is none.
-pub fn next_member(set: u64, from: u32) -> u32
+// The first member of a set, from one on.
+pub fn next_member(set: u64, from: u32) -> Option<u32>
     requires { (1 ≤ from) × (from ≤ 65) }
-    ensures { NextMember set from result }
+    ensures { MemberFound set from result }
 {
     if 64 < from {
-        return 65;
+        return None;
     }
-    let rest = set >> (from - 1);
-    let next = from + u64::trailing_zeros(rest);
-    if 64 < next {
-        return 65;
-    }
-    next
+    let next = from + u64::trailing_zeros(set >> (from - 1));
+    if next <= 64 { Some(next) } else { None }
 }
 
 // How many words a row takes.
@@ -55,10 +51,9 @@ fn mark(index: &mut [u64], at: usize, place: u32)
     requires { InRows at place }
     ensures { PlaceMarked at place index.old index.new }
 {
-    if index.len() <= at {
-        return;
+    if at < index.len() {
+        index[at] |= alone(place);
     }
-    index[at] = index[at] | alone(place);
 }
 
 // Sets a combination's bit in the rows of the phones that one of its columns has.
@@ -73,11 +68,11 @@ fn mark_column(
     requires { NearRow header.phones blocks column × (number ≤ most_combinations) }
     ensures { PhonesMarked header.phones blocks number column set index.old 65 index.new }
 {
-    let mut phone = next_member(set, 1);
-    while phone <= 64 {
+    let mut from = 1;
+    while let Some(phone) = next_member(set, from) {
         let at = row_at(header, blocks, column, phone) + number / BLOCK_SIZE;
         mark(index, at, (number % BLOCK_SIZE) as u32 + 1);
-        phone = next_member(set, phone + 1);
+        from = phone + 1;
     }
 }
 
@@ -94,10 +89,8 @@ fn mark_columns(
         header.half index.new }
 {
     let record = record_at(combinations, combination_size(header.half), number);
-    let mut column = 0;
-    while column < wide(header.half) {
+    for column in 0..wide(header.half) {
         mark_column(header, blocks, number, column, record[4 + column], index);
-        column += 1;
     }
 }
 
@@ -108,11 +101,8 @@ fn mark_all(header: Header, combinations: &[u64], index: &mut [u64])
         (count_in header.half combinations.now) index.new }
 {
     let blocks = blocks_in(header.half, combinations);
-    let count = count_of(header.half, combinations);
-    let mut number = 0;
-    while number < count {
+    for number in 0..count_of(header.half, combinations) {
         mark_columns(header, combinations, blocks, number, index);
-        number += 1;
     }
 }
 
@@ -121,10 +111,8 @@ fn note_ends(ends: &[u32], index: &mut [u64])
     requires { (length ends.now ≡ ends_size) × (ends_size ≤ length index.old) }
     ensures { Noted ends.now index.old ends_size index.new }
 {
-    let mut i = 0;
-    while i < ENDS_SIZE {
-        index[i] = wide(ends[i]) as u64;
-        i += 1;
+    for (i, end) in ends.iter().enumerate() {
+        index[i] = u64::from(*end);
     }
 }
 

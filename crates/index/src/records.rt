@@ -48,8 +48,7 @@ pub fn model_of(half: u32, nodes: &[u32], combinations: &[u64], number: usize, s
     ensures { result ≡ model_word half combinations.now number nodes.now state }
 {
     let record = record_at(combinations, combination_size(half), number);
-    let leaf = node_at(nodes, record[1 + state] as u32);
-    leaf.value
+    node_at(nodes, record[1 + state] as u32).value
 }
 
 // The metastate at a place.
@@ -58,7 +57,8 @@ pub fn metastate_at(half: u32, metastates: &[u64], place: usize) -> Follower
     ensures { IsMetastate half metastates.now place result }
 {
     let record = record_at(metastates, metastate_size(half), place);
-    let number = record[0] as usize;
-    let met = matrix_at(record, 1);
-    Follower { number, met }
+    Follower {
+        number: record[0] as usize,
+        met: matrix_at(record, 1),
+    }
 }

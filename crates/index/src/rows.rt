@@ -1,6 +1,7 @@
 // Rows of the index for a matrix: where a column left of the centre has one phone alone, none but the
 // combinations in that phone's row can follow. Of each other column there is no row; its place is the index's
-// end, where all bits count as set.
+// end, where all bits count as set. What has no room in the index ends there too: one test serves both, and an Option
+// would need a second.
 ghost use Rattle.std.specs.Prelude.{ℕ, ◌≤◌, ◌<◌, T};
 ghost use Rattle.definitions.specs.PhoneSets.{has};
 ghost use Rattle.matrix.specs.Shapes.{matrix_in};
@@ -38,11 +39,12 @@ fn row_for(
         return index.len();
     }
     let set = shifted.columns[column];
-    let phone = next_member(set, 1);
-    if set != alone(phone) {
-        return index.len();
+    match next_member(set, 1) {
+        Some(phone) if set == alone(phone) => {
+            row_at(header, blocks_in(header.half, combinations), column, phone)
+        }
+        _ => index.len(),
     }
-    row_at(header, blocks_in(header.half, combinations), column, phone)
 }
 
 // The rows for a matrix.
@@ -51,13 +53,10 @@ pub fn rows_for(header: Header, combinations: &[u64], index: &[u64], shifted: Ma
     ensures { Admitting (matrix_in header.half shifted.columns)
         (combinations_in header combinations.now) index.now result }
 {
-    let first = row_for(header, combinations, index, 0, shifted);
-    let second = row_for(header, combinations, index, 1, shifted);
-    let third = row_for(header, combinations, index, 2, shifted);
     Rows {
-        first,
-        second,
-        third,
+        first: row_for(header, combinations, index, 0, shifted),
+        second: row_for(header, combinations, index, 1, shifted),
+        third: row_for(header, combinations, index, 2, shifted),
     }
 }
 
@@ -66,9 +65,10 @@ fn row_word(index: &[u64], at: usize) -> u64
     ensures { (p : ℕ) → 1 ≤ p → p ≤ 64 → IsSet index.now at p → T (has p result) }
 {
     if at < index.len() {
-        return index[at];
+        index[at]
+    } else {
+        u64::MAX
     }
-    u64::MAX
 }
 
 // The combinations of a block whose bits are set in all rows.
@@ -76,10 +76,9 @@ fn marked_in(index: &[u64], rows: Rows, block: usize) -> u64
     requires { Near rows × (block ≤ 1024) }
     ensures { HasAllSet index.now rows block result }
 {
-    let first = row_word(index, rows.first + block);
-    let second = row_word(index, rows.second + block);
-    let third = row_word(index, rows.third + block);
-    first & second & third
+    row_word(index, rows.first + block)
+        & row_word(index, rows.second + block)
+        & row_word(index, rows.third + block)
 }
 
 // The first combination, from one on, whose bits are set in all rows, or the number of combinations.
@@ -91,15 +90,10 @@ pub fn next_marked(index: &[u64], rows: Rows, from: usize, count: usize) -> usiz
     while number < count {
         let block = number / BLOCK_SIZE;
         let place = (number % BLOCK_SIZE) as u32 + 1;
-        let next = next_member(marked_in(index, rows, block), place);
-        let other = BLOCK_SIZE * block + wide(next) - 1;
-        if count <= other {
-            return count;
+        if let Some(next) = next_member(marked_in(index, rows, block), place) {
+            return count.min(BLOCK_SIZE * block + wide(next) - 1);
         }
-        if next <= 64 {
-            return other;
-        }
-        number = other;
+        number = count.min(BLOCK_SIZE * (block + 1));
     }
     number
 }

@@ -10,7 +10,6 @@ use crate::records::{count_of, matrix_of, phone_of};
 use crate::rows::{Rows, next_marked};
 use definitions::{Header, wide};
 use matrix::Matrix;
-use matrix::meeting::meets;
 use matrix::sets::has_phone;
 
 // Whether a combination's matrix meets a matrix validly; not tried where the centre lacks its phone.
@@ -20,12 +19,10 @@ fn is_follower(header: Header, combinations: &[u64], number: usize, shifted: Mat
         (combinations_in header combinations.now) number }
 {
     let n = wide(header.half);
-    let centre = shifted.columns[n];
-    if !has_phone(centre, phone_of(header.half, combinations, number)) {
-        return false;
-    }
-    let own = matrix_of(header.half, combinations, number);
-    meets(shifted, own, 2 * n + 1)
+    has_phone(
+        shifted.columns[n],
+        phone_of(header.half, combinations, number),
+    ) && shifted.meets(matrix_of(header.half, combinations, number), 2 * n + 1)
 }
 
 // Where to look after a combination: at the next, or, where the centre lacks its phone, at the first of the
@@ -46,11 +43,10 @@ fn after(
     if has_phone(centre, phone) {
         return number + 1;
     }
-    let next = next_member(centre, phone + 1);
-    if header.phones < next {
-        return count_of(header.half, combinations);
+    match next_member(centre, phone + 1) {
+        Some(next) if next <= header.phones => index[wide(next) - 1] as usize,
+        _ => count_of(header.half, combinations),
     }
-    index[wide(next) - 1] as usize
 }
 
 // The first combination from one on that meets a matrix validly, or the number of combinations. Only those in

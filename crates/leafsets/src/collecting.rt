@@ -9,9 +9,9 @@ ghost use Rattle.leafsets.specs.Working.{IsPhone, Unused};
 use crate::LEAF_SIZE;
 use crate::walking::walk;
 use definitions::{Header, wide};
+use matrix::Matrix;
 use matrix::sets::{all_phones, alone};
-use matrix::shaping::around;
-use matrix::words::{matrix_at, put_numbered};
+use matrix::words::{put_numbered, whole_matrix};
 use tables::roots::root_of;
 
 // Takes a leaf out of the table: copies its matrix into the record at a place of the list, the node before it,
@@ -23,7 +23,7 @@ fn take_leaf(table: &mut [u64], node: usize, list: &mut [u64], place: usize)
         ≡ take (leaf_size * place) list.old ++ listed_at table.old node
         ++ drop (leaf_size * place + leaf_size) list.old }
 {
-    let m = matrix_at(table, LEAF_SIZE * node + 1);
+    let m = whole_matrix(table, LEAF_SIZE * node + 1);
     put_numbered(list, LEAF_SIZE * place, node as u64, m);
     table[LEAF_SIZE * node] = 0;
 }
@@ -38,13 +38,11 @@ fn collect(table: &mut [u64], first: usize, last: usize, list: &mut [u64]) -> us
         table.new list.new }
 {
     let mut count = 0;
-    let mut node = first;
-    while node <= last {
+    for node in first..last + 1 {
         if table[LEAF_SIZE * node] != 0 {
             take_leaf(table, node, list, count);
             count += 1;
         }
-        node += 1;
     }
     count
 }
@@ -71,7 +69,7 @@ pub fn list_leaves(
         return 0;
     }
     let all = all_phones(header.phones);
-    let top = around(header.half, all, alone(phone), all);
+    let top = Matrix::around(header.half, all, alone(phone), all);
     let root = root_of(header, roots, phone, state);
     let last = walk(header, nodes, classes, root, top, table);
     collect(table, wide(root), wide(last), list)

@@ -1,5 +1,5 @@
 // The depth-first walk of a tree that computes the matrices of its leaves.
-ghost use Rattle.std.specs.Prelude.{[], ◌∷◌, ◌++◌, ◌≡◌, ◌+◌, ◌*◌, ◌≤◌, ◌<◌, max, T, length, take, drop};
+ghost use Rattle.std.specs.Prelude.{[], ◌∷◌, ◌++◌, ◌≡◌, ◌+◌, ◌*◌, ◌≤◌, ◌<◌, T, length, take, drop};
 ghost use Rattle.definitions.specs.Combinations.{leaves_below};
 ghost use Rattle.definitions.specs.ForeignTables.{header_known, nodes_known};
 ghost use Rattle.definitions.specs.Tables.{node_records};
@@ -10,7 +10,6 @@ ghost use Rattle.leafsets.specs.Leaves.{leaf_size, put_leaves, last_node};
 use crate::LEAF_SIZE;
 use definitions::{Header, wide};
 use matrix::Matrix;
-use matrix::cutting::{no_side, yes_side};
 use matrix::words::put_numbered;
 use tables::records::node_at;
 
@@ -22,16 +21,6 @@ fn put_leaf(table: &mut [u64], node: u32, m: Matrix)
         ++ drop (leaf_size * node + leaf_size) table.old }
 {
     put_numbered(table, LEAF_SIZE * wide(node), 1, m);
-}
-
-// The greater of two nodes.
-fn greater(a: u32, b: u32) -> u32
-    ensures { result ≡ max a b }
-{
-    if a < b {
-        return b;
-    }
-    a
 }
 
 // Puts the matrix of each leaf below a node into the leaf's record, 1 before it; answers the greatest node of these
@@ -61,14 +50,13 @@ pub fn walk(
         put_leaf(table, node, m);
         return node;
     }
-    let class = wide(record.value) - 1;
-    let set = classes[class];
+    let set = classes[wide(record.value) - 1];
     let on_yes = walk(
         header,
         nodes,
         classes,
         record.yes,
-        yes_side(m, record.position, set),
+        m.yes_side(record.position, set),
         table,
     );
     let on_no = walk(
@@ -76,8 +64,8 @@ pub fn walk(
         nodes,
         classes,
         record.no,
-        no_side(m, record.position, set),
+        m.no_side(record.position, set),
         table,
     );
-    greater(on_yes, on_no)
+    on_yes.max(on_no)
 }

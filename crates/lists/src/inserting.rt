@@ -8,23 +8,17 @@ ghost use Rattle.lists.specs.Held.{list_in, Holds, Became};
 ghost use Rattle.lists.specs.Inserting.{Opened, Put};
 ghost use Rattle.lists.specs.Ordering.{inserted_at};
 
-use crate::Place;
 use crate::ordering::place_for;
 use crate::places::{matrices_in, start_of, width_of};
 use definitions::sizes::matrix_size;
 use matrix::Matrix;
-use matrix::testing::valid;
 
-// Moves the words between two places on by `size`, the last first.
+// Moves the words between two places on by `size`.
 fn open_gap(words: &mut [u64], from: usize, end: usize, size: usize)
     requires { (from ≤ end) × (end + size ≤ length words.old) }
     ensures { Opened size from end words.old words.new }
 {
-    let mut i = end;
-    while from < i {
-        i -= 1;
-        words[i + size] = words[i];
-    }
+    words.copy_within(from..end, from + size);
 }
 
 // Writes the columns of a matrix from a place on.
@@ -33,11 +27,7 @@ fn put_columns(half: u32, words: &mut [u64], from: usize, m: Matrix)
     ensures { Put m.columns from (width_of half) words.old words.new }
 {
     let width = width_of(half);
-    let mut c = 0;
-    while c < width {
-        words[from + c] = m.columns[c];
-        c += 1;
-    }
+    words[from..from + width].copy_from_slice(&m.columns[..width]);
 }
 
 // Puts a matrix at a place of a list, after those before it and before the others.
@@ -64,8 +54,8 @@ pub fn insert(half: u32, list: &mut [u64], m: Matrix) -> bool
         result list.old list.new }
 {
     match place_for(half, list, m) {
-        Place::At(place) => insert_at(half, list, place, m),
-        Place::Known => true,
+        Some(place) => insert_at(half, list, place, m),
+        None => true,
     }
 }
 
@@ -75,8 +65,5 @@ pub fn add(half: u32, list: &mut [u64], m: Matrix) -> bool
     ensures { Became half (added (list_in half list.old) (matrix_in half m.columns))
         result list.old list.new }
 {
-    if !valid(m, width_of(half)) {
-        return true;
-    }
-    insert(half, list, m)
+    !m.valid(width_of(half)) || insert(half, list, m)
 }

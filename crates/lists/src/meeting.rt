@@ -1,31 +1,25 @@
 // A list meets another matrix by matrix; what is valid is put into a third list, from the first pair to the last.
-ghost use Rattle.std.specs.Prelude.{map, ◌≡◌, ◌+◌, ◌≤◌, length};
+ghost use Rattle.std.specs.Prelude.{map, ◌≡◌};
 ghost use Rattle.definitions.specs.Matrices.{meet};
 ghost use Rattle.definitions.specs.MatrixLists.{added, gather, meet_lists, holds_some};
-ghost use Rattle.matrix.specs.Shapes.{width_of, matrix_in};
-ghost use Rattle.lists.specs.Held.{columns_at, list_in, HasRoom, Holds, Became};
+ghost use Rattle.matrix.specs.Shapes.{width_of, matrix_in, HasWidth};
+ghost use Rattle.lists.specs.Held.{list_in, HasRoom, Holds, Became};
 ghost use Rattle.lists.specs.Meeting.{meets_some};
 
 use crate::inserting::insert;
-use crate::places::{matrices_in, matrix_from, start_of, width_of};
+use crate::places::{matrices_in, matrix_at, width_of};
 use matrix::Matrix;
-use matrix::meeting::{meet, meets};
 
-// Adds the meet of a matrix and the one in the words from a place on to a list, where it is valid: then its first word
-// is not 0.
-fn add_met(half: u32, m: Matrix, words: &[u64], from: usize, out: &mut [u64]) -> bool
-    requires { (from + width_of half ≤ length words.now) × (Holds half out.old) }
+// Adds the meet of two matrices to a list, where it is valid: then its first word is not 0.
+fn add_met(half: u32, m: Matrix, other: Matrix, out: &mut [u64]) -> bool
+    requires { HasWidth (width_of half) other.columns × Holds half out.old }
     ensures { Became half
         (added (list_in half out.old)
-        (meet (matrix_in half m.columns) (columns_at half words.now from)))
+        (meet (matrix_in half m.columns) (matrix_in half other.columns)))
         result out.old out.new }
 {
-    let meeting = meet(m, matrix_from(half, words, from), width_of(half));
-    let met = meeting.matrix;
-    if met.columns[0] == 0 {
-        return true;
-    }
-    insert(half, out, met)
+    let met = m.meet(other, width_of(half)).matrix;
+    met.columns[0] == 0 || insert(half, out, met)
 }
 
 // Adds the meets of a matrix and those of a list to another list.
@@ -36,13 +30,10 @@ fn meet_each(half: u32, m: Matrix, list: &[u64], out: &mut [u64]) -> bool
         (map (meet (matrix_in half m.columns)) (list_in half list.now)))
         result out.old out.new }
 {
-    let count = matrices_in(list);
-    let mut place = 0;
-    while place < count {
-        if !add_met(half, m, list, start_of(half, place), out) {
+    for place in 0..matrices_in(list) {
+        if !add_met(half, m, matrix_at(half, list, place), out) {
             return false;
         }
-        place += 1;
     }
     true
 }
@@ -54,13 +45,10 @@ pub fn meet_lists(half: u32, a: &[u64], b: &[u64], out: &mut [u64]) -> bool
         result out.old out.new }
 {
     out[0] = 0;
-    let count = matrices_in(a);
-    let mut place = 0;
-    while place < count {
-        if !meet_each(half, matrix_from(half, a, start_of(half, place)), b, out) {
+    for place in 0..matrices_in(a) {
+        if !meet_each(half, matrix_at(half, a, place), b, out) {
             return false;
         }
-        place += 1;
     }
     true
 }
@@ -70,14 +58,10 @@ fn meets_one(half: u32, m: Matrix, list: &[u64]) -> bool
     requires { Holds half list.now }
     ensures { result ≡ meets_some (list_in half list.now) (matrix_in half m.columns) }
 {
-    let count = matrices_in(list);
-    let mut place = 0;
-    while place < count {
-        let other = matrix_from(half, list, start_of(half, place));
-        if meets(m, other, width_of(half)) {
+    for place in 0..matrices_in(list) {
+        if m.meets(matrix_at(half, list, place), width_of(half)) {
             return true;
         }
-        place += 1;
     }
     false
 }
@@ -87,13 +71,10 @@ pub fn lists_meet(half: u32, a: &[u64], b: &[u64]) -> bool
     requires { (Holds half a.now) × (Holds half b.now) }
     ensures { result ≡ holds_some (meet_lists (list_in half a.now) (list_in half b.now)) }
 {
-    let count = matrices_in(a);
-    let mut place = 0;
-    while place < count {
-        if meets_one(half, matrix_from(half, a, start_of(half, place)), b) {
+    for place in 0..matrices_in(a) {
+        if meets_one(half, matrix_at(half, a, place), b) {
             return true;
         }
-        place += 1;
     }
     false
 }

@@ -1,10 +1,10 @@
 // Where the matrices of a list stand, how many there are, and a matrix of a list by value.
-ghost use Rattle.std.specs.Prelude.{◌≡◌, ◌+◌, ◌≤◌, ◌<◌, length};
+ghost use Rattle.std.specs.Prelude.{◌≡◌, [], ◌+◌, ◌≤◌, ◌<◌, length, get_or};
 ghost use Rattle.definitions.specs.Lists.{◌!◌};
 ghost use Rattle.definitions.specs.Matrices.{most_half, most_columns, matrix_words};
 ghost use Rattle.definitions.specs.MatrixLists.{most_matrices};
 ghost use Rattle.matrix.specs.Shapes.{width_of};
-ghost use Rattle.lists.specs.Held.{start_of, columns_at};
+ghost use Rattle.lists.specs.Held.{start_of, columns_at, matrix_at, list_in, Holds};
 
 use definitions::sizes::matrix_size;
 use definitions::wide;
@@ -34,6 +34,16 @@ pub fn matrices_in(list: &[u64]) -> usize
     list[0] as usize
 }
 
+// The columns of the matrix at a place of a list.
+pub(crate) fn columns_at(half: u32, list: &[u64], place: usize) -> &[u64]
+    requires { Holds half list.now × (place < list.now ! 0) }
+    ensures columns { result.now ≡ matrix_at half list.now place }
+    ensures width { length result.now ≡ width_of half }
+{
+    let from = start_of(half, place);
+    &list[from..from + width_of(half)]
+}
+
 // The matrix in the words from a place on.
 pub fn matrix_from(half: u32, words: &[u64], from: usize) -> Matrix
     requires { (half ≤ most_half) × (from + width_of half ≤ length words.now) }
@@ -41,10 +51,14 @@ pub fn matrix_from(half: u32, words: &[u64], from: usize) -> Matrix
 {
     let width = width_of(half);
     let mut columns = [0u64; 7];
-    let mut c = 0;
-    while c < width {
-        columns[c] = words[from + c];
-        c += 1;
-    }
+    columns[..width].copy_from_slice(&words[from..from + width]);
     Matrix { columns }
+}
+
+// The matrix at a place of a list.
+pub(crate) fn matrix_at(half: u32, list: &[u64], place: usize) -> Matrix
+    requires { Holds half list.now × (place < list.now ! 0) }
+    ensures { result.columns ≡ matrix_words (get_or (list_in half list.now) place []) }
+{
+    matrix_from(half, list, start_of(half, place))
 }

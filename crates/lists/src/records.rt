@@ -14,12 +14,8 @@ fn copy_columns(half: u32, words: &[u64], from: usize, out: &mut [u64])
     requires { (half ≤ most_half) × (from + width_of half ≤ length words.now) × (from + width_of half ≤ length out.old) }
     ensures { Put (columns_at half words.now from) from (width_of half) out.old out.new }
 {
-    let width = width_of(half);
-    let mut c = 0;
-    while c < width {
-        out[from + c] = words[from + c];
-        c += 1;
-    }
+    let end = from + width_of(half);
+    out[from..end].copy_from_slice(&words[from..end]);
 }
 
 pub fn put_list(half: u32, list: &[u64], out: &mut [u64])
@@ -28,9 +24,7 @@ pub fn put_list(half: u32, list: &[u64], out: &mut [u64])
 {
     let count = matrices_in(list);
     out[0] = count as u64;
-    let mut place = 0;
-    while place < count {
+    for place in 0..count {
         copy_columns(half, list, start_of(half, place), out);
-        place += 1;
     }
 }

@@ -14,13 +14,9 @@ fn shift_columns(half: u32, words: &[u64], from: usize, all: u64, out: &mut [u64
     ensures { Put (shifted_by all (columns_at half words.now from)) from (width_of half)
         out.old out.new }
 {
-    let width = width_of(half);
-    let mut c = 0;
-    while c + 1 < width {
-        out[from + c] = words[from + c + 1];
-        c += 1;
-    }
-    out[from + c] = all;
+    let last = from + width_of(half) - 1;
+    out[from..last].copy_from_slice(&words[from + 1..last + 1]);
+    out[last] = all;
 }
 
 // The shifted list: column c takes old column c+1, the last column takes all phones.
@@ -31,9 +27,7 @@ pub fn shift_into(half: u32, list: &[u64], all: u64, out: &mut [u64])
 {
     let count = matrices_in(list);
     out[0] = count as u64;
-    let mut place = 0;
-    while place < count {
+    for place in 0..count {
         shift_columns(half, list, start_of(half, place), all, out);
-        place += 1;
     }
 }

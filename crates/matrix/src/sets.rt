@@ -7,34 +7,28 @@ pub fn all_phones(phones: u32) -> u64
     ensures { result ≡ all_phones (min phones 64) }
 {
     if 64 <= phones {
-        return u64::MAX;
+        u64::MAX
+    } else {
+        (1u64 << phones) - 1
     }
-    (1u64 << phones) - 1
 }
 
 // The phone alone; the empty set for a number that is no phone.
 pub fn alone(phone: u32) -> u64
     ensures { result ≡ (if leb phone 64 then alone phone else 0) }
 {
-    if phone == 0 {
-        return 0;
+    match phone {
+        1..=64 => 1u64 << (phone - 1),
+        _ => 0,
     }
-    if 64 < phone {
-        return 0;
-    }
-    1u64 << (phone - 1)
 }
 
 // Whether a set has a phone.
 pub fn has_phone(set: u64, phone: u32) -> bool
     ensures { result ≡ has phone set }
 {
-    if phone == 0 {
-        return false;
+    match phone {
+        1..=64 => (set >> (phone - 1)) & 1 == 1,
+        _ => false,
     }
-    if 64 < phone {
-        return false;
-    }
-    let bit = (set >> (phone - 1)) & 1;
-    bit == 1
 }

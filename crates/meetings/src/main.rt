@@ -3,8 +3,7 @@
 
 use definitions::wide;
 use matrix::Matrix;
-use matrix::meeting::{meet, meets};
-use showing::printing::{print, print_number, print_wide_words, print_word};
+use showing::printing::print_numbers;
 use std::io;
 
 // The matrix of three columns, each of phone 1, phone 2 or both, by a number from 0 to 26.
@@ -14,27 +13,16 @@ fn small_matrix(i: u64) -> Matrix {
     }
 }
 
-// How many columns two matrices of three columns meet, and whether validly.
-fn show_pair(rt: &impl Print, a: Matrix, b: Matrix) -> io::Result<()> {
-    let met = meet(a, b, 3);
-    print_number(rt, met.count as u64)?;
-    if meets(a, b, 3) {
-        print(rt, b"*")
-    } else {
-        print(rt, b".")
-    }
-}
-
-// A matrix of three columns, with all of them.
+// A matrix of three columns, with all of them: how many columns they meet, and * where validly.
 fn show_row(rt: &impl Print, a: Matrix) -> io::Result<()> {
-    print_number(rt, a.columns[0])?;
-    print_number(rt, a.columns[1])?;
-    print_number(rt, a.columns[2])?;
-    print(rt, b" |")?;
+    print_numbers(rt, &a.columns[..3])?;
+    print!(rt; " |")?;
     for j in 0..27 {
-        show_pair(rt, a, small_matrix(j))?;
+        let b = small_matrix(j);
+        let sign = if a.meets(b, 3) { '*' } else { '.' };
+        print!(rt; " {}{sign}", a.meet(b, 3).count)?;
     }
-    print(rt, b"\n")
+    println!(rt; "")
 }
 
 // Columns 5 meet columns 7, but one column is 2, which has nothing in common with 5. All seven words are given, also
@@ -44,50 +32,26 @@ fn show_column(rt: &impl Print, half: u32, column: usize) -> io::Result<()> {
     if column < 7 {
         others[column] = 2;
     }
-    let met = meet(
-        Matrix { columns: [5u64; 7] },
-        Matrix { columns: others },
-        2 * wide(half) + 1,
-    );
-    let m = met.matrix;
-    print(rt, b"n")?;
-    print_word(rt, half)?;
-    print(rt, b", column")?;
-    print_number(rt, column as u64)?;
-    print(rt, b": met")?;
-    print_number(rt, met.count as u64)?;
-    print(rt, b":")?;
-    print_wide_words(rt, &m.columns)?;
-    print(rt, b"\n")
-}
-
-// Each column in turn is 2, at a half-width.
-fn show_width(rt: &impl Print, half: u32) -> io::Result<()> {
-    for column in 0..7 {
-        show_column(rt, half, column)?;
-    }
-    Ok(())
-}
-
-fn show_pairs(rt: &impl Print) -> io::Result<()> {
-    for i in 0..27 {
-        show_row(rt, small_matrix(i))?;
-    }
-    Ok(())
+    let fives = Matrix { columns: [5u64; 7] };
+    let met = fives.meet(Matrix { columns: others }, 2 * wide(half) + 1);
+    print!(rt; "n {half}, column {column}: met {}:", met.count)?;
+    print_numbers(rt, &met.matrix.columns)?;
+    println!(rt; "")
 }
 
 fn main(rt: HostRuntime) -> io::Result<()> {
-    print(
-        &rt,
-        b"At half-width 1, all pairs with columns of phones 1 and 2: columns met, * where valid\n",
+    println!(&rt;
+        "At half-width 1, all pairs with columns of phones 1 and 2: columns met, * where valid"
     )?;
-    show_pairs(&rt)?;
-    print(
-        &rt,
-        b"Column by column: columns 5 meet columns 7, but one column is 2\n",
-    )?;
-    show_width(&rt, 0)?;
-    show_width(&rt, 1)?;
-    show_width(&rt, 2)?;
-    show_width(&rt, 3)
+    for i in 0..27 {
+        show_row(&rt, small_matrix(i))?;
+    }
+    println!(&rt; "Column by column: columns 5 meet columns 7, but one column is 2")?;
+    // Each column in turn is 2, at each half-width.
+    for half in 0..4 {
+        for column in 0..7 {
+            show_column(&rt, half, column)?;
+        }
+    }
+    Ok(())
 }

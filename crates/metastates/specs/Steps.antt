@@ -1,5 +1,7 @@
 -- What a step of a build leaves and answers, by what the definition performs.
-use Rattle.std.specs.Prelude.{◌≡◌, List, [], ◌∷◌, ◌++◌, ℕ, ◌+◌, ◌*◌, length, take, drop}
+use Rattle.definitions.specs.declared.Fault.{Fault}
+use Rattle.growing.specs.declared.Sizes.{Sizes}
+use Rattle.std.specs.Prelude.{◌≡◌, List, [], ◌∷◌, ◌++◌, ℕ, ◌+◌, ◌*◌, length, take, drop, Result}
 use Rattle.definitions.specs.declared.Header.{Header}
 use Rattle.definitions.specs.Faults.{Outcome, answered}
 use Rattle.definitions.specs.Arcs.{Arc}
@@ -7,7 +9,6 @@ use Rattle.definitions.specs.Metastates.{metastate_size}
 use Rattle.definitions.specs.Connecting.{arc_into, Network}
 use Rattle.index.specs.declared.Follower.{Follower}
 use Rattle.index.specs.Combinations.{combinations_in, rules_in}
-use Rattle.growing.specs.declared.Step.{Step}
 use Rattle.growing.specs.Chains.{heads_in, linked_to}
 use Rattle.growing.specs.Steps as growing
 use Rattle.metastates.specs.Keys.{key_of}
@@ -16,7 +17,7 @@ use Rattle.metastates.specs.Networks.{metastate_code, room_of, NumbersBelow}
 -- the words before, the outcome, the answer, and the words after; where it answers, its metastates have numbers of
 -- combinations
 pub record StepLeft (header : Header) (words metastates arcs chains : List ℕ) (outcome : Outcome Network)
-    (answer : Step) (metastates' arcs' chains' : List ℕ) : Type 0 where
+    (answer : Result Sizes Fault) (metastates' arcs' chains' : List ℕ) : Type 0 where
   pub step : growing.StepLeft (metastate_code header.half) (room_of header.half metastates arcs)
       metastates arcs chains outcome answer metastates' arcs' chains'
   pub numbers : (net : Network) → outcome ≡ answered net

@@ -1,13 +1,12 @@
 -- What entering starts from: nodes and combinations that can be connected, and a network under construction in
 -- lent words.
-use Rattle.std.specs.Prelude.{List, ℕ, ◌≤◌, ◌<◌, length}
+use Rattle.std.specs.Prelude.{List, ℕ, ◌<◌, length}
 use Rattle.definitions.specs.Building.{most_metastates}
 use Rattle.definitions.specs.declared.Header.{Header}
 use Rattle.matrix.specs.Shapes.{width_of, HasWidth}
 use Rattle.index.specs.declared.Follower.{Follower}
 use Rattle.index.specs.Combinations.{combinations_in, Connectable}
 use Rattle.growing.specs.declared.Sizes.{Sizes}
-use Rattle.growing.specs.Steps.{arc_room}
 use Rattle.metastates.specs.Networks.{network_held, Holds}
 
 -- a combination, and a place for a metastate of it
@@ -15,12 +14,6 @@ pub record Placed (header : Header) (nodes words : List ℕ) (number place : ℕ
   pub connectable : Connectable header nodes words
   pub listed : number < length (combinations_in header words)
   pub few : place < most_metastates
-
--- and arcs within their room, for one more into it
-pub record PlacedArc (header : Header) (nodes words arcs : List ℕ) (sizes : Sizes) (number place : ℕ)
-    : Type 0 where
-  pub placed : Placed header nodes words number place
-  pub fit : sizes.arcs ≤ arc_room arcs
 
 -- lent words that hold so many metastates and arcs of a network, and nothing else
 abbrev pub Underway : Header → (words : List ℕ) → Sizes → (metastates arcs chains : List ℕ) → Type 0

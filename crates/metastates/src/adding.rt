@@ -4,18 +4,20 @@ ghost use Rattle.std.specs.Prelude.{◌≡◌, ◌<◌, T};
 ghost use Rattle.definitions.specs.Building.{most_metastates};
 ghost use Rattle.definitions.specs.Arcs.{last_state};
 ghost use Rattle.definitions.specs.ForeignTables.{header_known};
-ghost use Rattle.growing.specs.Steps.{ArcAdded};
+ghost use Rattle.arcs.specs.Arc.{the_arc};
 ghost use Rattle.metastates.specs.Networks.{metastate_room, HasPlace};
 ghost use Rattle.metastates.specs.Outcomes.{entered};
 ghost use Rattle.metastates.specs.Steps.{StepLeft, MetastateAdded, into_arc};
-ghost use Rattle.metastates.specs.Underway.{PlacedArc, Entering};
+ghost use Rattle.metastates.specs.Underway.{Placed, Entering};
 
+use crate::Rules;
 use crate::chains::{find, key_of};
+use arcs::Arc;
 use definitions::sizes::metastate_size;
 use definitions::{Fault, Header, MOST_METASTATES, wide};
+use growing::Sizes;
 use growing::adding::add_arc;
 use growing::linking::link;
-use growing::{Sizes, Step};
 use index::Follower;
 use index::records::{model_of, phone_of};
 use matrix::words::put_numbered;
@@ -24,11 +26,7 @@ use matrix::words::put_numbered;
 pub fn metastate_room(half: u32, metastates: &[u64]) -> usize
     ensures { result ≡ metastate_room half metastates.now }
 {
-    let room = metastates.len() / metastate_size(half);
-    if MOST_METASTATES < room {
-        return MOST_METASTATES;
-    }
-    room
+    (metastates.len() / metastate_size(half)).min(MOST_METASTATES)
 }
 
 // The last state of the metastate at a place.
@@ -40,26 +38,20 @@ pub fn last_state(header: Header, place: usize) -> u32
     last as u32
 }
 
-// Appends the arc from a state into the metastate at a place: to its first state, with its first model and
-// its phone.
-fn enter_at(
-    header: Header,
-    nodes: &[u32],
-    combinations: &[u64],
-    arcs: &mut [u32],
-    sizes: Sizes,
-    from: u32,
-    number: usize,
-    place: usize,
-) -> Step
-    requires { PlacedArc header nodes.now combinations.now arcs.old sizes number place }
-    ensures { ArcAdded sizes (into_arc header nodes.now combinations.now from number place)
-        arcs.old result arcs.new }
+// The arc from a state into the metastate at a place: to its first state, with its first model and its phone.
+fn arc_into(rules: Rules, from: u32, number: usize, place: usize) -> Arc
+    requires { Placed rules.header rules.nodes.now rules.combinations.now number place }
+    ensures { the_arc result
+        ≡ into_arc rules.entry.header rules.entry.nodes.now rules.entry.combinations.now from number place }
 {
+    let header = rules.header;
     let to = 2 + place * wide(header.states);
-    let model = model_of(header.half, nodes, combinations, number, 0);
-    let phone = phone_of(header.half, combinations, number);
-    add_arc(arcs, sizes, from, to as u32, model, phone)
+    Arc {
+        from,
+        to: to as u32,
+        model: model_of(header.half, rules.nodes, rules.combinations, number, 0),
+        phone: phone_of(header.half, rules.combinations, number),
+    }
 }
 
 // Puts a new metastate at the end of the table and at the front of its chain.
@@ -84,47 +76,35 @@ fn add_metastate(
 
 // Appends the arc from a state into a metastate, which is added first if it is new.
 pub fn enter(
-    header: Header,
-    nodes: &[u32],
-    combinations: &[u64],
+    rules: Rules,
     metastates: &mut [u64],
     arcs: &mut [u32],
     chains: &mut [u32],
     sizes: Sizes,
     from: u32,
     follower: Follower,
-) -> Step
-    requires { Entering header nodes.now combinations.now metastates.old arcs.old chains.old sizes follower }
-    ensures { StepLeft header combinations.now metastates.old arcs.old
-        chains.old
-        (entered header nodes.now combinations.now metastates.old
-        arcs.old sizes from follower)
+) -> Result<Sizes, Fault>
+    requires { Entering rules.header rules.nodes.now rules.combinations.now metastates.old arcs.old chains.old
+        sizes follower }
+    ensures { StepLeft rules.entry.header rules.entry.combinations.now metastates.old arcs.old chains.old
+        (entered rules.entry.header rules.entry.nodes.now rules.entry.combinations.now metastates.old arcs.old sizes
+        from follower)
         result metastates.new arcs.new chains.new }
 {
+    let half = rules.header.half;
     let number = follower.number;
-    let m = follower.met;
-    let used = metastate_size(header.half) * sizes.table;
-    let found = find(header.half, &metastates[..used], chains, number as u64, m);
-    if found != 0 {
-        return enter_at(
-            header,
-            nodes,
-            combinations,
-            arcs,
-            sizes,
-            from,
-            number,
-            found - 1,
-        );
-    }
     let place = sizes.table;
-    if metastate_room(header.half, metastates) <= place {
-        return Step::Stop(Fault::Crowd);
+    let used = &metastates[..metastate_size(half) * place];
+    if let Some(known) = find(half, used, chains, number as u64, follower.met) {
+        return add_arc(arcs, sizes, arc_into(rules, from, number, known));
     }
-    add_metastate(header.half, metastates, chains, place, follower);
+    if metastate_room(half, metastates) <= place {
+        return Err(Fault::Crowd);
+    }
+    add_metastate(half, metastates, chains, place, follower);
     let next = Sizes {
         table: place + 1,
         arcs: sizes.arcs,
     };
-    enter_at(header, nodes, combinations, arcs, next, from, number, place)
+    add_arc(arcs, next, arc_into(rules, from, number, place))
 }

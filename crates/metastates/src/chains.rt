@@ -8,7 +8,7 @@ ghost use Rattle.metastates.specs.Keys.{key_of};
 ghost use Rattle.metastates.specs.Networks.{metastate_with, metastate_code};
 
 use definitions::sizes::metastate_size;
-use definitions::{MOST_COLUMNS, wide};
+use definitions::wide;
 use growing::linking::head_of;
 use index::records::record_at;
 use matrix::Matrix;
@@ -19,16 +19,14 @@ pub fn key_of(number: u64, m: Matrix) -> usize
     ensures { (result ≡ key_of (number ∷ m.columns)) × (result < 65521) }
 {
     let mut key = number;
-    let mut c = 0;
-    while c < MOST_COLUMNS {
-        key = (key << 26) ^ (key >> 38) ^ m.columns[c];
-        c += 1;
+    for column in m.columns {
+        key = (key << 26) ^ (key >> 38) ^ column;
     }
     (key % 65521) as usize
 }
 
-// The place of a metastate in the table, counted from 1, or 0 where it is new.
-pub fn find(half: u32, metastates: &[u64], chains: &[u32], number: u64, m: Matrix) -> usize
+// The place of a metastate in the table, or none where it is new.
+pub fn find(half: u32, metastates: &[u64], chains: &[u32], number: u64, m: Matrix) -> Option<usize>
     requires { Findable (metastate_code half) metastates.now chains.now × HasWidth (width_of half) m.columns
         × (half ≤ 3) }
     ensures { Found (metastate_code half) (elements_in (metastate_code half) metastates.now)
@@ -36,12 +34,12 @@ pub fn find(half: u32, metastates: &[u64], chains: &[u32], number: u64, m: Matri
 {
     let size = metastate_size(half);
     let heads = chains.len() / 2;
-    let mut at = wide(chains[head_of(heads, key_of(number, m))]);
-    while at != 0 {
-        if is_numbered(record_at(metastates, size, at - 1), number, m) {
-            return at;
+    let mut next = wide(chains[head_of(heads, key_of(number, m))]).checked_sub(1);
+    while let Some(place) = next {
+        if is_numbered(record_at(metastates, size, place), number, m) {
+            return Some(place);
         }
-        at = wide(chains[heads + at - 1]);
+        next = wide(chains[heads + place]).checked_sub(1);
     }
-    0
+    None
 }

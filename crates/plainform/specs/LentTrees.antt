@@ -23,11 +23,11 @@ there_in header nodes classes roots = trees_there (trees_in header nodes classes
 abbrev pub uses_in : Header → (nodes classes roots : List ℕ) → List ℕ
 uses_in header nodes classes roots = concat_map sets_in (there_in header nodes classes roots)
 
--- known records, and a node among them, or roots, some of which may be left out
+-- roots among the nodes, some of which may be left out
+pub record Listed (header : Header) (roots : List ℕ) : Type 0 where
+  pub each : T (every (λ root. eqb root no_root || ltb root header.nodes) roots)
+
+-- known records, and a node among them
 pub record KnownNode (header : Header) (nodes : List ℕ) (node : ℕ) : Type 0 where
   pub known : T (nodes_known header 0 (node_records header nodes))
   pub listed : node < header.nodes
-
-pub record KnownRoots (header : Header) (nodes roots : List ℕ) : Type 0 where
-  pub known : T (nodes_known header 0 (node_records header nodes))
-  pub listed : T (every (λ root. eqb root no_root || ltb root header.nodes) roots)

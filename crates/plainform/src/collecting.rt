@@ -3,10 +3,10 @@ ghost use Rattle.std.specs.Prelude.{[], ◌∷◌, ◌+◌, ◌-◌, ◌≤◌, 
 ghost use Rattle.definitions.specs.Lists.{◌!◌};
 ghost use Rattle.definitions.specs.PlainForm.{sets_in};
 ghost use Rattle.plainform.specs.Collecting.{Collected};
-ghost use Rattle.plainform.specs.LentTrees.{tree_in, uses_in, KnownNode, KnownRoots};
+ghost use Rattle.plainform.specs.LentTrees.{tree_in, uses_in, Listed};
 
-use crate::sets::place_of;
-use definitions::{Header, NO_ROOT};
+use crate::trees::Trees;
+use definitions::NO_ROOT;
 use tables::classes::set_of;
 use tables::records::node_at;
 
@@ -16,75 +16,56 @@ fn note_set(classes: &[u64], class: u32, sets: &mut [u64], used: usize) -> usize
     ensures { Collected sets.old used ((classes.now ! (class - 1)) ∷ []) result sets.new }
 {
     let set = set_of(classes, class);
-    if place_of(&sets[..used], set) < used {
+    if sets[..used].contains(&set) {
         return used;
     }
     sets[used] = set;
     used + 1
 }
 
-// Notes the sets that the tree at a node asks for. Children are greater than their node, so the node count minus
-// the node falls at each call.
-fn collect(
-    header: Header,
-    nodes: &[u32],
-    classes: &[u64],
-    node: u32,
-    sets: &mut [u64],
-    used: usize,
-) -> usize
-    requires { KnownNode header nodes.now node
-        × (used + length (sets_in (tree_in header nodes.now classes.now node)) ≤ length sets.old) }
-    ensures { Collected sets.old used
-        (sets_in (tree_in header nodes.now classes.now node)) result sets.new }
-{
-    let record = node_at(nodes, node);
-    if record.kind != 1 {
-        return used;
+impl<'t> Trees<'t> {
+    // Notes the sets that the tree at a node asks for. Children are greater than their node, so the node count minus
+    // the node falls at each call.
+    fn collect(self, node: u32, sets: &mut [u64], used: usize) -> usize
+        requires { (node < self.header.nodes)
+            × (used + length (sets_in (tree_in self.header self.nodes.now self.classes.now node)) ≤ length sets.old) }
+        ensures { Collected sets.old used
+            (sets_in (tree_in self.entry.header self.entry.nodes.now self.entry.classes.now node)) result sets.new }
+    {
+        let record = node_at(self.nodes, node);
+        if record.kind != 1 {
+            return used;
+        }
+        let own = note_set(self.classes, record.value, sets, used);
+        let left = self.collect(record.yes, sets, own);
+        self.collect(record.no, sets, left)
     }
-    let own = note_set(classes, record.value, sets, used);
-    let left = collect(header, nodes, classes, record.yes, sets, own);
-    collect(header, nodes, classes, record.no, sets, left)
-}
 
-// Notes the sets that the tree at a root asks for, if there is one.
-fn collect_root(
-    header: Header,
-    nodes: &[u32],
-    classes: &[u64],
-    root: u32,
-    sets: &mut [u64],
-    used: usize,
-) -> usize
-    requires { KnownRoots header nodes.now (root ∷ [])
-        × (used + length (uses_in header nodes.now classes.now (root ∷ [])) ≤ length sets.old) }
-    ensures { Collected sets.old used (uses_in header nodes.now classes.now (root ∷ [])) result
-        sets.new }
-{
-    if root == NO_ROOT {
-        return used;
+    // Notes the sets that the tree at a root asks for, if there is one.
+    fn collect_root(self, root: u32, sets: &mut [u64], used: usize) -> usize
+        requires { Listed self.header (root ∷ [])
+            × (used + length (uses_in self.header self.nodes.now self.classes.now (root ∷ [])) ≤ length sets.old) }
+        ensures { Collected sets.old used
+            (uses_in self.entry.header self.entry.nodes.now self.entry.classes.now (root ∷ [])) result sets.new }
+    {
+        if root == NO_ROOT {
+            used
+        } else {
+            self.collect(root, sets, used)
+        }
     }
-    collect(header, nodes, classes, root, sets, used)
-}
 
-// Notes the sets that the trees at these roots ask for. Answers how many there are.
-pub fn collect_all(
-    header: Header,
-    nodes: &[u32],
-    classes: &[u64],
-    roots: &[u32],
-    sets: &mut [u64],
-) -> usize
-    requires { KnownRoots header nodes.now roots.now
-        × (length (uses_in header nodes.now classes.now roots.now) ≤ length sets.old) }
-    ensures { Collected sets.old 0
-        (uses_in header nodes.now classes.now roots.now) result sets.new }
-{
-    let mut used = 0;
-    let mut i = 0;
-    while i < roots.len() {
-        used = collect_root(header, nodes, classes, roots[i], sets, used);
-        i += 1;
+    // Notes the sets that the trees at these roots ask for. Answers how many there are.
+    pub fn collect_all(self, roots: &[u32], sets: &mut [u64]) -> usize
+        requires { Listed self.header roots.now
+            × (length (uses_in self.header self.nodes.now self.classes.now roots.now) ≤ length sets.old) }
+        ensures { Collected sets.old 0
+            (uses_in self.entry.header self.entry.nodes.now self.entry.classes.now roots.now) result sets.new }
+    {
+        let mut used = 0;
+        for root in roots {
+            used = self.collect_root(*root, sets, used);
+        }
+        used
     }
-    used
 }

@@ -5,4 +5,5 @@
 mod collecting;
 mod numbering;
 mod sets;
+mod trees;
 pub mod writer;

@@ -4,19 +4,15 @@ ghost use Rattle.definitions.specs.BookText.{book_line_for};
 ghost use Rattle.definitions.specs.Faults.{answer_left};
 ghost use Rattle.definitions.specs.ForeignTables.{tables_known};
 ghost use Rattle.definitions.specs.PlainForm.{plain_lines, write_plain};
-ghost use Rattle.definitions.specs.Said.{said_of};
+ghost use Rattle.definitions.specs.Said.{result_of};
 ghost use Rattle.definitions.specs.Tables.{tables_contents};
 ghost use Rattle.tables.specs.Lending.{lent_tables};
-ghost use Rattle.writing.specs.Answers.{written_said};
 ghost use Rattle.booktext.specs.Putting.{Put};
 
-use crate::collecting::collect_all;
-use crate::numbering::number_all;
+use crate::trees::Trees;
 use booktext::printing::put_book;
-use definitions::{Fault, Header, MOST_NODES, NODE_SIZE, wide};
-use lines::clearing::clear_bytes;
+use definitions::{Fault, Header, MOST_NODES, NODE_SIZE, Refusal, wide};
 use tables::foreign::tables_known;
-use writing::{Written, not_written};
 
 // Words for the nodes of the plain form, and for its roots.
 const NODE_WORDS: usize = NODE_SIZE * MOST_NODES;
@@ -43,17 +39,19 @@ fn put_plain(
     let kept = &classes[..held];
     let given = &roots[..many];
     let mut sets = [0u64; MOST_NODES];
-    let used = collect_all(header, nodes, kept, given, &mut sets);
+    let trees = Trees {
+        header,
+        nodes,
+        classes: kept,
+    };
+    let used = trees.collect_all(given, &mut sets);
     let own = &sets[..used];
     let mut table = [0u32; NODE_WORDS];
     let mut starts = [0u32; ROOT_WORDS];
-    number_all(header, nodes, kept, given, own, &mut table, &mut starts);
+    trees.number_all(given, own, &mut table, &mut starts);
     let plain = Header {
-        half: header.half,
-        states: header.states,
-        phones: header.phones,
         classes: used as u32,
-        nodes: header.nodes,
+        ..header
     };
     put_book(plain, &table, own, &starts[..many], &plains[..phones], text)
 }
@@ -66,22 +64,22 @@ pub fn write(
     roots: &[u32],
     plains: &[u32],
     text: &mut [u8],
-) -> Written
-    ensures answer { written_said result ≡ said_of length 0 (write_plain header
+) -> Result<usize, Refusal>
+    ensures answer { result ≡ result_of length (write_plain header
         (lent_tables nodes.now classes.now roots.now plains.now)
         (length text.old)) }
     ensures leaves { text.new ≡ answer_left (length text.old) (write_plain header
         (lent_tables nodes.now classes.now roots.now plains.now)
         (length text.old)) }
 {
-    clear_bytes(text);
+    text.fill(0);
     if !tables_known(header, nodes, classes, roots, plains) {
-        return not_written(Fault::Foreign);
+        return Err(Fault::Foreign.into());
     }
     let count = put_plain(header, nodes, classes, roots, plains, text);
     if text.len() / 32 < count {
-        clear_bytes(text);
-        return not_written(Fault::Short);
+        text.fill(0);
+        return Err(Fault::Short.into());
     }
-    Written::Bytes(32 * count)
+    Ok(32 * count)
 }

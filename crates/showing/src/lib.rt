@@ -1,8 +1,8 @@
-// What the programs share: standard input read, words and numbers on standard output, buffers compared, and texts cut
-// out below their titles.
+// What the programs share: standard input read, numbers and refusals on standard output, how much of a buffer is used,
+// and texts cut out below their titles.
 #![tactic(auto)]
 
-pub mod comparing;
 pub mod printing;
 pub mod reading;
 pub mod titles;
+pub mod using;

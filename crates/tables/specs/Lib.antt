@@ -2,5 +2,8 @@
 pub mod Lending
 pub mod Forcing
 pub mod Usable
+pub mod Records
+pub mod Known
+pub mod Trees
 pub mod Naming
 pub mod Laws

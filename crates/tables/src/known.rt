@@ -6,7 +6,7 @@ ghost use Rattle.definitions.specs.ForeignTables.{plain_table_known, roots_known
 ghost use Rattle.definitions.specs.Lists.{every};
 
 use crate::holding::holds_only;
-use crate::nodes::record_known;
+use crate::nodes::nodes_known;
 use crate::phones::{plain_known, roots_given};
 use crate::records::{node_at, word_at};
 use definitions::{Header, NODE_SIZE, wide};
@@ -38,15 +38,8 @@ pub fn node_table_known(header: Header, words: &[u32]) -> bool
     requires { T (header_known header) }
     ensures { result ≡ node_table_known header words.now }
 {
-    if !holds_only(words, NODE_SIZE * wide(header.nodes), 0) {
-        return false;
-    }
-    for at in 0..header.nodes {
-        if !record_known(header, at, node_at(words, at)) {
-            return false;
-        }
-    }
-    true
+    holds_only(words, NODE_SIZE * wide(header.nodes), 0)
+        && nodes_known(header, |node| node_at(words, node))
 }
 
 // Sets that hold no phone beyond the header's: nothing is left of them when the phones but one are shifted

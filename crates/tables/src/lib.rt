@@ -12,3 +12,4 @@ pub mod nodes;
 mod phones;
 pub mod records;
 pub mod roots;
+pub mod trees;

@@ -1,6 +1,8 @@
-// A node's record: whether an N or L line leaves it.
-ghost use Rattle.std.specs.Prelude.{◌||◌, ◌≡◌};
-ghost use Rattle.definitions.specs.ForeignTables.{question_known, leaf_known};
+// Whether N and L lines leave a record, and the records of all nodes.
+ghost use Rattle.std.specs.Prelude.{◌||◌, ◌≡◌, List};
+ghost use Rattle.definitions.specs.declared.Node.{Node};
+ghost use Rattle.definitions.specs.ForeignTables.{question_known, leaf_known, nodes_known};
+ghost use Rattle.tables.specs.Records.{Gives};
 
 use definitions::{Header, MOST_MODEL, Node, wide};
 
@@ -37,4 +39,18 @@ pub fn record_known(header: Header, at: u32, node: Node) -> bool
     ensures { result ≡ (question_known header at node || leaf_known node) }
 {
     question_known(header, at, node) || leaf_known(node)
+}
+
+// Records that N and L lines leave as the nodes of a book; `node_at` gives the record of a node.
+pub fn nodes_known<F: Fn(u32) -> Node>(header: Header, node_at: F) -> bool
+    requires { F.IsAlwaysCallable node_at }
+    ensures { (nodes : List Node) → Gives (F.post node_at) header.nodes nodes
+        → result ≡ nodes_known header 0 nodes }
+{
+    for node in 0..header.nodes {
+        if !record_known(header, node, node_at(node)) {
+            return false;
+        }
+    }
+    true
 }

@@ -1,15 +1,11 @@
 -- What is found for a state, what the transcription answers, and what the functions below it leave.
 use Rattle.std.specs.Prelude.{◌≡◌, List, ◌++◌, map, ℕ, ◌*◌, length, drop}
-use Rattle.definitions.specs.Faults.{Outcome, answered, refused}
-use Rattle.definitions.specs.Said.{Said, answer_said, refusal_said}
 use Rattle.definitions.specs.Lists.{up_from}
 use Rattle.definitions.specs.BookLines.{Reached}
 use Rattle.definitions.specs.Tables.{Book}
 use Rattle.definitions.specs.Transcription.{model_of, transcription, questions_at, question_sum, Transcribed}
 use Rattle.transcripts.specs.declared.Found.{Found}
 use Rattle.transcripts.specs.declared.Tally.{Tally}
-use Rattle.transcripts.specs.declared.Transcript.{Transcript}
-use Rattle.transcripts.specs.declared.Transcript.TheVariants as transcript
 
 -- the model for a state, with the number of questions
 abbrev pub found_of : Reached → Found
@@ -21,15 +17,6 @@ tally_of given = record { models = length given.models; questions = given.questi
 
 abbrev pub no_tally : Tally
 no_tally = record { models = 0; questions = 0 }
-
-unfoldable pub transcript_of : Outcome Transcribed → Transcript
-transcript_of (answered given) = transcript.Models (tally_of given)
-transcript_of (refused r) = transcript.Refused r
-
--- number, line, and both counts
-abbrev pub transcript_said : Transcript → Said Tally
-transcript_said (transcript.Models tally) = answer_said tally
-transcript_said (transcript.Refused r) = refusal_said no_tally r
 
 -- the models of a context, the states ascending
 abbrev pub state_models : Book → (context : List ℕ) → List ℕ

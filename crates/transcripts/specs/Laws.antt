@@ -2,6 +2,5 @@
 pub mod Sequences
 pub mod Models
 pub mod Questions
-pub mod Said
 pub mod Answering
 pub mod Given

@@ -4,24 +4,15 @@
 mod sequences;
 pub mod transcription;
 
-use definitions::Refusal;
-
 // What a transcription gives beside its models: how many there are, and how many questions were put in all.
-#[derive(Clone, Copy)]
+#[derive(Clone, Copy, PartialEq, Eq)]
 pub struct Tally {
     pub models: usize,
     pub questions: u64,
 }
 
-// What a transcription answers: what it gave, or the refusal.
-#[derive(Clone, Copy)]
-pub enum Transcript {
-    Models(Tally),
-    Refused(Refusal),
-}
-
 // What the walk for a state found: the model at its leaf, and how many questions were met.
-#[derive(Clone, Copy)]
+#[derive(Clone, Copy, PartialEq, Eq)]
 struct Found {
     model: u32,
     questions: u32,

@@ -8,25 +8,16 @@ use definitions::MOST_SOUNDS;
 use trees::contexts::are_phones;
 
 // Whether these are phones of the book with silence at both ends, and no more than can be counted for.
+#[tactic(auto, unfolding(definitions::specs::Transcription::is_utterance, definitions::specs::TreesGive::silent_ends))]
 pub fn is_utterance(phones: u32, sequence: &[u32]) -> bool
     ensures { result ≡ is_utterance phones sequence.now }
 {
     let count = sequence.len();
-    if count == 0 {
-        return false;
-    }
-    if MOST_SOUNDS < count {
-        return false;
-    }
-    if !are_phones(sequence, phones) {
-        return false;
-    }
-    let first = sequence[0];
-    if first != 1 {
-        return false;
-    }
-    let last = sequence[count - 1];
-    last == 1
+    0 < count
+        && count <= MOST_SOUNDS
+        && are_phones(sequence, phones)
+        && sequence[0] == 1
+        && sequence[count - 1] == 1
 }
 
 // The phone in a column of the context of a place.
@@ -38,11 +29,7 @@ fn phone_at(sequence: &[u32], half: usize, place: usize, column: usize) -> u32
     if around < half {
         return 1;
     }
-    let at = around - half;
-    if at < sequence.len() {
-        return sequence[at];
-    }
-    1
+    sequence.get(around - half).copied().unwrap_or(1)
 }
 
 // The context of a place: 2n+1 phones, silence beyond either end.
@@ -50,9 +37,7 @@ pub fn fill_context(sequence: &[u32], half: usize, place: usize, context: &mut [
     requires { (half ≤ 3) × (place < length sequence.now) × (length context.old ≡ 2 * half + 1) }
     ensures { context.new ≡ get_or (contexts half sequence.now) place [] }
 {
-    let mut column = 0;
-    while column < context.len() {
+    for column in 0..context.len() {
         context[column] = phone_at(sequence, half, place, column);
-        column += 1;
     }
 }

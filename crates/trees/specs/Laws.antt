@@ -1,9 +1,5 @@
--- The laws of this crate: phones, walks, what answers say, that the two lookups agree, what they answer, and the
--- stages of the lookup over node structs; and the steps of a walk by hand over such a slice.
+-- The laws of this crate: phones, walks, that the two lookups agree, and what they answer.
 pub mod Phones
 pub mod Walking
-pub mod Said
 pub mod Agreement
 pub mod Answering
-pub mod Stages
-pub mod Holding

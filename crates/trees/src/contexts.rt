@@ -10,26 +10,13 @@ use definitions::{Header, wide};
 pub fn are_phones(sequence: &[u32], phones: u32) -> bool
     ensures { result ≡ every (is_phone phones) sequence.now }
 {
-    let mut i = 0;
-    while i < sequence.len() {
-        let phone = sequence[i];
-        if phone < 1 {
-            return false;
-        }
-        if phones < phone {
-            return false;
-        }
-        i += 1;
-    }
-    true
+    sequence.iter().all(|phone| 1 <= *phone && *phone <= phones)
 }
 
 // Whether these are 2n+1 phones of the book.
+#[tactic(auto, unfolding(definitions::specs::Lookup::is_context))]
 pub fn is_context(header: Header, context: &[u32]) -> bool
     ensures { result ≡ is_context header context.now }
 {
-    if context.len() != 2 * wide(header.half) + 1 {
-        return false;
-    }
-    are_phones(context, header.phones)
+    context.len() == 2 * wide(header.half) + 1 && are_phones(context, header.phones)
 }

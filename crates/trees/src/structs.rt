@@ -1,21 +1,38 @@
 // The leaf that a context reaches from a root, and the questions met on the way, over a lent slice of node structs: 18,
-// then 13. The functions that hold the slice only take a record at a turn; what a turn does with it stands in `stages`.
-ghost use Rattle.std.specs.Prelude.{◌≡◌, ◌<◌, length};
-ghost use Rattle.definitions.specs.Lookup.{leaf_lookup};
-ghost use Rattle.definitions.specs.Said.{said_of};
-ghost use Rattle.trees.specs.Answers.{walked_of, no_walk, lookup_said};
-ghost use Rattle.trees.specs.Stages.{record_at};
+// then 13.
+ghost use Rattle.std.specs.Prelude.{◌≡◌};
+ghost use Rattle.definitions.specs.Lookup.{leaf_lookup, lookup_known};
+ghost use Rattle.definitions.specs.Said.{result_of};
+ghost use Rattle.tables.specs.Records.{record_at};
+ghost use Rattle.trees.specs.Answers.{walked_of};
 
-use crate::Lookup;
-use crate::stages::{answer_of, first_stage, goes_on, next_stage, place_of};
-use definitions::{Header, Node};
+use crate::Walked;
+use crate::contexts::is_context;
+use crate::walking::walk;
+use definitions::{Fault, Header, Node, Refusal, wide};
+use tables::foreign::list_known;
+use tables::nodes::nodes_known;
 
-// The record at a place.
-fn node_in(nodes: &[Node], at: usize) -> Node
-    requires { at < length nodes.now }
-    ensures { result ≡ record_at nodes.now at }
+// The record of a node, of zeros beyond the list.
+#[tactic(auto, unfolding(definitions::specs::Tables::node_of))]
+fn node_in(nodes: &[Node], node: u32) -> Node
+    ensures { result ≡ record_at nodes.now node }
 {
-    nodes[at]
+    nodes.get(wide(node)).copied().unwrap_or(Node {
+        kind: 0,
+        value: 0,
+        position: 0,
+        yes: 0,
+        no: 0,
+    })
+}
+
+// Whether reading leaves these records and classes with this header, and the root is one of the nodes.
+fn lookup_known(header: Header, nodes: &[Node], classes: &[u64], root: u32) -> bool
+    ensures { result ≡ lookup_known header classes.now nodes.now root }
+{
+    list_known(header, nodes.len(), classes, root)
+        && nodes_known(header, |node| node_in(nodes, node))
 }
 
 pub fn leaf_of(
@@ -24,14 +41,15 @@ pub fn leaf_of(
     classes: &[u64],
     root: u32,
     context: &[u32],
-) -> Lookup
-    ensures { lookup_said result ≡ said_of walked_of no_walk
+) -> Result<Walked, Refusal>
+    ensures { result ≡ result_of walked_of
         (leaf_lookup header classes.now nodes.now root context.now) }
 {
-    let mut stage = first_stage(header, nodes.len(), classes, root);
-    while goes_on(stage) {
-        let node = node_in(nodes, place_of(stage));
-        stage = next_stage(header, classes, root, context, stage, node);
+    if !lookup_known(header, nodes, classes, root) {
+        return Err(Fault::Foreign.at(0));
     }
-    answer_of(stage)
+    if !is_context(header, context) {
+        return Err(Fault::Range.at(0));
+    }
+    Ok(walk(header, |node| node_in(nodes, node), classes, context, root))
 }

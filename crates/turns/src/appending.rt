@@ -1,35 +1,27 @@
 // Up to three arcs appended to lent arcs, within their room.
-ghost use Rattle.std.specs.Prelude.{◌≡◌, ◌+◌, ◌*◌, ◌≤◌, ◌<◌, leb, length, take};
+ghost use Rattle.std.specs.Prelude.{◌≡◌, ◌≤◌};
 ghost use Rattle.growing.specs.Steps.{arc_room};
-ghost use Rattle.turns.specs.Arcs.{ArcsAppended};
+ghost use Rattle.turns.specs.Arcs.{ArcsAdded};
 
 use crate::Arcs;
-use definitions::ARC_SIZE;
+use definitions::{ARC_SIZE, Fault};
+use growing::Sizes;
 use growing::adding::arc_room;
 
-// Copies the words of new arcs.
-fn copy_arcs(words: &mut [u32], new: Arcs)
-    requires { length words.old ≤ 12 }
-    ensures { words.new ≡ take (length words.old) new.words }
+// Appends new arcs after those that have grown, or 32 where not all have room.
+pub fn add_arcs(arcs: &mut [u32], sizes: Sizes, new: Arcs) -> Result<Sizes, Fault>
+    requires { (sizes.arcs ≤ arc_room arcs.old) × (new.count ≤ 3) }
+    ensures { ArcsAdded sizes new arcs.old result arcs.new }
 {
-    let mut i = 0;
-    while i < words.len() {
-        words[i] = new.words[i];
-        i += 1;
+    let count = sizes.arcs + new.count;
+    if arc_room(arcs.len()) < count {
+        return Err(Fault::Tangle);
     }
-}
-
-// Appends new arcs after the first `count`, if all have room; answers whether.
-pub fn add_arcs(arcs: &mut [u32], count: usize, new: Arcs) -> bool
-    requires { (count ≤ arc_room arcs.old) × (new.count ≤ 3) }
-    ensures room { result ≡ leb (count + new.count) (arc_room arcs.old) }
-    ensures words { ArcsAppended count new result arcs.old arcs.new }
-{
-    if arc_room(arcs.len()) < count + new.count {
-        return false;
-    }
-    let from = ARC_SIZE * count;
-    let end = from + ARC_SIZE * new.count;
-    copy_arcs(&mut arcs[from..end], new);
-    true
+    let used = ARC_SIZE * new.count;
+    let from = ARC_SIZE * sizes.arcs;
+    arcs[from..from + used].copy_from_slice(&new.words[..used]);
+    Ok(Sizes {
+        table: sizes.table,
+        arcs: count,
+    })
 }

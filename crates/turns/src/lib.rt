@@ -13,7 +13,7 @@ pub struct Turn {
     pub sizes: Sizes,
 }
 
-// Up to three arcs, as words.
+// Up to three arcs, as words. The library takes no heap, so they stand in an array, with their count beside it.
 #[derive(Clone, Copy)]
 pub struct Arcs {
     pub count: usize,

@@ -4,6 +4,5 @@ pub mod Storing
 pub mod Stored
 pub mod Taking
 pub mod Reading
-pub mod Said
 pub mod Answering
 pub mod KnownWords

@@ -1,5 +1,4 @@
--- What reading a word book answers, keeps and stores, and the laws about it.
-pub mod Answers
+-- What reading a word book keeps and stores, and the laws about it.
 pub mod Entries
 pub mod Storing
 pub mod Taking

@@ -9,7 +9,7 @@ ghost use Rattle.words.specs.Taking.{tests_in};
 use crate::Entry;
 use definitions::{Fault, wide};
 use lines::ranges::in_fixed_ranges;
-use lines::{Letters, Row, Verdict};
+use lines::{Letters, Row};
 
 // What a row says.
 pub fn entry_of(row: Row) -> Entry
@@ -29,23 +29,21 @@ fn comes_next(last: Entry, line: Entry) -> bool
     ensures { result ≡ comes_next (entry_line last) (entry_line line) }
 {
     if line.word == last.word {
-        return wide(line.place) == wide(last.place) + 1;
+        wide(line.place) == wide(last.place) + 1
+    } else {
+        wide(line.word) == wide(last.word) + 1 && line.place == 1
     }
-    if wide(line.word) != wide(last.word) + 1 {
-        return false;
-    }
-    line.place == 1
 }
 
 // The first test of a row and of what it says that fails: 13, then 14.
-pub fn judge_line(last: Entry, row: Row, line: Entry) -> Verdict
+pub fn judge_line(last: Entry, row: Row, line: Entry) -> Result<(), Fault>
     ensures { result ≡ verdict_of (tests_in (entry_line last) (line_in row) (entry_line line)) }
 {
     if !in_fixed_ranges(Letters::Words, row) {
-        return Verdict::Failed(Fault::Range);
+        return Err(Fault::Range);
     }
     if !comes_next(last, line) {
-        return Verdict::Failed(Fault::Order);
+        return Err(Fault::Order);
     }
-    Verdict::Passed
+    Ok(())
 }

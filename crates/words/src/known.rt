@@ -13,17 +13,9 @@ use tables::holding::holds_only;
 fn phones_known(phones: &[u32]) -> bool
     ensures { result ≡ every (is_phone most_phone) phones.now }
 {
-    let mut i = 0;
-    while i < phones.len() {
-        if phones[i] == 0 {
-            return false;
-        }
-        if MOST_PHONE < phones[i] {
-            return false;
-        }
-        i += 1;
-    }
-    true
+    phones
+        .iter()
+        .all(|phone| 1 <= *phone && *phone <= MOST_PHONE)
 }
 
 // Whether a record is one that V lines leave: a length, so many phones, then 0.
@@ -32,47 +24,27 @@ fn word_known(row: &[u32]) -> bool
     ensures { result ≡ word_known row.now }
 {
     let count = wide(row[0]);
-    if count == 0 {
-        return false;
-    }
-    if WORD_SIZE <= count {
+    if count == 0 || WORD_SIZE <= count {
         return false;
     }
     let end = count + 1;
-    if !phones_known(&row[1..end]) {
-        return false;
-    }
-    holds_only(row, end)
+    phones_known(&row[1..end]) && holds_only(row, end, 0)
 }
 
 // Whether all records are such.
 fn records_known(words: &[u32]) -> bool
     ensures { result ≡ every word_known (records word_size (length words.now / word_size) words.now) }
 {
-    let mut i = 0;
-    while i < words.len() / WORD_SIZE {
-        let at = WORD_SIZE * i;
-        if !word_known(&words[at..at + WORD_SIZE]) {
-            return false;
-        }
-        i += 1;
-    }
-    true
+    words.chunks_exact(WORD_SIZE).all(word_known)
 }
 
 // Whether the reader of word books leaves this table with this count.
 pub fn words_known(count: usize, words: &[u32]) -> bool
     ensures { result ≡ words_known count words.now }
 {
-    if count == 0 {
-        return false;
-    }
-    if MOST_WORDS < count {
+    if count == 0 || MOST_WORDS < count {
         return false;
     }
     let used = WORD_SIZE * count;
-    if !holds_only(words, used) {
-        return false;
-    }
-    records_known(&words[..used])
+    holds_only(words, used, 0) && records_known(&words[..used])
 }

@@ -7,27 +7,11 @@ pub mod reader;
 mod storing;
 mod taking;
 
-use definitions::{Fault, Refusal};
-
-// What reading answers: the count of words, or the refusal.
-#[derive(Clone, Copy)]
-pub enum Reading {
-    Accepted(usize),
-    Refused(Refusal),
-}
-
 // What a line says: a word, a place in it, and the phone there. Of the lines taken so far the last one is kept; before
 // the first, one of word 0 and place 0.
-#[derive(Clone, Copy)]
+#[derive(Clone, Copy, PartialEq, Eq)]
 struct Entry {
     word: u32,
     place: u32,
     phone: u32,
-}
-
-// What taking a line gives: the line, or its fault.
-#[derive(Clone, Copy)]
-enum Step {
-    Next(Entry),
-    Stop(Fault),
 }

@@ -3,5 +3,4 @@
 pub mod Rows
 pub mod Writing
 pub mod WrittenLines
-pub mod Said
 pub mod Answering

@@ -20,7 +20,7 @@ use Rattle.definitions.proofs.Laws.Books.LeftOut.{left-reaches, next_more, spot-
 use Rattle.definitions.proofs.Laws.Books.Books.{Fits, node-started, test-started, roots_few, roomy}
 use Rattle.definitions.proofs.Laws.Books.Accepted.{roots-fit}
 use Rattle.definitions.proofs.Laws.Books.Ordered.{Ordered, ordered-none, ordered-first, ordered-more}
-use Rattle.booklines.specs.Laws.Judged.{no-header-fits}
+use Rattle.booklines.specs.Laws.Judged.{no_header_fits}
 use Rattle.booklines.specs.Laws.Boundaries.{PlainsLow}
 use Rattle.booklines.specs.Laws.States.{boundary-started}
 
@@ -50,7 +50,7 @@ pub kept-none : (lent : Lent) → Kept lent []
 unfolding header_of
 kept-none lent = record {
   in-range = λ l. absurd (omega arith);
-  wide = rw (no-header-fits lent) tt;
+  wide = rw (no_header_fits lent) tt;
   nodes = rw none-says.nodes-said (omega arith);
   plains = rw none-says.boundaries-said (λ b i. absurd i);
   roots = rw none-says.roots-said (no-roots-few _);

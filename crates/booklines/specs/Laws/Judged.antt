@@ -8,9 +8,9 @@ use Rattle.booklines.specs.declared.State.{State}
 use Rattle.booklines.specs.States.{follows_in}
 use Rattle.definitions.proofs.Laws.Lists.Tests.{T_and}
 
-pub no-header-fits : (lent : Lent) → wide_enough lent no_header ≡ true
+pub no_header_fits : (lent : Lent) → wide_enough lent no_header ≡ true
 unfolding wide_enough root_count
-no-header-fits lent =
+no_header_fits lent =
     rw (
       le-leb 0 lent.nodes (omega arith),
       le-leb 0 lent.classes (omega arith),
@@ -18,8 +18,8 @@ no-header-fits lent =
     )
     (le-leb 0 lent.plains (omega arith))
 
-pub root-after-header : (s : State) (phone state root : ℕ) → T (follows_in s (R phone state root))
+pub root_after_header : (s : State) (phone state root : ℕ) → T (follows_in s (R phone state root))
     → 0 < s.lines
 unfolding follows_in
-root-after-header s phone state root h =
+root_after_header s phone state root h =
     ltb→lt 0 s.lines ((T_and (ltb 0 s.lines) (eqb s.nodes s.header.nodes)).0 h).0

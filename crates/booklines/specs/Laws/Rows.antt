@@ -5,9 +5,9 @@ use Rattle.lines.specs.declared.Row.{Row}
 use Rattle.lines.specs.Rows.{line_in, row_of}
 use Rattle.lines.specs.Laws.Rows.{number_read}
 
-pub row-says : (row : Row) → row ≡ row_of (line_in row)
+pub row_says : (row : Row) → row ≡ row_of (line_in row)
     → book_line (line_in row) ≡ book_line (record { letter = row.letter; numbers = row.numbers })
 unfolding book_line line_in
-row-says row e =
+row_says row e =
     let same = number_read row e in
     rw (← same 0, ← same 1, ← same 2, ← same 3, ← same 4)

@@ -1,6 +1,6 @@
 -- Laws about the state: the tests that are put by it are those of documents 01 and 02 after the lines taken so
 -- far, and after one more line it is again what is kept of the lines.
-use Rattle.std.specs.Prelude.{◌≡◌, refl, List, [], ◌∷◌, ◌++◌, map, not, ℕ, suc, ◌+◌, ◌<◌, T, leb, ltb, eqb, length}
+use Rattle.std.specs.Prelude.{◌≡◌, refl, Some, List, [], ◌∷◌, ◌++◌, map, not, ℕ, suc, ◌+◌, ◌<◌, T, leb, ltb, eqb, length}
 use Rattle.std.proofs.Common.{sym, ap₂, ◌∙◌, append-nil, add-one, arith, ltb→lt, eqb→eq, length-append}
 use Rattle.std.proofs.Math.Path.{ap}
 use Rattle.std.proofs.lemmas.List.{map-append}
@@ -26,7 +26,6 @@ use Rattle.definitions.proofs.Laws.Books.SaidLines.{header-parts, none-says, lin
 use Rattle.definitions.proofs.Laws.Books.LeftOut.{next_more}
 use Rattle.definitions.proofs.Laws.Books.Books.{node-started, test-started}
 use Rattle.booklines.specs.Laws.Boundaries.{set_of-snoc, has-boundary, left-out-agrees, PlainsLow, sets-chained}
-use Rattle.booklines.specs.declared.Last.TheVariants as last
 
 -- ---- the tests
 
@@ -99,7 +98,7 @@ chained-state before low = ap not (sets-chained (boundaries_of before) low)
 -- ---- the state after one more line
 
 last_snoc : (members : List Member) (m : Member)
-    → last_of (members ++ (m ∷ [])) ≡ last.Member m.class m.phone
+    → last_of (members ++ (m ∷ [])) ≡ Some (record { class = m.class; phone = m.phone })
 unfolding last_of
 last_snoc [] m = refl
 last_snoc (a ∷ []) m = refl
@@ -208,7 +207,7 @@ member-state : (before : List BookLine) (class phone : ℕ) → 0 < length befor
 unfolding next_state state_of member_in node_line_in boundary_in root_in
 member-state before class phone started =
     let line : BookLine = Q class phone in
-    let newest : last_of (members_of (before ++ (line ∷ []))) ≡ last.Member class phone =
+    let newest : last_of (members_of (before ++ (line ∷ []))) ≡ Some (record { class = class; phone = phone }) =
     ap last_of (members-more before line) ∙ last_snoc (members_of before) _ in
     same-state (record {
       lines = lines_more before line;

@@ -1,12 +1,12 @@
 -- Laws about the B lines: the next one, where a word names a plain phone, and how many there are at most.
-use Rattle.std.specs.Prelude.{◌≡◌, List, [], ◌∷◌, ◌++◌, true, false, ℕ, suc, ◌+◌, ◌≤◌, ◌<◌, eqb, length, drop}
+use Rattle.std.specs.Prelude.{◌≡◌, refl, List, [], ◌∷◌, ◌++◌, true, false, ℕ, suc, ◌+◌, ◌≤◌, ◌<◌, eqb, length, drop}
 use Rattle.std.proofs.Common.{ap, ◌∙◌, add-one, arith, drop_of_length-le, drop-cons}
 use Rattle.definitions.specs.Lists.{◌!◌}
 use Rattle.definitions.specs.BookLines.{B}
 use Rattle.definitions.specs.BookText.{book_line_for, boundaries_from}
 use Rattle.definitions.proofs.Laws.Lists.Tests.{by-test}
 use Rattle.booktext.specs.Parts.{boundary_lines}
-use Rattle.booktext.specs.Laws.Putting.{Next}
+use Rattle.booktext.specs.Laws.Putting.{Next, Places}
 
 -- the line of one word, if it is a plain phone
 pub no-boundary-line : (phone plain : ℕ) → eqb plain 0 ≡ true → boundary_lines phone (plain ∷ []) ≡ []
@@ -33,9 +33,19 @@ boundaries-next i plains h =
           ∙ boundary-first (i + 1) (plains ! i) (drop (suc i) plains) ∙ rw (add-one i, add-one (suc i));
     }
 
-pub boundaries-end : (i : ℕ) (plains : List ℕ) → length plains ≤ i → boundary_lines (i + 1) (drop i plains) ≡ []
+pub boundaries-end : (plains : List ℕ) → boundary_lines (length plains + 1) (drop (length plains) plains) ≡ []
 unfolding boundaries_from
-boundaries-end i plains h = rw (drop_of_length-le plains {i = i} h)
+boundaries-end plains = rw (drop_of_length-le plains {i = length plains} (omega arith))
+
+abbrev pub boundaries : (plains : List ℕ) → Places (length plains) (boundary_lines 1 plains)
+boundaries plains =
+    record {
+      at = λ i. boundary_lines (i + 1) ((plains ! i) ∷ []);
+      rest = λ i. boundary_lines (i + 1) (drop i plains);
+      starts = refl;
+      next = λ i. boundaries-next i plains;
+      ends = boundaries-end plains;
+    }
 
 pub boundaries-most : (phone : ℕ) (plains : List ℕ) → length (boundary_lines phone plains) ≤ length plains
 unfolding boundaries_from

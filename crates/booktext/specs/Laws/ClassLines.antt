@@ -1,6 +1,7 @@
 -- Laws about the Q lines of classes: the next of a class, the next class, and how many there are.
 use Rattle.std.specs.Prelude.{◌≡◌, List, [], ◌∷◌, ◌++◌, map, Bool, ℕ, suc, ◌+◌, ◌-◌, ◌*◌, ◌≤◌, ◌<◌, length, drop}
 use Rattle.std.proofs.Common.{ap, ◌∙◌, mul-suc, add-one, arith, length-append, drop_of_length-le, drop-cons}
+use native.Mathlib.Nat.{sub-zero}
 use Rattle.std.proofs.lemmas.List.{map-append, length-map}
 use Rattle.std.proofs.lemmas.Simd.{map-map}
 use Rattle.definitions.specs.Lists.{◌!◌, select, up_from}
@@ -12,7 +13,7 @@ use Rattle.definitions.proofs.Laws.Lists.Tests.{by-test}
 use Rattle.definitions.proofs.Laws.Lists.Lists.{up_from-length}
 use Rattle.definitions.proofs.Laws.Lists.Selected.{select-append}
 use Rattle.booktext.specs.Parts.{member_lines, class_lines}
-use Rattle.booktext.specs.Laws.Putting.{Next}
+use Rattle.booktext.specs.Laws.Putting.{Next, Places}
 
 -- ---- the Q lines of a class
 
@@ -23,10 +24,9 @@ member-first class set phone phones =
     ap (map (λ p. book_line_for (Q class p))) (select-append (λ p. has p set) (phone ∷ []) phones)
     ∙ map-append (λ p. book_line_for (Q class p)) (select (λ p. has p set) (phone ∷ [])) _
 
-module _ (class set phone phones : ℕ) where
-  -- those after a phone
-  abbrev pub members-after : List Line
-  members-after = member_lines class set (up_from (phone + 1) (phones - phone))
+-- those after a phone
+abbrev pub members-after : (class set phone phones : ℕ) → List Line
+members-after class set phone phones = member_lines class set (up_from (phone + 1) (phones - phone))
 
 pub members-next : (class set phone phones : ℕ) → phone < phones
     → Next (members-after class set phone phones) (member_lines class set ((phone + 1) ∷ []))
@@ -40,9 +40,20 @@ members-next class set phone phones h =
           (member-first class set (phone + 1) (up_from (suc (phone + 1)) (phones - (phone + 1))));
     }
 
-pub members-end : (class set phone phones : ℕ) → phones ≤ phone → members-after class set phone phones ≡ []
+pub members-end : (class set places phones : ℕ) → places ≡ phones → members-after class set places phones ≡ []
 unfolding up_from select
-members-end class set phone phones h = let none : phones - phone ≡ 0 = omega arith in rw none
+members-end class set places phones e = let none : phones - places ≡ 0 = omega arith in rw none
+
+abbrev pub members : (class set places phones : ℕ) → places ≡ phones
+    → Places places (member_lines class set (up_from 1 phones))
+members class set places phones e =
+    record {
+      at = λ i. member_lines class set ((i + 1) ∷ []);
+      rest = λ i. members-after class set i phones;
+      starts = rw sub-zero;
+      next = λ i h. members-next class set i phones (omega arith);
+      ends = members-end class set places phones e;
+    }
 
 select-few : (test : ℕ → Bool) (l : List ℕ) → length (select test l) ≤ length l
 unfolding select

@@ -1,12 +1,12 @@
 -- Laws about the R lines: the next one, where there is a root, and how many there are at most.
-use Rattle.std.specs.Prelude.{◌≡◌, List, [], ◌∷◌, ◌++◌, true, false, ℕ, suc, ◌+◌, ◌/◌, ◌%◌, ◌≤◌, ◌<◌, eqb, length, drop}
+use Rattle.std.specs.Prelude.{◌≡◌, refl, List, [], ◌∷◌, ◌++◌, true, false, ℕ, suc, ◌+◌, ◌/◌, ◌%◌, ◌≤◌, ◌<◌, eqb, length, drop}
 use Rattle.std.proofs.Common.{ap, ◌∙◌, add-one, arith, drop_of_length-le, drop-cons}
 use Rattle.definitions.specs.Lists.{◌!◌}
 use Rattle.definitions.specs.BookLines.{R, no_root}
 use Rattle.definitions.specs.BookText.{book_line_for, roots_listed}
 use Rattle.definitions.proofs.Laws.Lists.Tests.{by-test}
 use Rattle.booktext.specs.Parts.{root_lines}
-use Rattle.booktext.specs.Laws.Putting.{Next}
+use Rattle.booktext.specs.Laws.Putting.{Next, Places}
 
 -- the line of one word, if it is a root
 pub no-root-line : (states at word : ℕ) → eqb word no_root ≡ true → root_lines states at (word ∷ []) ≡ []
@@ -32,9 +32,19 @@ roots-next states i roots h =
           ∙ rw (add-one i);
     }
 
-pub roots-end : (states i : ℕ) (roots : List ℕ) → length roots ≤ i → root_lines states i (drop i roots) ≡ []
+pub roots-end : (states : ℕ) (roots : List ℕ) → root_lines states (length roots) (drop (length roots) roots) ≡ []
 unfolding roots_listed
-roots-end states i roots h = rw (drop_of_length-le roots {i = i} h)
+roots-end states roots = rw (drop_of_length-le roots {i = length roots} (omega arith))
+
+abbrev pub roots_written : (states : ℕ) (roots : List ℕ) → Places (length roots) (root_lines states 0 roots)
+roots_written states roots =
+    record {
+      at = λ i. root_lines states i ((roots ! i) ∷ []);
+      rest = λ i. root_lines states i (drop i roots);
+      starts = refl;
+      next = λ i. roots-next states i roots;
+      ends = roots-end states roots;
+    }
 
 pub roots-most : (states at : ℕ) (roots : List ℕ) → length (root_lines states at roots) ≤ length roots
 unfolding roots_listed

@@ -1,14 +1,15 @@
 -- Laws about one combination added: the words of its record, by place, and the record put after the used ones
 -- of the space, or left out where there is no room.
-use Rattle.std.specs.Prelude.{◌≡◌, refl, drop}
+use Rattle.std.specs.Prelude.{Ok, Err, ◌≡◌, refl, drop, set}
 use Rattle.std.proofs.Math.Path.{sym, ap, ap₂, subst}
-use Rattle.std.proofs.Common.{◌∙◌, arith, length-take-le, get_or-append-add}
+use Rattle.std.proofs.Common.{◌∙◌, arith, length-take-le}
 use mathlib.Core.List.{List, [], ◌∷◌, ◌++◌, append_assoc, append-nil}
 use Prim.Native.Nat.{ℕ, suc, ◌+◌, ◌-◌, ◌*◌, ◌≤◌, ◌<◌}
-use Rattle.std.proofs.Math.ListN.{length, take, length-append, get_or-append}
-use Rattle.std.proofs.Math.Seq.{drop_at, take-append-add}
+use Rattle.std.proofs.Math.ListN.{length, take, length-append}
+use Rattle.std.proofs.Math.Seq.{take-append-add}
+use Rattle.std.proofs.lemmas.List.{length-drop, set_split, drop_all, take_at, drop_at}
 use borrow.Rule.Slice.PartMut.{put_mid}
-use Rattle.definitions.specs.Lists.{◌!◌, concat_map, cleared, padded}
+use Rattle.definitions.specs.Lists.{concat_map, cleared, padded}
 use Rattle.definitions.specs.Matrices.{most_columns, matrix_size}
 use Rattle.definitions.specs.declared.Fault.TheVariants.{Choices}
 use Rattle.definitions.specs.Combinations.{Combination, combination_size, combination_words, combination_room}
@@ -17,9 +18,7 @@ use Rattle.definitions.proofs.Laws.Lists.Records.{record-within}
 use Rattle.definitions.proofs.Laws.Matrices.Sizes.{words-few, value-record}
 use Rattle.matrix.specs.Shapes.{width_of}
 use Rattle.matrix.specs.Laws.Widths.{width-taken}
-use Rattle.matrix.specs.Laws.Words.{after-number}
 use Rattle.choices.specs.declared.Choice.{Choice}
-use Rattle.choices.specs.declared.Adding.TheVariants as adding
 use Rattle.choices.specs.Choices.{Chosen, matrix_met, combination_of}
 use Rattle.choices.specs.Space.{Holding, Added}
 use Rattle.choices.specs.Laws.Grown.{grown-counted, grown-stopped}
@@ -29,20 +28,6 @@ use Rattle.choices.specs.Laws.Grown.{grown-counted, grown-stopped}
 module _ (phone : ℕ) (leaves columns : List ℕ) (three : length leaves ≡ 3) where
   pub row-length : length columns ≡ most_columns → length (phone ∷ (leaves ++ columns)) ≡ 4 + most_columns
   row-length seven = simp length-append (omega arith)
-
-  pub word-leaf : (place : ℕ) → (place ≡ 0 → ⊥) → place < 4
-      → leaves ! (place - 1) ≡ (phone ∷ (leaves ++ columns)) ! place
-  word-leaf place n h =
-      sym (get_or-append leaves columns 0 (place - 1) (omega arith))
-      ∙ after-number phone (leaves ++ columns) place n
-
-  pub word-column : (place : ℕ) → 4 ≤ place
-      → columns ! (place - 4) ≡ (phone ∷ (leaves ++ columns)) ! place
-  word-column place h =
-      let at : length leaves + (place - 4) ≡ place - 1 = omega arith in
-      sym (get_or-append-add leaves columns (place - 4) 0)
-      ∙ ap (λ (i : ℕ). (leaves ++ columns) ! i) at
-      ∙ after-number phone (leaves ++ columns) place (λ e. omega arith)
 
 -- ---- the record in the space
 
@@ -56,11 +41,38 @@ cut-after : (leaves columns : List ℕ) (n : ℕ) → length leaves ≡ 3
 cut-after leaves columns n e =
     ap (λ (k : ℕ). take (k + n) (leaves ++ columns)) (sym e) ∙ take-append-add leaves columns n
 
+-- written one after the other
+module _ (phone : ℕ) (leaves columns words : List ℕ) (three : length leaves ≡ 3) (h : 4 ≤ length words) where
+  abbrev left : List ℕ
+  left = drop 3 (drop 1 words)
+
+  first-put : set words 0 phone ≡ phone ∷ drop 1 words
+  first-put = set_split words 0 phone (omega arith)
+
+  leaves-put : put_mid 1 3 (set words 0 phone) leaves ≡ phone ∷ (leaves ++ left)
+  leaves-put = rw first-put
+
+  pub row-written : put_mid 4 (length (put_mid 1 3 (set words 0 phone) leaves) - 4)
+      (put_mid 1 3 (set words 0 phone) leaves) (take (length words - 4) columns)
+      ≡ take (length words) (phone ∷ (leaves ++ columns))
+  row-written =
+      let n : ℕ = length words - 4 in
+      let k : ℕ = length (put_mid 1 3 (set words 0 phone) leaves) - 4 in
+      let sized : length (put_mid 1 3 (set words 0 phone) leaves) ≡ length words =
+      ap length leaves-put ∙ simp (length-append, length-drop) (omega (arith, three, h)) in
+      let long : length words ≡ 4 + n = omega (arith, h) in
+      let none : drop k left ≡ [] = drop_all k left (simp length-drop (omega (arith, sized))) in
+      let written : put_mid 4 k (phone ∷ (leaves ++ left)) (take n columns) ≡ phone ∷ (leaves ++ take n columns) =
+      rw (take_at leaves left 3 three, drop_at leaves left 3 three, none, append-nil) in
+      ap (λ (l : List ℕ). put_mid 4 k l (take n columns)) leaves-put ∙ written
+      ∙ sym (ap (λ (m : ℕ). take m (phone ∷ (leaves ++ columns))) long ∙ cut-first phone (leaves ++ columns) n
+      ∙ ap (λ (l : List ℕ). phone ∷ l) (cut-after leaves columns n three))
+
 module _ {half : ℕ} {space : List ℕ} {count : ℕ} (h : Holding half space count) (choice : Choice) where
   abbrev new : List Combination
   new = combination_of (width_of half) choice ∷ []
 
-  pub added_none : combination_room half (length space) ≤ count → Added half space count new (adding.Stop Choices) space
+  pub added_none : combination_room half (length space) ≤ count → Added half space count new (Err Choices) space
   added_none full = grown-stopped new (omega arith) refl
 
   -- the record stands within the space
@@ -136,7 +148,7 @@ module _ {half : ℕ} {space : List ℕ} {count : ℕ} (h : Holding half space c
     unfolding padded
     after-all = ap (λ (l : List ℕ). used ++ (part ++ l)) after ∙ sym (append_assoc used part _)
 
-    pub added-put : Added half space count new (adding.Count (count + 1)) (put_mid at (at + size - at) space part)
+    pub added-put : Added half space count new (Ok (count + 1)) (put_mid at (at + size - at) space part)
     added-put =
         let sized =
         ap length after-all

@@ -1,12 +1,12 @@
 -- Laws about the combinations that begin with a choice: a leaf that does not meet it validly gives none, so the
 -- search may pass it over; the others give theirs one after the other. The loop over a tree's leaves, and the
 -- choice that has one leaf more, use them.
-use Rattle.std.specs.Prelude.{◌≡◌, refl, true, false, not, T, eqb, take, get_or}
+use Rattle.std.specs.Prelude.{Result, Ok, Err, ◌≡◌, refl, true, false, not, T, eqb, take, get_or}
 use Rattle.std.proofs.Common.{sym, ◌∙◌, subst, add-one, arith, take-append-drop, take-suc, take-add, take_all, get_or-take, get_or-drop, take-suc-set, eqb-true}
 use Rattle.std.proofs.Math.Path.{ap, ap₂}
 use mathlib.Core.List.{List, [], ◌∷◌, ◌++◌, append-nil}
 use Rattle.std.proofs.Math.Bool.{and-false}
-use Prim.Native.Nat.{ℕ, zero, suc, ◌+◌, ◌-◌, ◌/◌, ◌≤◌, ◌<◌}
+use Prim.Native.Nat.{ℕ, zero, suc, ◌+◌, ◌-◌, ◌≤◌, ◌<◌}
 use Rattle.std.proofs.Math.Nat.{suc_inj}
 use Rattle.std.specs.Int.Bits.{bit_and}
 use Rattle.std.proofs.Math.ListN.{length, drop, length-append, length-take}
@@ -21,16 +21,14 @@ use Rattle.definitions.proofs.Laws.Lists.Lists.{concat_map-append, concat_map-sn
 use Rattle.definitions.proofs.Laws.Lists.Members.{in-at}
 use Rattle.definitions.proofs.Laws.Matrices.Matrices.{meet-length}
 use Rattle.matrix.specs.Laws.Widths.{width-taken, met-matrix, met-width}
-use Rattle.leafsets.specs.Leaves.{leaves_in, leaf_size}
+use Rattle.leafsets.specs.Leaves.{leaves_in}
 use Rattle.choices.specs.declared.Choice.{Choice}
-use Rattle.choices.specs.declared.Adding.{Adding}
-use Rattle.choices.specs.declared.Adding.TheVariants as adding
 use Rattle.choices.specs.Choices.{Chosen, Choosable, FirstFit, leaves_taken, matrix_met, combination_of}
 use Rattle.choices.specs.Choices.{trees_in, chosen_from, no_leaf, fits_at, WithLeaf}
 use Rattle.choices.specs.Space.{Holding, Added}
 use Rattle.choices.specs.Laws.Grown.{Sized, choose-sized, grown-none, grown-over, grown-holding}
 use Rattle.choices.specs.Laws.Grown.{grown-then}
-use Rattle.choices.specs.Laws.LeafLists.{leaves-length, leaf-width, Wide, list-wide}
+use Rattle.choices.specs.Laws.LeafLists.{leaf-width, Wide, list-wide}
 
 -- ---- a matrix that is not valid gives none
 
@@ -231,6 +229,15 @@ given_before width trees first second third choice place =
     concat_map (leaf_gives width trees second third choice) (take place (leaves_in width first))
 
 -- these leaves have given theirs, and there was room for them
+pub record Given (half width trees : ℕ) (first second third : List ℕ) (choice : Choice) (before : List ℕ)
+    (count : ℕ) (space : List ℕ) (total from : ℕ) : Type 0 where
+  pub begins : Beginning half width trees first second third choice
+  pub holding : Holding half before count
+  pub within : from ≤ length (leaves_in width first)
+  pub grown : Added half before count (given_before width trees first second third choice from)
+      (Ok total) space
+
+-- and the leaf at the place fits
 pub record Choosing (half width trees : ℕ) (first second third : List ℕ) (choice : Choice) (before : List ℕ)
     (count : ℕ) (space : List ℕ) (total place : ℕ) : Type 0 where
   pub begins : Beginning half width trees first second third choice
@@ -239,20 +246,27 @@ pub record Choosing (half width trees : ℕ) (first second third : List ℕ) (ch
   pub found : place < length (leaves_in width first)
       → fits_at (matrix_met width choice) (leaves_in width first) place ≡ true
   pub grown : Added half before count (given_before width trees first second third choice place)
-      (adding.Count total) space
+      (Ok total) space
 
 module _ {half width trees : ℕ} {first second third : List ℕ} {choice : Choice} {before : List ℕ} {count : ℕ} where
-  pub choosing-start : Beginning half width trees first second third choice → Holding half before count → {place : ℕ}
-      → FirstFit (matrix_met width choice) (leaves_in width first) 0 place
-      → Choosing half width trees first second third choice before count before count place
+  -- from 0 on
+  pub given-none : Beginning half width trees first second third choice → Holding half before count
+      → Given half width trees first second third choice before count before count 0
   unfolding concat_map
-  choosing-start b h fit = record {
-    begins = b;
-    holding = h;
+  given-none b h = record { begins = b; holding = h; within = omega arith; grown = grown-none h }
+
+  -- the leaves up to the next that fits give none
+  pub given-fit : {space : List ℕ} {total from place : ℕ}
+      → Given half width trees first second third choice before count space total from
+      → FirstFit (matrix_met width choice) (leaves_in width first) from place
+      → Choosing half width trees first second third choice before count space total place
+  given-fit g fit = record {
+    begins = g.begins;
+    holding = g.holding;
     within = fit.none.within;
     found = fit.found;
     grown =
-        rw (passed_over _ _ (leaf_gives width trees second third choice) (gives_none b) fit) (grown-none h);
+        rw (passed_over _ _ (leaf_gives width trees second third choice) (gives_none g.begins) fit) g.grown;
   }
 
   module _ {space : List ℕ} {total place : ℕ}
@@ -263,17 +277,12 @@ module _ {half width trees : ℕ} {first second third : List ℕ} {choice : Choi
     abbrev done : (place : ℕ) → List Combination
     done place = given_before width trees first second third choice place
 
-    pub choosing-end : length first / leaf_size ≤ place
+    pub choosing-end : length all ≤ place
         → Added half before count (chosen_from width trees first second third choice)
-        (adding.Count total) space
-    choosing-end h =
-        let every-leaf : length all ≤ place = rw leaves-length h in
-        rw (all-given inv.begins) (rw (take_all place all every-leaf) at inv.grown)
+        (Ok total) space
+    choosing-end h = rw (all-given inv.begins) (rw (take_all place all h) at inv.grown)
 
     -- a turn
-    pub choosing-inside : place < length first / leaf_size → place < length all
-    choosing-inside h = rw leaves-length h
-
     pub choosing-holding : Holding half space total
     choosing-holding =
         grown-holding inv.holding (done place) inv.grown refl
@@ -303,7 +312,7 @@ module _ {half width trees : ℕ} {first second third : List ℕ} {choice : Choi
           let matrix = next-matrix b.asked.chosen b.three more first inside w in
           rw (w.0, leaves, matrix)
 
-      module _ {after : List ℕ} {answer : Adding}
+      module _ {after : List ℕ} {answer : Result ℕ Fault}
           (g : Added half space total (chosen_from width (trees - 1) second third third next) answer after) where
         one_more : Added half before count (done (place + 1)) answer after
         one_more =
@@ -312,9 +321,9 @@ module _ {half width trees : ℕ} {first second third : List ℕ} {choice : Choi
             (gives-sized inv.begins (take place all)) _ g)
 
         -- no room
-        pub choosing-over : {fault : Fault} → answer ≡ adding.Stop fault
+        pub choosing-over : {fault : Fault} → answer ≡ Err fault
             → Added half before count (chosen_from width trees first second third choice)
-            (adding.Stop fault) after
+            (Err fault) after
         choosing-over stops =
             let gives = leaf_gives width trees second third choice in
             let left : List Leaf = drop (place + 1) all in
@@ -324,16 +333,13 @@ module _ {half width trees : ℕ} {first second third : List ℕ} {choice : Choi
             ∙ concat_map-append gives (take (place + 1) all) left in
             rw whole (grown-over inv.holding (done (place + 1)) one_more stops (concat_map gives left))
 
-        pub choosing-again : {sum : ℕ} → answer ≡ adding.Count sum → {last : ℕ}
-            → FirstFit (matrix_met width choice) all (place + 1) last
-            → Choosing half width trees first second third choice before count after sum last
-        choosing-again counts fit = record {
+        pub choosing-again : {sum : ℕ} → answer ≡ Ok sum
+            → Given half width trees first second third choice before count after sum (place + 1)
+        choosing-again counts = record {
           begins = inv.begins;
           holding = inv.holding;
-          within = fit.none.within;
-          found = fit.found;
+          within = omega (arith, inside);
           grown =
-              rw (passed_over _ _ (leaf_gives width trees second third choice) (gives_none inv.begins) fit)
-              (subst (λ (a : Adding). Added half before count (done (place + 1)) a after)
-              counts one_more);
+              subst (λ (a : Result ℕ Fault). Added half before count (done (place + 1)) a after)
+              counts one_more;
         }

@@ -1,6 +1,6 @@
 -- Laws about combinations added to lent space: none, more after some that had room, and more after some that
 -- had not. The loops that add them use these.
-use Rattle.std.specs.Prelude.{◌≡◌, refl, ◌⊎◌, ℕ, ◌+◌, ◌*◌, ◌≤◌, ◌<◌, leb, take}
+use Rattle.std.specs.Prelude.{Result, Ok, Err, ◌≡◌, refl, ◌⊎◌, ℕ, ◌+◌, ◌*◌, ◌≤◌, ◌<◌, leb, take}
 use Rattle.std.proofs.Common.{sym, ◌∙◌, ⊎_elim, mul-zero, mul-one, mul-add, arith, length-take-le, leb-true, leb-false}
 use Rattle.std.proofs.Math.Path.{ap}
 use Rattle.std.proofs.Math.Logic.{inl, inr}
@@ -19,8 +19,6 @@ use Rattle.definitions.proofs.Laws.Text.Judging.{refused-not-answered}
 use Rattle.definitions.proofs.Laws.Lists.Tests.{by-test}
 use Rattle.definitions.proofs.Laws.Lists.Lists.{concat_map-append, padded-length, padded-take}
 use Rattle.definitions.proofs.Laws.Lists.Records.{records-within}
-use Rattle.choices.specs.declared.Adding.{Adding}
-use Rattle.choices.specs.declared.Adding.TheVariants as adding
 use Rattle.choices.specs.Space.{Holding, added_in, adding_of, Added}
 
 -- combinations whose records have the words that a record of the book has
@@ -87,14 +85,14 @@ room-words half count space h = records-within (combination_size half) count (om
 
 -- an answer stands for its outcome
 adding-count : (count total : ℕ) (outcome : Outcome (List Combination))
-    → adding.Count total ≡ adding_of count outcome
+    → Ok total ≡ adding_of count outcome
     → (new : List Combination) × (outcome ≡ answered new) × (total ≡ count + length new)
 unfolding adding_of
 adding-count count total (answered new) e = (new, refl, cc)
 adding-count count total (refused r) e = let z : ◌≡◌ {A = ℕ} 0 1 = cc in absurd (omega arith)
 
 adding-stop : (count : ℕ) (fault : Fault) (outcome : Outcome (List Combination))
-    → adding.Stop fault ≡ adding_of count outcome → (r : Refusal) × (outcome ≡ refused r) × (r.fault ≡ fault)
+    → Err fault ≡ adding_of count outcome → (r : Refusal) × (outcome ≡ refused r) × (r.fault ≡ fault)
 unfolding adding_of
 adding-stop count fault (refused r) e = (r, refl, cc)
 adding-stop count fault (answered new) e = let z : ◌≡◌ {A = ℕ} 0 1 = cc in absurd (omega arith)
@@ -137,7 +135,7 @@ module _ {half : ℕ} {before after : List ℕ} {count : ℕ} (new : List Combin
       → after ≡ padded (length before)
       (take (combination_size half * count) before ++ concat_map (combination_words half) new)
       → length after ≡ length before
-      → Added half before count new (adding.Count total) after
+      → Added half before count new (Ok total) after
   unfolding adding_of
   grown-counted {total} all fit words sized =
       let is = (fits half (length before) count new (omega arith)).1 in record {
@@ -151,7 +149,7 @@ module _ {half : ℕ} {before after : List ℕ} {count : ℕ} (new : List Combin
       }
 
   pub grown-stopped : combination_room half (length before) < count + length new → length after ≡ length before
-      → Added half before count new (adding.Stop Choices) after
+      → Added half before count new (Err Choices) after
   unfolding adding_of
   grown-stopped over sized =
       let is = (exceeds half (length before) count new over).1 in record {
@@ -167,16 +165,16 @@ holding-none half before e = record { roomy = omega arith; rest = rw (mul-zero (
 
 -- none
 pub grown-none : {half : ℕ} {space : List ℕ} {count : ℕ} → Holding half space count
-    → Added half space count [] (adding.Count count) space
+    → Added half space count [] (Ok count) space
 unfolding concat_map
 grown-none {half} {space} {count} h =
     grown-counted [] (omega arith) h.roomy
     (h.rest ∙ ap (padded (length space)) (sym (append-nil (take (combination_size half * count) space)))) refl
 
-module _ {half : ℕ} {before after : List ℕ} {count : ℕ} {answer : Adding} (h : Holding half before count)
+module _ {half : ℕ} {before after : List ℕ} {count : ℕ} {answer : Result ℕ Fault} (h : Holding half before count)
     (new : List Combination) (g : Added half before count new answer after) where
   -- that had no room, so more have none
-  module _ {fault : Fault} (a : answer ≡ adding.Stop fault) where
+  module _ {fault : Fault} (a : answer ≡ Err fault) where
     stopped : Exceeds half (length before) count new × (fault ≡ Choices)
     stopped =
         let (r, is, own) = adding-stop count fault (added_in half (length before) count new) (sym a ∙ g.answers) in
@@ -187,14 +185,14 @@ module _ {half : ℕ} {before after : List ℕ} {count : ℕ} {answer : Adding} 
     grown-refused = rw stopped.1 stopped.0.1
 
     pub grown-over : (more : List Combination)
-        → Added half before count (new ++ more) (adding.Stop fault) after
+        → Added half before count (new ++ more) (Err fault) after
     grown-over more =
         let longer : combination_room half (length before) < count + length (new ++ more) =
         rw length-append (omega (arith, stopped.0.0)) in
         rw stopped.1 (grown-stopped (new ++ more) longer g.sized)
 
   -- that had room
-  module _ {total : ℕ} (a : answer ≡ adding.Count total) where
+  module _ {total : ℕ} (a : answer ≡ Ok total) where
     counted : (total ≡ count + length new) × (total ≤ combination_room half (length before))
         × (added_in half (length before) count new ≡ answered new)
     counted =
@@ -238,13 +236,13 @@ module _ {half : ℕ} {before after : List ℕ} {count : ℕ} {answer : Adding} 
       }
 
       -- and more after them
-      module _ {last : List ℕ} {result : Adding} (more : List Combination)
+      module _ {last : List ℕ} {result : Result ℕ Fault} (more : List Combination)
           (next : Added half after total more result last) where
         then-stop : Exceeds half (length after) total more
             → Added half before count (new ++ more) result last
         unfolding adding_of
         then-stop over =
-            let stop : result ≡ adding.Stop Choices = next.answers ∙ rw over.1 in
+            let stop : result ≡ Err Choices = next.answers ∙ rw over.1 in
             let longer : combination_room half (length before) < count + length (new ++ more) =
             rw (length-append, ← g.sized) (omega (arith, over.0, grown-all)) in
             rw stop (grown-stopped (new ++ more) longer (next.sized ∙ g.sized))
@@ -255,7 +253,7 @@ module _ {half : ℕ} {before after : List ℕ} {count : ℕ} {answer : Adding} 
         then-count fit =
             let sum : total + length more ≡ count + length (new ++ more) =
             rw length-append (omega (arith, grown-all)) in
-            let stop : result ≡ adding.Count (total + length more) = next.answers ∙ rw fit.1 in
+            let stop : result ≡ Ok (total + length more) = next.answers ∙ rw fit.1 in
             rw stop (grown-counted (new ++ more) sum (rw (← g.sized) fit.0)
             (next.holds more fit.1
             ∙ rw (g.sized, kept, concat_map-append (combination_words half) new more, ← append_assoc))

@@ -1,6 +1,6 @@
 -- Laws about the combinations of phones added one phone after the other, and how many there are after each: the
 -- start, one phone more, no room, and the end. The loop over the phones uses them.
-use Rattle.std.specs.Prelude.{◌≡◌, refl, length, set}
+use Rattle.std.specs.Prelude.{Result, Ok, Err, ◌≡◌, refl, length, set}
 use Rattle.std.proofs.Math.Path.{sym, ap, subst}
 use Rattle.std.proofs.Common.{◌∙◌, zero-add}
 use mathlib.Core.List.{List, [], ◌∷◌, ◌++◌, map, append_assoc, map-append}
@@ -17,8 +17,6 @@ use Rattle.definitions.proofs.Laws.Lists.Lists.{concat_map-append, concat_map-sn
 use Rattle.definitions.proofs.Laws.Lists.Lists.{map-up_from-length, padded-length}
 use Rattle.definitions.proofs.Laws.Matrices.Sizes.{columns-held}
 use Rattle.definitions.proofs.Laws.Matrices.Matrices.{root-length}
-use Rattle.choices.specs.declared.Adding.{Adding}
-use Rattle.choices.specs.declared.Adding.TheVariants as adding
 use Rattle.choices.specs.Space.{Holding, Added}
 use Rattle.choices.specs.Laws.Grown.{Sized, sized-each, choose-sized, grown-none, grown-refused, grown-over}
 use Rattle.choices.specs.Laws.Grown.{grown-all, grown-within, grown-holding, grown-then}
@@ -73,7 +71,7 @@ pub record PhonesAdded (book : Book) (before : List ℕ) (phone : ℕ) (space en
   pub begins : Beginning book before
   pub low : 1 ≤ phone
   pub high : phone ≤ suc book.phones
-  pub grown : Added book.half before 0 (of_phones book (phone - 1)) (adding.Count count) space
+  pub grown : Added book.half before 0 (of_phones book (phone - 1)) (Ok count) space
   pub noted : ends ≡ padded 65 (map (end_of book) (up_from 0 phone))
 
 pub added-start : {book : Book} {before ends : List ℕ} → Beginning book before → Clear before ends
@@ -114,13 +112,13 @@ module _ {book : Book} {before : List ℕ} {phone : ℕ} {space ends : List ℕ}
         let many = map-up_from-length (end_of book) 0 phone in
         ap length s.noted ∙ padded-length 65 used (omega (arith, many, s.high, s.begins.most))
 
-    pub added-end : book.phones < phone → AllAdded book before (adding.Count count) space ends
+    pub added-end : book.phones < phone → AllAdded book before (Ok count) space ends
     unfolding combinations ends_of
     added-end h =
         let last : phone - 1 ≡ book.phones = omega (arith, s.high) in
         let all : phone ≡ suc book.phones = omega (arith, s.high) in record {
           grown =
-              subst (λ (n : ℕ). Added book.half before 0 (of_phones book n) (adding.Count count) space)
+              subst (λ (n : ℕ). Added book.half before 0 (of_phones book n) (Ok count) space)
               last s.grown;
           noted = λ found e. s.noted ∙ ap (λ (n : ℕ). padded 65 (map (end_of book) (up_from 0 n))) all;
         }
@@ -132,7 +130,7 @@ module _ {book : Book} {before : List ℕ} {phone : ℕ} {space ends : List ℕ}
     added-holding = grown-holding s.begins.none (of_phones book (phone - 1)) s.grown refl so-far-sized
 
     -- the combinations of one phone more
-    module _ (within : phone ≤ book.phones) {after : List ℕ} {answer : Adding}
+    module _ (within : phone ≤ book.phones) {after : List ℕ} {answer : Result ℕ Fault}
         (g : Added book.half space count (combinations_of book phone) answer after)
       where
         so_far : Added book.half before 0 (of_phones book phone) answer after
@@ -141,18 +139,18 @@ module _ {book : Book} {before : List ℕ} {phone : ℕ} {space ends : List ℕ}
             (of-more book phone s.low)
             (grown-then s.begins.none (of_phones book (phone - 1)) s.grown refl so-far-sized _ g)
 
-        pub added-over : {fault : Fault} → answer ≡ adding.Stop fault
-            → AllAdded book before (adding.Stop fault) after ends
+        pub added-over : {fault : Fault} → answer ≡ Err fault
+            → AllAdded book before (Err fault) after ends
         added-over {fault} stops =
-            let all : Added book.half before 0 (combinations book) (adding.Stop fault) after =
-            subst (λ (l : List Combination). Added book.half before 0 l (adding.Stop fault) after)
+            let all : Added book.half before 0 (combinations book) (Err fault) after =
+            subst (λ (l : List Combination). Added book.half before 0 l (Err fault) after)
             (of-all book phone within) (grown-over s.begins.none (of_phones book phone) so_far stops _) in
             let refused = grown-refused s.begins.none (combinations book) all refl in record {
               grown = all;
               noted = λ found k. absurd (refused-not-answered _ fault 0 found refused k);
             }
 
-        module _ {total : ℕ} (counts : answer ≡ adding.Count total) where
+        module _ {total : ℕ} (counts : answer ≡ Ok total) where
           pub added-few : total ≤ 65535
           added-few =
               room_most book.half (length before) total
@@ -172,7 +170,7 @@ module _ {book : Book} {before : List ℕ} {phone : ℕ} {space ends : List ℕ}
                 high = omega arith;
                 grown =
                     rw last
-                    (subst (λ (a : Adding). Added book.half before 0 (of_phones book phone) a after)
+                    (subst (λ (a : Result ℕ Fault). Added book.half before 0 (of_phones book phone) a after)
                     counts so_far);
                 noted =
                     rw (s.noted, p, q)

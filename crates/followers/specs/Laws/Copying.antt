@@ -3,7 +3,7 @@ use Rattle.std.specs.Prelude.{◌≡◌, List, [], ◌∷◌, ◌++◌, ℕ, ◌
 use Rattle.std.proofs.Common.{sym, ap, ap₂, ◌∙◌, append_assoc, append-nil, add-one, arith, length-append, length-drop, length-take-le, take-suc, take_all}
 use Rattle.std.proofs.lemmas.List.{length-map}
 use Rattle.std.proofs.Math.ListN.{get_or-append, get_or-map}
-use Rattle.definitions.specs.Lists.{◌!◌, concat_map, padded}
+use Rattle.definitions.specs.Lists.{concat_map, padded}
 use Rattle.definitions.specs.Arcs.{Arc, arc_size, arc_of, arc_words, arcs_in}
 use Rattle.definitions.proofs.Laws.Lists.Lists.{concat_map-snoc, padded-length, part_at}
 use Rattle.definitions.proofs.Laws.Networks.KnownNetworks.{arcs-length}
@@ -13,16 +13,7 @@ use Rattle.lines.specs.Laws.Putting.{put-after}
 use Rattle.arcs.specs.Laws.KnownArcs.{arc-at}
 use Rattle.arcs.specs.Whole.{arc_at}
 use Rattle.followers.specs.Spans.{leaving_from, copies_of}
-use Rattle.followers.specs.Repeating.{copy_words, with_copies, Copyable}
-
-copy-words : (from : ℕ) (words : List ℕ) (place : ℕ)
-    → copy_words from words place ≡ arc_words (leaving_from from (arc_at words place))
-unfolding arc_words leaving_from arc_of
-copy-words from words place =
-    let at : (j : ℕ) → j < arc_size
-    → words ! (arc_size * place + j) ≡ take arc_size (drop (arc_size * place) words) ! j =
-    λ j h. sym (part_at arc_size (arc_size * place) words j 0 h) in
-    λ i. from ∷ at 1 (omega arith) i ∷ at 2 (omega arith) i ∷ at 3 (omega arith) i ∷ []
+use Rattle.followers.specs.Repeating.{with_copies, Copyable}
 
 -- words after `i` of the copies were appended
 pub record Copied (arcs₀ : List ℕ) (count first many from : ℕ) (arcs : List ℕ) (i : ℕ) : Type 0 where
@@ -88,7 +79,7 @@ module _ {arcs₀ : List ℕ} {count first many : ℕ} (s : Copyable arcs₀ cou
         (part_at many first old i (arc_of []) h ∙ still (first + i) (omega (arith, h, s.within)))
 
     pub copied_more : {arcs' : List ℕ} → i < many
-        → arcs' ≡ put_at (arc_size * (count + i)) (copy_words from arcs (first + i)) arcs
+        → arcs' ≡ put_at (arc_size * (count + i)) (arc_words (leaving_from from (arc_at arcs (first + i)))) arcs
         → Copied arcs₀ count first many from arcs' (i + 1)
     copied_more h e =
         let a : Arc = get_or copies i (leaving_from from (arc_of [])) in
@@ -103,7 +94,7 @@ module _ {arcs₀ : List ℕ} {count first many : ℕ} (s : Copyable arcs₀ cou
           words =
               e
               ∙ ap (λ (l : List ℕ). put_at (arc_size * (count + i)) l arcs)
-              (copy-words from arcs (first + i) ∙ ap arc_words (sym (next-copy h)))
+              (ap arc_words (sym (next-copy h)))
               ∙ ap₂ (λ (n : ℕ) (l : List ℕ). put_at n words l) (sym used) c.words
               ∙ put-after (length arcs₀) (concat_map arc_words now) words
               ∙ ap (padded (length arcs₀))

@@ -1,6 +1,6 @@
 -- Laws about appending the arcs to followers: what holds before each, and what a refusal or the last leaves.
 -- The idea: what is still to be performed, from the network so far, leads to the same as all from the first.
-use Rattle.std.specs.Prelude.{◌≡◌, refl, List, true, ℕ, suc, ◌+◌, ◌≤◌, ◌<◌, length}
+use Rattle.std.specs.Prelude.{◌≡◌, refl, List, true, ℕ, suc, ◌+◌, ◌≤◌, ◌<◌, length, Result, Ok, Err}
 use Rattle.std.proofs.Common.{sym, ◌∙◌, add-one}
 use Rattle.std.proofs.Math.Path.{ap, subst}
 use Rattle.definitions.specs.declared.Fault.{Fault}
@@ -18,8 +18,6 @@ use Rattle.index.specs.Following.{follows_at, NextFollower}
 use Rattle.index.specs.Seeking.{Seeking}
 use Rattle.index.specs.Laws.Followers.{followers_at, followers-skip, followers-found, followers-out}
 use Rattle.growing.specs.declared.Sizes.{Sizes}
-use Rattle.growing.specs.declared.Step.{Step}
-use Rattle.growing.specs.declared.Step.TheVariants as step
 use Rattle.growing.specs.Kept.{Kept}
 use Rattle.growing.specs.Steps as growing
 use Rattle.growing.specs.Laws.Steps.{next-answered, stop-refused}
@@ -123,7 +121,7 @@ module _ {header : Header} {nodes words columns : List ℕ} {from : ℕ} {metast
     answers-same e = cc
 
     pub followed-end : length cs ≤ number
-        → StepLeft header words metastates₀ arcs₀ chains₀ all (step.Next sizes) metastates arcs chains
+        → StepLeft header words metastates₀ arcs₀ chains₀ all (Ok sizes) metastates arcs chains
     unfolding perform_all
     followed-end h =
         let done : onward (followers_at (matrix_in header.half columns) cs number) now ≡ answered now =
@@ -153,7 +151,7 @@ module _ {header : Header} {nodes words columns : List ℕ} {from : ℕ} {metast
           ap (λ l. onward l now) (followers-found (matrix_in header.half columns) cs number t.found h)
           ∙ rw (e, ← m)
 
-      module _ {answer : Step} {metastates' arcs' chains' : List ℕ}
+      module _ {answer : Result Sizes Fault} {metastates' arcs' chains' : List ℕ}
           (left : StepLeft header words metastates arcs chains (entered_in (room_of header.half metastates arcs))
           answer metastates' arcs' chains')
         where
@@ -165,8 +163,8 @@ module _ {header : Header} {nodes words columns : List ℕ} {from : ℕ} {metast
               (entered_in room) answer metastates' arcs' chains') (sym rooms) left.step
 
           -- it is refused
-          pub followed-stop : {fault : Fault} → answer ≡ step.Stop fault
-              → StepLeft header words metastates₀ arcs₀ chains₀ all (step.Stop fault)
+          pub followed-stop : {fault : Fault} → answer ≡ Err fault
+              → StepLeft header words metastates₀ arcs₀ chains₀ all (Err fault)
               metastates' arcs' chains'
           followed-stop stops =
               let later : List Metastate = followers_at (matrix_in header.half columns) cs (suc number) in
@@ -174,7 +172,7 @@ module _ {header : Header} {nodes words columns : List ℕ} {from : ℕ} {metast
               record { step = stopped; numbers = λ net e. absurd (stop-refused stopped refl net e) }
 
           -- it is entered, and the next is looked for
-          pub followed-next : {next : Sizes} {number' : ℕ} → answer ≡ step.Next next
+          pub followed-next : {next : Sizes} {number' : ℕ} → answer ≡ Ok next
               → NextFollower (matrix_in header.half columns) cs (number + 1) number'
               → Followed header nodes words columns from metastates₀ arcs₀ chains₀ sizes₀
               metastates' arcs' chains' next number'

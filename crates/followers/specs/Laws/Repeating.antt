@@ -1,8 +1,8 @@
 -- Laws about entering the followers of a metastate: where another with the same shifted matrix has a span,
 -- the copies of its arcs are what entering them adds; else they are entered and make a span.
-use Rattle.std.specs.Prelude.{◌≡◌, Bool, false, ℕ, suc, ◌+◌, ◌-◌, ◌*◌, ◌/◌, ◌%◌, ◌≤◌, ◌<◌, min, T, drop, get_or}
+use Rattle.std.specs.Prelude.{◌≡◌, Bool, false, ℕ, zero, suc, ◌+◌, ◌-◌, ◌*◌, ◌≤◌, min, T, drop, get_or, Some, is_some, Result, Ok, Err}
 use Rattle.std.proofs.Math.Path.{refl, sym, ap, subst}
-use Rattle.std.proofs.Common.{◌∙◌, mod-lt, arith, length-set}
+use Rattle.std.proofs.Common.{◌∙◌, arith, length-set}
 use mathlib.Core.List.{List, ◌++◌, map}
 use Rattle.std.proofs.Math.Bool.{true}
 use Rattle.std.proofs.Math.Dec.{leb}
@@ -13,7 +13,7 @@ use Rattle.definitions.specs.declared.Header.{Header}
 use Rattle.definitions.specs.declared.Fault.{Fault}
 use Rattle.definitions.specs.declared.Fault.TheVariants.{Tangle}
 use Rattle.definitions.specs.Faults.{Outcome, answered, refuse}
-use Rattle.definitions.specs.Lists.{◌!◌, concat_map, padded, same, IsIn}
+use Rattle.definitions.specs.Lists.{◌!◌, concat_map, padded, IsIn}
 use Rattle.definitions.specs.PhoneSets.{all_phones}
 use Rattle.definitions.specs.Arcs.{Arc, arcs_in, arc_words, last_state}
 use Rattle.definitions.specs.Matrices.{shift}
@@ -26,7 +26,6 @@ use Rattle.definitions.specs.Connecting.{Network, no_metastate, machine_of}
 use Rattle.definitions.proofs.Construction.Performing.{Performed, all-performed, event_arc}
 use Rattle.definitions.proofs.Laws.Lists.Tests.{by-test}
 use Rattle.definitions.proofs.Laws.Text.Judging.{refused-not-answered}
-use Rattle.definitions.proofs.Laws.Lists.Lists.{same_lists}
 use Rattle.definitions.proofs.Laws.Networks.Metastates.{metastates-told}
 use Rattle.tables.specs.Usable.{book_with}
 use Rattle.matrix.specs.Shapes.{matrix_in, shifted_words}
@@ -35,8 +34,6 @@ use Rattle.index.specs.Combinations.{combinations_in, nodes_book}
 use Rattle.index.specs.RecordWords.{record_of, IsMetastate}
 use Rattle.index.specs.declared.Follower.{Follower}
 use Rattle.growing.specs.declared.Sizes.{Sizes}
-use Rattle.growing.specs.declared.Step.{Step}
-use Rattle.growing.specs.declared.Step.TheVariants as step
 use Rattle.growing.specs.Steps.{arc_room, sizes_of, step_of}
 use Rattle.growing.specs.Laws.KeptMore.{with_arcs, kept-arcs}
 use Rattle.growing.specs.Laws.Steps.{held-sizes, next-kept, stop-refused, left-answered, left-refused}
@@ -44,7 +41,8 @@ use Rattle.metastates.specs.Networks.{metastate_code, network_held, room_of, Num
 use Rattle.metastates.specs.Steps.{StepLeft}
 use Rattle.metastates.specs.Outcomes.{followed_from, followed_on}
 use Rattle.followers.specs.Turns.{TurnLeft, BetweenTurns, Expandable, Onward}
-use Rattle.followers.specs.Spans.{leaving_from, copies_of, span_size, SlotWithin, place_in, first_in, end_in}
+use Rattle.followers.specs.declared.Span.{Span}
+use Rattle.followers.specs.Spans.{span_of, span_in, leaving_from, copies_of, SlotWithin, place_in, first_in, end_in}
 use Rattle.followers.specs.Spans.{noted_in, followers_at, arcs_to, IsSpan, Spanned}
 use Rattle.followers.specs.Repeating.{Repeated, Repeats}
 use Rattle.followers.specs.Laws.PerformedArcs.{performs-arcs, performs-over}
@@ -53,25 +51,12 @@ use Rattle.followers.specs.Laws.Spans.{arcs-to-from, spans-stay, spans-noted, sp
 
 -- ---- the span in a slot
 
--- a remainder is a slot
-pub some-slots : (size : ℕ) → span_size ≤ size → 0 < size / span_size
-some-slots size h = omega (arith, h)
-
-pub slot-within : (n size : ℕ) → span_size ≤ size → span_size * (n % (size / span_size)) + span_size ≤ size
-slot-within n size h = let l = mod-lt n {m = size / span_size} (some-slots size h) in omega (arith, l)
-
--- whether it is of a metastate with the same shifted matrix, by the code's steps
-pub alike-repeats : (header : Header) (metastates spans : List ℕ) (slot : ℕ) (columns : List ℕ)
-    {place half all : ℕ} {m shifted : List ℕ} {answer : Bool} → place ≡ place_in spans slot → (place ≡ 0 → ⊥)
-    → m ≡ first_seven (drop 1 (record_of (metastate_size header.half) metastates (place - 1)))
-    → all ≡ all_phones (min header.phones 64) → half ≡ header.half
-    → shifted ≡ shifted_words (2 * half) all m
-    → answer ≡ same shifted columns → Repeats header metastates spans slot columns answer
-alike-repeats header metastates spans slot columns {place} {shifted = shifted} e noted is all n f a alike = (
-  place - 1,
-  sym e ∙ omega (arith, noted),
-  sym (f ∙ rw (n, all, is)) ∙ same_lists shifted columns (subst T (sym alike ∙ a) tt),
-)
+span-fields : (word first end : ℕ) {span : Span} → span_of word first end ≡ Some span
+    → (word ≡ suc span.place) × (first ≡ span.first) × (end ≡ span.end)
+span-fields zero first end e = absurd (subst T (sym (ap is_some e)) tt)
+span-fields (suc place) first end {span} e =
+    let is : record { place = place; first = first; end = end } ≡ span = cc in
+    (ap (λ (z : Span). suc z.place) is, ap (λ (z : Span). z.first) is, ap (λ (z : Span). z.end) is)
 
 module _ {header : Header} {nodes words index metastates arcs chains spans : List ℕ} {sizes : Sizes}
     {place : ℕ} {columns : List ℕ}
@@ -126,11 +111,11 @@ module _ {header : Header} {nodes words index metastates arcs chains spans : Lis
 
     -- ---- entered one by one
 
-    spans-after : (slot : ℕ) {next : Sizes} → SlotWithin spans slot → step.Next next ≡ step_of outcome
+    spans-after : (slot : ℕ) {next : Sizes} → SlotWithin spans slot → Ok next ≡ step_of outcome
         → SpannedAfter (noted_in spans slot place sizes.arcs next.arcs)
     unfolding step_of book_with
     spans-after slot {next} h a now e =
-        let sized : step.Next next ≡ step.Next (sizes_of now) = a ∙ ap step_of e in
+        let sized : Ok next ≡ Ok (sizes_of now) = a ∙ ap step_of e in
         let same : next ≡ sizes_of now = cc in
         let made : IsSpan book cs now place (length net.arcs) (length now.arcs) =
         span-made book cs room net now place
@@ -142,29 +127,29 @@ module _ {header : Header} {nodes words index metastates arcs chains spans : Lis
         (spans-noted book cs (spans-kept now e) slot place (length net.arcs) (length now.arcs) h made)
 
     -- from the state that the code computed
-    module _ {state : ℕ} (at : state ≡ from) {answer : Step} {metastates' arcs' chains' : List ℕ}
+    module _ {state : ℕ} (at : state ≡ from) {answer : Result Sizes Fault} {metastates' arcs' chains' : List ℕ}
         (left : StepLeft header words metastates arcs chains
         (followed_from header nodes words metastates arcs sizes state columns)
         answer metastates' arcs' chains')
       where
-        followed-on : {same : Step} → answer ≡ same
+        followed-on : {same : Result Sizes Fault} → answer ≡ same
             → StepLeft header words metastates arcs chains outcome same metastates' arcs' chains'
         followed-on e =
-            subst (λ (z : Step). StepLeft header words metastates arcs chains outcome z
+            subst (λ (z : Result Sizes Fault). StepLeft header words metastates arcs chains outcome z
             metastates' arcs' chains') e
             (subst (λ (z : ℕ). StepLeft header words metastates arcs chains
             (followed_from header nodes words metastates arcs sizes z columns)
             answer metastates' arcs' chains') at left)
 
-        pub followed-few : {next : Sizes} → answer ≡ step.Next next → next.arcs ≤ 999999
+        pub followed-few : {next : Sizes} → answer ≡ Ok next → next.arcs ≤ 999999
         unfolding room_in
         followed-few {next} e =
             let sized = held-sizes (metastate_code header.half) next metastates' arcs' in
             omega (arith, (next-kept left.step e).arc-room, ap (λ (z : Sizes). z.arcs) sized)
 
         pub followed-noted : (slot : ℕ) {next : Sizes} {spans' : List ℕ} → SlotWithin spans slot
-            → answer ≡ step.Next next → spans' ≡ noted_in spans slot place sizes.arcs next.arcs
-            → TurnLeft header nodes words metastates arcs chains spans outcome (step.Next next)
+            → answer ≡ Ok next → spans' ≡ noted_in spans slot place sizes.arcs next.arcs
+            → TurnLeft header nodes words metastates arcs chains spans outcome (Ok next)
             metastates' arcs' chains' spans'
         followed-noted slot h e is =
             record {
@@ -174,8 +159,8 @@ module _ {header : Header} {nodes words index metastates arcs chains spans : Lis
             }
 
         -- a refused step leaves nothing to say of spans
-        pub followed-refused : {fault : Fault} → answer ≡ step.Stop fault
-            → TurnLeft header nodes words metastates arcs chains spans outcome (step.Stop fault)
+        pub followed-refused : {fault : Fault} → answer ≡ Err fault
+            → TurnLeft header nodes words metastates arcs chains spans outcome (Err fault)
             metastates' arcs' chains' spans
         followed-refused e =
             record {
@@ -186,21 +171,31 @@ module _ {header : Header} {nodes words index metastates arcs chains spans : Lis
 
     -- ---- copied
 
-    module _ (slot : ℕ) {other : ℕ} (h : SlotWithin spans slot) (is : place_in spans slot ≡ suc other)
-        (alike : shifted_words (2 * header.half) (all_phones (min header.phones 64))
-        (first_seven (drop 1 (record_of (metastate_size header.half) metastates other))) ≡ columns)
+    module _ (slot : ℕ) {there : Span} (h : SlotWithin spans slot) (noted-there : span_in spans slot ≡ Some there)
+        {answer : Bool} (repeats : Repeats header metastates there.place columns answer) (yes : answer ≡ true)
       where
+        abbrev other : ℕ
+        other = there.place
+
         abbrev first : ℕ
-        first = first_in spans slot
+        first = there.first
 
         abbrev end : ℕ
-        end = end_in spans slot
+        end = there.end
+
+        alike : shifted_words (2 * header.half) (all_phones (min header.phones 64))
+            (first_seven (drop 1 (record_of (metastate_size header.half) metastates other))) ≡ columns
+        alike = repeats yes
 
         span : IsSpan book cs net other first end
-        span = between.spanned.each slot other h is
+        span =
+            let (is, f, e) = span-fields (place_in spans slot) (first_in spans slot) (end_in spans slot) noted-there in
+            subst (λ (z : ℕ). IsSpan book cs net other first z) e
+            (subst (λ (z : ℕ). IsSpan book cs net other z (end_in spans slot)) f
+            (between.spanned.each slot other h is))
 
-        there : Expandable header nodes words index metastates arcs chains spans sizes other
-        there =
+        theirs : Expandable header nodes words index metastates arcs chains spans sizes other
+        theirs =
             record {
               between = between;
               listed = omega (arith, span.listed, ap (λ (z : Sizes). z.table) (asked s.expandable));
@@ -218,7 +213,7 @@ module _ {header : Header} {nodes words index metastates arcs chains spans : Lis
         followers-are =
             let own : IsMetastate header.half metastates other noted =
             record { number_is = refl; columns_are = refl } in
-            same-followers other (sym (shifted-is there own refl refl (sym alike)))
+            same-followers other (sym (shifted-is theirs own refl refl (sym alike)))
 
         many : end - first ≡ length xs
         many = omega (arith, span.counted, ap length followers-are)
@@ -251,7 +246,7 @@ module _ {header : Header} {nodes words index metastates arcs chains spans : Lis
             (λ x i. span.known x (subst (IsIn x) (sym followers-are) i))
             ∙ ap (λ (l : List Arc). perform_all (machine_of book cs) room net (map plain l)) (sym copies-are)
 
-        repeated : {answer : Step} {arcs' : List ℕ} → Repeated sizes first end from arcs answer arcs'
+        repeated : {answer : Result Sizes Fault} {arcs' : List ℕ} → Repeated sizes first end from arcs answer arcs'
             → StepLeft header words metastates arcs chains outcome answer metastates arcs' chains
         unfolding room_in
         repeated {answer} {arcs'} r =
@@ -276,7 +271,7 @@ module _ {header : Header} {nodes words index metastates arcs chains spans : Lis
                 record {
                   step =
                       left-answered refl size refl (with_arcs net copies) done
-                      (r.answers ∙ rw t (ap (λ (z : Sizes). step.Next z) sized)) kept;
+                      (r.answers ∙ rw t (ap (λ (z : Sizes). Ok z) sized)) kept;
                   numbers = λ n e.
                       let both : answered (with_arcs net copies) ≡ answered n = sym done ∙ e in
                       let same : with_arcs net copies ≡ n = cc in
@@ -296,16 +291,13 @@ module _ {header : Header} {nodes words index metastates arcs chains spans : Lis
                   numbers = λ n e. absurd (refused-not-answered outcome Tangle 0 n none e);
                 }
 
-        pub repeated-on : {f e state : ℕ} {answer : Step} {arcs' : List ℕ}
-            → f ≡ first → e ≡ end → state ≡ from → Repeated sizes f e state arcs answer arcs'
+        pub repeated-on : {state : ℕ} {answer : Result Sizes Fault} {arcs' : List ℕ} → state ≡ from
+            → Repeated sizes first end state arcs answer arcs'
             → TurnLeft header nodes words metastates arcs chains spans outcome answer
             metastates arcs' chains spans
-        repeated-on {f} {e} {state} {answer} {arcs'} a b d r =
+        repeated-on {answer = answer} {arcs'} d r =
             record {
-              left =
-                  repeated (subst (λ (z : ℕ). Repeated sizes first end z arcs answer arcs') d
-                  (subst (λ (z : ℕ). Repeated sizes first z state arcs answer arcs') b
-                  (subst (λ (z : ℕ). Repeated sizes z e state arcs answer arcs') a r)));
+              left = repeated (subst (λ (z : ℕ). Repeated sizes first end z arcs answer arcs') d r);
               spans_sized = refl;
               spanned = spans-kept;
             }

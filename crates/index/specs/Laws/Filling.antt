@@ -110,32 +110,31 @@ unfolding has
 no_zero s t = t
 
 module _ {phones blocks number column s : ℕ} where
-  pub phones-first : {next : ℕ} (index : List ℕ) → NextMember s 1 next
-      → PhonesMarked phones blocks number column s index next index
-  phones-first {next} index n =
+  pub phones-first : (index : List ℕ) → PhonesMarked phones blocks number column s index 1 index
+  phones-first index =
       record {
         marking = marking-none index;
-        some = n.after;
-        within = n.within;
+        some = omega arith;
+        within = omega arith;
         marked = record { each = below };
       }
     where
-      below : (p : ℕ) → p < next → T (has p s) → IsMarked index (row_at phones blocks column p) number
+      below : (p : ℕ) → p < 1 → T (has p s) → IsMarked index (row_at phones blocks column p) number
       below zero h t = absurd (no_zero s t)
-      below (suc p) h t = absurd (lacked n (omega arith) h t)
+      below (suc p) h t = absurd (omega (arith, h))
 
-  module _ {index₀ index : List ℕ} {phone : ℕ}
-      (m : PhonesMarked phones blocks number column s index₀ phone index)
+  module _ {index₀ index : List ℕ} {from : ℕ}
+      (m : PhonesMarked phones blocks number column s index₀ from index)
     where
-      pub phones-next : {index' : List ℕ} {row place next : ℕ} → row ≡ row_at phones blocks column phone
-          → place ≡ number % block_size + 1 → PlaceMarked (row + number / block_size) place index index'
-          → NextMember s (phone + 1) next
-          → PhonesMarked phones blocks number column s index₀ next index'
-      phones-next {index'} {row} {place} {next} e f more n =
+      pub phones-next : {index' : List ℕ} {row place phone : ℕ} → NextMember s from phone → phone ≤ 64
+          → row ≡ row_at phones blocks column phone → place ≡ number % block_size + 1
+          → PlaceMarked (row + number / block_size) place index index'
+          → PhonesMarked phones blocks number column s index₀ (phone + 1) index'
+      phones-next {index'} {row} {place} {phone} n few e f more =
           record {
             marking = marking-more m.marking more.marking;
-            some = omega (arith, n.after);
-            within = n.within;
+            some = omega arith;
+            within = omega (arith, few);
             marked = record { each = below };
           }
         where
@@ -147,22 +146,30 @@ module _ {phones blocks number column s : ℕ} where
               subst (λ (q : ℕ). T (has q (index' ! (row + number / block_size)))) f
               (more.marked (omega (arith, h, more.marking.sized)))))
 
-          below : (p : ℕ) → p < next → T (has p s) → IsMarked index' (row_at phones blocks column p) number
+          below : (p : ℕ) → p < phone + 1 → T (has p s) → IsMarked index' (row_at phones blocks column p) number
           below p h t =
-              by-test (ltb phone p)
-              (λ a. absurd (lacked n (omega (arith, ltb-true phone p a)) h t))
-              (λ a.
               by-test (eqb p phone)
               (λ b. own p (eqb-true p phone b))
               (λ b.
               set-stays more.marking (row_at phones blocks column p + number / block_size)
               (number % block_size + 1)
-              (m.marked.each p (omega (arith, ltb-false phone p a, eqb-false p phone b)) t)))
+              (by-test (ltb p from)
+              (λ a. m.marked.each p (ltb-true p from a) t)
+              (λ a. absurd (lacked n (ltb-false p from a) (omega (arith, h, eqb-false p phone b)) t))))
 
-      pub phones-last : 64 < phone → PhonesMarked phones blocks number column s index₀ 65 index
-      phones-last h =
-          subst (λ (p : ℕ). PhonesMarked phones blocks number column s index₀ p index) {x = phone} {y = 65}
-          (omega (arith, h, m.within)) m
+      pub phones-last : NextMember s from 65 → PhonesMarked phones blocks number column s index₀ 65 index
+      phones-last n =
+          record {
+            marking = m.marking;
+            some = omega arith;
+            within = omega arith;
+            marked = record {
+              each = λ p h t.
+                  by-test (ltb p from)
+                  (λ a. m.marked.each p (ltb-true p from a) t)
+                  (λ a. absurd (lacked n (ltb-false p from a) h t));
+            };
+          }
 
 -- ---- in the rows of its columns, and the bits of all
 

@@ -1,7 +1,8 @@
 -- Laws about lists compared matrix by matrix from a column on.
-use Rattle.std.specs.Prelude.{◌≡◌, refl, Bool, true, false, ◌&&◌, ℕ, suc, ◌+◌, ◌-◌, ◌≤◌, ◌<◌, eqb, length, get_or, take, drop}
+use Rattle.std.specs.Prelude.{◌≡◌, refl, Bool, true, false, not, ◌&&◌, ℕ, suc, ◌+◌, ◌-◌, ◌≤◌, ◌<◌, eqb, length, get_or, take, drop}
+use Rattle.std.specs.Cmp.Lexicographic.{pointwise}
 use Rattle.std.proofs.Math.Path.{sym}
-use Rattle.std.proofs.Common.{ap, ap₂, ◌∙◌, add-one, arith, length-drop, drop-drop, length-take-le, eq-eqb}
+use Rattle.std.proofs.Common.{ap, ap₂, ◌∙◌, add-one, arith, length-drop, take_all, eq-eqb}
 use mathlib.Core.List.{List, [], ◌∷◌, ◌++◌, map}
 use Rattle.std.proofs.Math.ListN.{drop_of_length-le}
 use Rattle.std.proofs.lemmas.List.{length-map}
@@ -9,13 +10,12 @@ use Rattle.std.proofs.Math.Seq.{drop-cons}
 use Rattle.definitions.specs.Lists.{◌!◌, same}
 use Rattle.definitions.specs.Matrices.{Matrix, shift}
 use Rattle.definitions.specs.MatrixLists.{same_list, shift_list}
-use Rattle.definitions.proofs.Laws.Lists.Lists.{part_at, drop-take, map_at}
-use Rattle.definitions.proofs.Laws.Lists.Same.{Alike, alike-start, alike-more, alike-stop, alike_end}
+use Rattle.definitions.proofs.Laws.Lists.Lists.{map_at}
 use Rattle.definitions.proofs.Laws.Lists.Tests.{by-test}
-use Rattle.matrix.specs.Shapes.{width_of}
-use Rattle.lists.specs.Held.{columns_at, list_in}
+use Rattle.matrix.specs.Laws.Words.{same-places}
+use Rattle.lists.specs.Held.{matrix_at, list_in}
 use Rattle.lists.specs.Shifting.{SameShifted}
-use Rattle.lists.specs.Laws.Held.{Turn, list_length}
+use Rattle.lists.specs.Laws.Held.{list_length, list_at}
 
 -- ---- matrix by matrix
 
@@ -57,73 +57,6 @@ lengths_differ (x ∷ k) (y ∷ l) h = by-test (same x y)
 
 -- ---- from a column on
 
--- the words from one place up to another
-abbrev pub part : (words : List ℕ) → (from end : ℕ) → List ℕ
-part words from end = take (end - from) (drop from words)
-
-module _ (words : List ℕ) {from end i : ℕ} where
-  part-here : from ≤ i → i < end → part words from end ! (i - from) ≡ words ! i
-  part-here h k =
-      let place : from + (i - from) ≡ i = omega arith in
-      part_at (end - from) from words (i - from) 0 (omega arith) ∙ ap (λ (j : ℕ). words ! j) place
-
--- words of which those from one place on are the same before another
-pub record AlikeWords (a b : List ℕ) (from end i : ℕ) : Type 0 where
-  pub after : from ≤ i
-  pub within : i ≤ end
-  pub there : (end ≤ length a) × (end ≤ length b)
-  pub alike : Alike (part a from end) (part b from end) (i - from)
-
-part_length : (words : List ℕ) (from end : ℕ) → end ≤ length words → length (part words from end) ≡ end - from
-part_length words from end h = length-take-le (end - from) (drop from words) (rw length-drop (omega arith))
-
-pub words-start : (a b : List ℕ) (from end : ℕ) → from ≤ end → end ≤ length a → end ≤ length b
-    → AlikeWords a b from end from
-words-start a b from end h k l =
-    let none : from - from ≡ 0 = omega arith in
-    record {
-      after = omega arith;
-      within = h;
-      there = (k, l);
-      alike = rw none
-          (alike-start (part a from end) (part b from end)
-          (part_length a from end k ∙ sym (part_length b from end l)));
-    }
-
-module _ {a b : List ℕ} {from end i : ℕ} (w : AlikeWords a b from end i) where
-  module _ (h : i < end) where
-    inside : i - from < length (part a from end)
-    inside = omega (arith, part_length a from end w.there.0, w.after)
-
-    pub words_more : a ! i ≡ b ! i → AlikeWords a b from end (i + 1)
-    words_more e =
-        let next : i + 1 - from ≡ i - from + 1 = omega (arith, w.after) in
-        record {
-          after = omega (arith, w.after);
-          within = omega arith;
-          there = w.there;
-          alike = rw next
-              (alike-more w.alike inside (part-here a w.after h ∙ e ∙ sym (part-here b w.after h)));
-        }
-
-    pub words-stop : (a ! i ≡ b ! i → ⊥) → false ≡ same (part a from end) (part b from end)
-    words-stop n =
-        alike-stop w.alike inside
-        (λ e. n (sym (part-here a w.after h) ∙ e ∙ part-here b w.after h))
-
-  pub words-end : end ≤ i → true ≡ same (part a from end) (part b from end)
-  words-end h = alike_end w.alike (omega (arith, part_length a from end w.there.0))
-
-beyond : (half first from : ℕ) (words : List ℕ) → first ≤ width_of half
-    → drop first (columns_at half words from) ≡ part words (from + first) (from + width_of half)
-beyond half first from words h =
-    let whole : width_of half ≡ first + (width_of half - first) = omega arith in
-    let left : width_of half - first ≡ from + width_of half - (from + first) = omega arith in
-    ap (λ (n : ℕ). drop first (take n (drop from words))) whole
-    ∙ drop-take first (width_of half - first) (drop from words)
-    ∙ ap (λ (l : List ℕ). take (width_of half - first) l) (drop-drop first from words)
-    ∙ ap (λ (n : ℕ). take n (drop (from + first) words)) left
-
 -- the matrices of a list from a column on
 abbrev pub list_beyond : (half first : ℕ) → (words : List ℕ) → List Matrix
 list_beyond half first words = map (drop first) (list_in half words)
@@ -142,25 +75,25 @@ module _ (half first : ℕ) where
       lengths_differ (list_beyond half first a) (list_beyond half first b)
       (λ e. n (sym (beyond-length a) ∙ e ∙ beyond-length b))
 
--- a turn's two matrices from a column on
-module _ {half place from : ℕ} (first : ℕ) (h : first ≤ width_of half) where
-  turn-beyond : {words : List ℕ} → Turn half words place from
-      → get_or (list_beyond half first words) place [] ≡ part words (from + first) (from + width_of half)
-  turn-beyond {words} t =
-      map_at (drop first) (list_in half words) [] [] place t.inside ∙ ap (drop first) t.its
-      ∙ beyond half first from words h
+turned : (p : Bool) {differ : Bool} → differ ≡ not p → p ≡ not differ
+turned true q = sym (ap not q)
+turned false q = sym (ap not q)
 
-  module _ {a b : List ℕ} (t : Turn half a place from) (u : Turn half b place from) where
-    pub beyond-inside : place < length (list_beyond half first a)
-    beyond-inside = rw (length-map (list_in half a) (drop first)) t.inside
+-- two matrices that stand at a place, from a column on
+module _ (half first place : ℕ) where
+  beyond-at : (words : List ℕ) → place < words ! 0 → {x : Matrix} → x ≡ matrix_at half words place
+      → take (length x - first) (drop first x) ≡ get_or (list_beyond half first words) place []
+  beyond-at words h {x} e =
+      take_all (length x - first) (drop first x) (omega (arith, length-drop first x))
+      ∙ sym (map_at (drop first) (list_in half words) [] [] place (omega (arith, list_length half words))
+      ∙ ap (drop first) (list_at half words place h ∙ sym e))
 
-    pub beyond-test : {width : ℕ} → width ≡ width_of half → {answer : Bool}
-        → answer ≡ same (part a (from + first) (from + width)) (part b (from + first) (from + width))
-        → same (get_or (list_beyond half first a) place []) (get_or (list_beyond half first b) place [])
-        ≡ answer
-    beyond-test w e =
-        ap₂ same (turn-beyond t) (turn-beyond u)
-        ∙ sym (e ∙ ap (λ (n : ℕ). same (part a (from + first) (from + n)) (part b (from + first) (from + n))) w)
+  pub beyond-test : (a b : List ℕ) → place < a ! 0 → place < b ! 0 → {x y : Matrix} → x ≡ matrix_at half a place
+      → y ≡ matrix_at half b place → {differ : Bool}
+      → differ ≡ not (pointwise eqb (take (length x - first) (drop first x)) (take (length y - first) (drop first y)))
+      → same (get_or (list_beyond half first a) place []) (get_or (list_beyond half first b) place []) ≡ not differ
+  beyond-test a b h k e f q =
+      sym (same-places _ _ ∙ ap₂ same (beyond-at a h e) (beyond-at b k f)) ∙ turned _ q
 
 -- ---- from the first column on, and once shifted
 

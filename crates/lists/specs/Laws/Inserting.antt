@@ -1,7 +1,7 @@
 -- Laws about a gap opened in words and columns written into it: with one more in its count, the list has the
 -- matrix at the gap's place.
 use Rattle.std.specs.Prelude.{◌≡◌, refl, List, [], ◌∷◌, true, false, ℕ, zero, suc, ◌+◌, ◌-◌, ◌≤◌, ◌<◌, ltb, eqb, length, get_or, set, take, drop}
-use Rattle.std.proofs.Common.{sym, ap, ◌∙◌, subst, inl, inr, ⊎_elim, mul-le-mul_left, arith, length-set, length-append, length-drop, length-take-le, get_or-set_same, get_or-set_other, get_or-take, get_or-drop, get_or-append-add, le-leb, ltb-true, ltb-false, eqb-true}
+use Rattle.std.proofs.Common.{sym, ap, ◌∙◌, subst, inl, inr, mul-le-mul_left, arith, length-set, length-append, length-drop, length-take-le, get_or-set_same, get_or-set_other, get_or-take, get_or-drop, get_or-append-add, le-leb, ltb-true, ltb-false, eqb-true}
 use Rattle.std.proofs.Math.ListN.{get_or-append}
 use Rattle.std.proofs.lemmas.List.{get_or_at}
 use Rattle.std.proofs.lemmas.Bool.{lt-leb, eqb-false}
@@ -16,55 +16,11 @@ use Rattle.lists.specs.Inserting.{Opened, Put}
 use Rattle.lists.specs.Laws.Held.{wide_enough, place-before, place-within, columns_are, columns-same, list_length}
 use Rattle.lists.specs.Laws.Held.{list_at, list-is}
 
--- ---- the gap, from the end down
-
-pub gap-start : (size end : ℕ) (d : List ℕ) → Opened size end end d d
-gap-start size end d =
-    record { sized = refl; kept = λ i h. refl; moved = λ i h k. absurd (omega arith) }
-
-pub gap_more : {size i end : ℕ} {d s : List ℕ} → Opened size i end d s → (next : ℕ) → i ≡ suc next
-    → next + size < length d → {v : ℕ} → v ≡ s ! next → Opened size next end d (set s (next + size) v)
-gap_more {size} {i} {end} {d} {s} o next e h {v} q = record {
-  sized = length-set s (next + size) v ∙ o.sized;
-  kept = λ j k. get_or-set_other s (next + size) j v 0 (λ r. omega arith) ∙ o.kept j (omega arith);
-  moved = λ j k l. by-test (ltb next j)
-      (λ t.
-      let later : next < j = ltb-true next j t in
-      get_or-set_other s (next + size) (j + size) v 0 (λ r. omega arith) ∙ o.moved j (omega arith) l)
-      (λ t.
-      let here : j ≡ next = omega (arith, ltb-false next j t) in
-      rw here
-      (get_or-set_same s (next + size) v 0 (omega (arith, o.sized)) ∙ q ∙ o.kept next (omega arith)));
-}
+-- ---- the gap
 
 pub gap-as : {size other from end : ℕ} {d s : List ℕ} → size ≡ other → Opened size from end d s
     → Opened other from end d s
 gap-as {from = from} {end = end} {d = d} {s = s} e o = subst (λ (n : ℕ). Opened n from end d s) e o
-
--- ---- the columns
-
-pub put-start : (new : List ℕ) (from : ℕ) (d : List ℕ) → Put new from 0 d d
-put-start new from d = record { sized = refl; put = λ c h. absurd (omega arith); kept = λ i h. refl }
-
-pub put-more : {new : List ℕ} {from c : ℕ} {d s : List ℕ} → Put new from c d s → from + c < length d
-    → {v : ℕ} → v ≡ new ! c → Put new from (c + 1) d (set s (from + c) v)
-put-more {new} {from} {c} {d} {s} p h {v} q = record {
-  sized = length-set s (from + c) v ∙ p.sized;
-  put = λ j k. by-test (ltb j c)
-      (λ t.
-      let earlier : j < c = ltb-true j c t in
-      get_or-set_other s (from + c) (from + j) v 0 (λ r. omega arith) ∙ p.put j earlier)
-      (λ t.
-      let here : j ≡ c = omega (arith, ltb-false j c t) in
-      rw here (get_or-set_same s (from + c) v 0 (omega (arith, p.sized)) ∙ q));
-  kept = λ i k.
-      get_or-set_other s (from + c) i v 0 (λ r. ⊎_elim (λ l. omega arith) (λ l. omega arith) k)
-      ∙ p.kept i (⊎_elim inl (λ l. inr (omega arith)) k);
-}
-
-pub put_all : {new : List ℕ} {from c count : ℕ} {d s : List ℕ} → Put new from c d s → c ≡ count
-    → Put new from count d s
-put_all {new} {from} {c} {count} {d} {s} p e = subst (λ (n : ℕ). Put new from n d s) e p
 
 -- ---- a list with a matrix put in before a place
 

@@ -1,8 +1,7 @@
 -- Laws about the shift: the columns of a shifted matrix, and a list changed matrix by matrix into other words.
 use Rattle.std.specs.Prelude.{◌≡◌, refl, List, [], ◌∷◌, map, true, ℕ, ◌+◌, ◌-◌, ◌≤◌, ◌<◌, ltb, length, get_or, set, drop}
-use Rattle.std.proofs.Common.{sym, ap, ◌∙◌, inl, arith, length-append, length-drop, get_or-set_same, get_or-drop, le-leb, ltb-true, ltb-false}
-use Rattle.std.proofs.lemmas.List.{length-map, get_or_at}
-use Rattle.std.proofs.Math.ListN.{get_or-append}
+use Rattle.std.proofs.Common.{sym, ap, ◌∙◌, inl, arith, length-append, length-drop, get_or-set_same, le-leb, ltb-true, ltb-false}
+use Rattle.std.proofs.lemmas.List.{length-map}
 use Rattle.definitions.specs.Lists.{◌!◌}
 use Rattle.definitions.specs.Matrices.{Matrix, shift}
 use Rattle.definitions.specs.MatrixLists.{most_matrices, shift_list}
@@ -10,10 +9,10 @@ use Rattle.definitions.specs.PhoneSets.{all_phones}
 use Rattle.definitions.proofs.Laws.Lists.Lists.{map_at}
 use Rattle.definitions.proofs.Laws.Lists.Tests.{by-test}
 use Rattle.matrix.specs.Shapes.{width_of}
-use Rattle.lists.specs.Held.{start_of, columns_at, matrix_at, HasRoom, Became}
+use Rattle.lists.specs.Held.{start_of, matrix_at, HasRoom, Became}
 use Rattle.lists.specs.Inserting.{Put}
 use Rattle.lists.specs.Shifting.{shifted_by}
-use Rattle.lists.specs.Laws.Held.{wide_enough, place-before, place-within, columns-at, columns-length}
+use Rattle.lists.specs.Laws.Held.{wide_enough, place-before, place-within}
 use Rattle.lists.specs.Laws.Held.{columns_are, columns-same, list-is}
 
 -- ---- the columns of a shifted matrix
@@ -24,29 +23,6 @@ module _ (all : ℕ) (m : Matrix) {width : ℕ} (e : length m ≡ width) (some :
 
   pub shifted-length : length (shifted_by all m) ≡ width
   shifted-length = length-append (drop 1 m) (all ∷ []) ∙ omega (arith, rest-length)
-
-  pub shifted_next : (c : ℕ) → c + 1 < width → m ! (c + 1) ≡ shifted_by all m ! c
-  shifted_next c h =
-      let next : 1 + c ≡ c + 1 = omega arith in
-      sym (get_or-append (drop 1 m) (all ∷ []) 0 c (omega (arith, rest-length))
-      ∙ get_or-drop 1 m c 0 ∙ ap (λ (i : ℕ). m ! i) next)
-
-  pub shifted-last : (c : ℕ) → c + 1 ≡ width → all ≡ shifted_by all m ! c
-  shifted-last c h = sym (get_or_at (drop 1 m) all [] 0 c (rest-length ∙ omega arith))
-
--- those of a matrix in words
-module _ (all half : ℕ) (words : List ℕ) (from : ℕ) (there : from + width_of half ≤ length words) where
-  abbrev x : Matrix
-  x = columns_at half words from
-
-  pub shifted-word : (c : ℕ) → c + 1 < width_of half → words ! (from + c + 1) ≡ shifted_by all x ! c
-  shifted-word c h =
-      let place : from + c + 1 ≡ from + (c + 1) = omega arith in
-      ap (λ (i : ℕ). words ! i) place ∙ sym (columns-at half words from (c + 1) h)
-      ∙ shifted_next all x (columns-length half words from there) (omega arith) c h
-
-  pub shifted_end : (c : ℕ) → c + 1 ≡ width_of half → all ≡ shifted_by all x ! c
-  shifted_end c h = shifted-last all x (columns-length half words from there) (omega arith) c h
 
 -- with all phones it is the shift
 pub shift-list : (phones : ℕ) (l : List Matrix) → map (shifted_by (all_phones phones)) l ≡ shift_list phones l

@@ -1,12 +1,14 @@
 -- Laws about words that a loop writes: the seven words of a matrix, and words written from a place on over others.
 -- The proofs of the functions that do so use them.
-use Rattle.std.specs.Prelude.{◌≡◌, refl, ℕ, zero, suc, ◌+◌, ◌-◌, ◌*◌, ◌≤◌, ◌<◌, set, take}
-use Rattle.std.proofs.Common.{sym, ap, ap₂, ◌∙◌, arith, add-one, length-set, length-append, length-drop, take-append-drop, length-take-le, take_all, get_or-take}
+use Rattle.std.specs.Cmp.Lexicographic.{pointwise}
+use Rattle.std.specs.Prelude.{◌≡◌, refl, Bool, true, ◌&&◌, eqb, ℕ, zero, suc, ◌+◌, ◌-◌, ◌*◌, ◌≤◌, ◌<◌, min, set, take}
+use Rattle.std.proofs.Common.{sym, eq-eqb, ne_eqb, inl, inr, ap, ap₂, ◌∙◌, arith, length-append, length-drop, take-append-drop, length-take-le, take_all, get_or-take}
 use mathlib.Core.List.{List, [], ◌∷◌, ◌++◌, append-nil}
 use Rattle.std.proofs.Math.ListN.{length, drop, drop_of_length-le}
-use Rattle.std.proofs.lemmas.List.{length-replicate, take-append-le}
-use Rattle.std.proofs.Math.Seq.{paste, paste-zero, paste-suc, drop-append-add}
-use Rattle.definitions.specs.Lists.{◌!◌, cleared, padded}
+use Rattle.std.proofs.lemmas.Bool.{cases_lt}
+use Rattle.std.proofs.lemmas.List.{length-replicate, take-append-le, take_min, drop_min, take-take, take_more_set, drop-set-lt, append_assoc}
+use Rattle.std.proofs.Math.Seq.{paste, drop-append-add}
+use Rattle.definitions.specs.Lists.{◌!◌, cleared, padded, same}
 use Rattle.definitions.specs.Matrices.{Matrix, most_columns, matrix_words, matrix_record}
 use Rattle.definitions.proofs.Laws.Lists.Lists.{drop-cleared}
 use Rattle.definitions.proofs.Laws.Matrices.SevenWords.{padded-column, words-length}
@@ -59,13 +61,24 @@ words-rest m c h k =
     drop_past m (cleared (most_columns - n)) c h ∙ drop-cleared (c - n) (most_columns - n)
     ∙ ap (λ (i : ℕ). cleared i) left ∙ sym (drop-cleared c most_columns)
 
--- all that is there is read
-pub seven-rest : (words : List ℕ) (c : ℕ) → length words ≤ c → c ≤ most_columns
-    → drop c (first_seven words) ≡ drop c (cleared most_columns)
-unfolding matrix_words
-seven-rest words c h k =
-    ap (drop c) (take_all most_columns (matrix_words words) (omega (arith, words-length words (omega arith))))
-    ∙ words-rest words c h k
+-- as many of the words as there are, and 0 after them
+pub seven-read : (words : List ℕ) (there : ℕ) → there ≡ min (length words) most_columns
+    → take there words ++ drop there (cleared most_columns) ≡ first_seven words
+unfolding padded
+seven-read words there e = elim (cases_lt (length words) most_columns) [
+  | inl h ↦
+      let all : there ≡ length words = omega (arith, e) in
+      rw (
+        all,
+        take_all (length words) words (omega arith),
+        drop-cleared (length words) most_columns,
+        take_all most_columns (words ++ cleared (most_columns - length words))
+            (simp (length-append, length-replicate) (omega arith)),
+      )
+  | inr h ↦
+      let all : there ≡ most_columns = omega (arith, e) in
+      rw (all, take-append-le most_columns words (cleared (most_columns - length words)) h, append-nil)
+]
 
 -- those of a record are the matrix as a value
 pub record-seven : (half : ℕ) → half ≤ 3 → (m : Matrix) → length m ≡ 2 * half + 1
@@ -104,40 +117,53 @@ overwritten-all words new {size} e h =
     ap₂ (λ (k : ℕ) (l : List ℕ). take k new ++ l) few (drop_of_length-le words {i = 0 + length new} (omega arith))
     ∙ append-nil _
 
--- words s, before the loop d, with the first i of the new ones written
-pub record Written (d : List ℕ) (at : ℕ) (new : List ℕ) (i : ℕ) (s : List ℕ) : Type 0 where
-  pub within : i ≤ length d - at
-  pub few : i ≤ length new
-  pub sized : length s ≡ length d
-  pub holds : s ≡ paste d at new i
+-- where none has room
+pub overwritten-none : (words : List ℕ) (at : ℕ) (new : List ℕ) → length words ≤ at → overwritten words at new ≡ words
+unfolding overwritten
+overwritten-none words at new h =
+    let none : length words - at ≡ 0 = omega arith in
+    rw (none, take_all at words h, drop_of_length-le words {i = at + length new} (omega arith), append-nil, append-nil)
 
-pub written_start : (d : List ℕ) (at : ℕ) (new : List ℕ) → Written d at new 0 d
-written_start d at new =
-    record { within = omega arith; few = omega arith; sized = refl; holds = paste-zero d at new }
+-- a number, and as many columns after it as have room
+pub numbered-put : (words : List ℕ) (at number : ℕ) (columns : List ℕ) → at < length words → (n : ℕ)
+    → n ≡ min (length words - at - 1) (length columns)
+    → paste (set words at number) (at + 1) (take n columns) n ≡ overwritten words at (number ∷ columns)
+unfolding overwritten
+numbered-put words at number columns h n e =
+    let room : length words - at ≡ suc (length words - at - 1) = omega arith in
+    let few : take n columns ≡ take (length words - at - 1) columns =
+    ap (λ (k : ℕ). take k columns) e ∙ take_min (length words - at - 1) columns in
+    let end : at + 1 + n ≡ min (at + suc (length columns)) (length words) = omega (arith, e) in
+    let after : drop (at + 1 + n) (set words at number) ≡ drop (at + suc (length columns)) words =
+    drop-set-lt (at + 1 + n) words at number (omega arith)
+    ∙ ap (λ (k : ℕ). drop k words) end ∙ drop_min (at + suc (length columns)) words in
+    rw (take_more_set words at number h, take-take n n columns (omega arith), after, room, ← few)
+    (ap (λ (l : List ℕ). l ++ drop (at + suc (length columns)) words) (append_assoc (take at words) (number ∷ []) (take n columns)))
 
-module _ {d : List ℕ} {at : ℕ} {new : List ℕ} {i : ℕ} {s : List ℕ} (w : Written d at new i s) where
-  pub written-more : {v : ℕ} → i < length d - at → i < length new → v ≡ new ! i
-      → Written d at new (i + 1) (set s (at + i) v)
-  written-more {v} h k q = record {
-    within = omega arith;
-    few = omega arith;
-    sized = length-set s (at + i) v ∙ w.sized;
-    holds = rw (w.holds, q, add-one i) (paste-suc d at new i 0 (omega arith) k);
-  }
+-- ---- words compared with a number and columns
 
-  -- there are no more words, or all are written
-  pub written-short : length d - at ≤ i → s ≡ overwritten d at new
-  unfolding overwritten
-  written-short h =
-      let all : length d - at ≡ i = omega (arith, w.within) in
-      let none : drop (at + i) d ≡ [] = drop_of_length-le d {i = at + i} (omega arith) in
-      let after : drop (at + length new) d ≡ [] =
-      drop_of_length-le d {i = at + length new} (omega (arith, w.few)) in
-      w.holds ∙ rw (all, none, after)
+-- the test of two lists is that of each place
+pub same-places : (k l : List ℕ) → pointwise eqb k l ≡ same k l
+unfolding same
+same-places [] [] = refl
+same-places [] (y ∷ l) = refl
+same-places (x ∷ k) [] = refl
+same-places (x ∷ k) (y ∷ l) = ap (λ (b : Bool). eqb x y && b) (same-places k l)
 
-  pub written-full : length new ≤ i → 0 < length new → s ≡ overwritten d at new
-  written-full h k =
-      let all : length new ≡ i = omega (arith, w.few) in
-      w.holds
-      ∙ sym (overwritten-there d at new all (omega (arith, w.within))
-      ∙ ap (λ (l : List ℕ). take at d ++ l ++ drop (at + i) d) (sym (take_all i new (omega arith))))
+pub numbered-none : (words row : List ℕ) → length words < 1 → true ≡ same words (take (length words) row)
+unfolding same
+numbered-none [] row h = refl
+numbered-none (w ∷ words) row h = absurd (omega (arith, h))
+
+pub numbered-rest : (words : List ℕ) (number : ℕ) (columns : List ℕ) → 1 ≤ length words → words ! 0 ≡ number → {answer : Bool}
+    → answer ≡ pointwise eqb (drop 1 words) (take (length (drop 1 words)) columns)
+    → answer ≡ same words (take (length words) (number ∷ columns))
+unfolding same
+numbered-rest [] number columns h e a = absurd (omega (arith, h))
+numbered-rest (x ∷ l) number columns h e a = a ∙ same-places l (take (length l) columns) ∙ rw (eq-eqb x number e)
+
+pub numbered-other : (words : List ℕ) (number : ℕ) (columns : List ℕ) → 1 ≤ length words → (words ! 0 ≡ number → ⊥)
+    → eqb (words ! 0) number ≡ same words (take (length words) (number ∷ columns))
+unfolding same
+numbered-other [] number columns h n = absurd (omega (arith, h))
+numbered-other (x ∷ l) number columns h n = rw (ne_eqb x number n)

@@ -1,7 +1,7 @@
--- Laws about the arc into a metastate: what is appended by what the lent words say is that arc.
+-- Laws about the arc into a metastate: the four words that the lent words say are those of that arc.
 use Rattle.std.specs.Prelude.{◌≡◌, List, [], ℕ, ◌+◌, ◌*◌, ◌<◌, drop}
 use Rattle.std.proofs.Math.Path.{refl, ap}
-use Rattle.std.proofs.Common.{◌∙◌, subst, arith}
+use Rattle.std.proofs.Common.{◌∙◌, arith}
 use Rattle.definitions.specs.declared.Header.{Header}
 use Rattle.definitions.specs.Lists.{◌!◌}
 use Rattle.definitions.specs.BookReading.{node_size}
@@ -14,9 +14,6 @@ use Rattle.tables.specs.Usable.{book_with}
 use Rattle.index.specs.Combinations.{combinations_in, nodes_book, Usable}
 use Rattle.index.specs.RecordWords.{phone_word, model_word}
 use Rattle.index.specs.Laws.RecordWords.{phone-word, leaf-word, model-word}
-use Rattle.growing.specs.declared.Sizes.{Sizes}
-use Rattle.growing.specs.declared.Step.{Step}
-use Rattle.growing.specs.Steps.{ArcAdded}
 use Rattle.metastates.specs.Underway.{Placed}
 use Rattle.metastates.specs.Steps.{into_arc}
 
@@ -35,7 +32,7 @@ module _ {header : Header} {nodes words : List ℕ} {number place : ℕ}
     module _ (from : ℕ) {states model phone : ℕ} (e : states ≡ header.states)
         (f : model ≡ model_word header.half words number nodes 0)
         (g : phone ≡ phone_word header.half words number) where
-      into-arc : arc from (2 + place * states) model phone ≡ into_arc header nodes words from number place
+      pub into-arc : arc from (2 + place * states) model phone ≡ into_arc header nodes words from number place
       unfolding arc_into first_state book_with phone_of combination_of
       into-arc =
           let first : model ≡ models_of (nodes_book header nodes) (combinations_in header words) itself ! 0 =
@@ -46,8 +43,3 @@ module _ {header : Header} {nodes words : List ℕ} {number place : ℕ}
           first-state in
           let own = g ∙ phone-word header words usable number p.listed in
           rw (e, first, own)
-
-      pub into-added : {sizes : Sizes} {answer : Step} {arcs arcs' : List ℕ}
-          → ArcAdded sizes (arc from (2 + place * states) model phone) arcs answer arcs'
-          → ArcAdded sizes (into_arc header nodes words from number place) arcs answer arcs'
-      into-added {sizes} {answer} {arcs} {arcs'} = subst (λ a. ArcAdded sizes a arcs answer arcs') into-arc

@@ -1,5 +1,6 @@
 -- Laws about the arc from a state into a metastate: what the calls of the code ask, and what each answer leaves.
-use Rattle.std.specs.Prelude.{◌≡◌, ℕ, ◌+◌, ◌-◌, ◌*◌, ◌≤◌, ◌<◌}
+use Rattle.definitions.specs.declared.Fault.{Fault}
+use Rattle.std.specs.Prelude.{◌≡◌, Option, Some, None, ℕ, ◌+◌, ◌*◌, ◌≤◌, ◌<◌, Result, Err}
 use Rattle.std.proofs.Math.Path.{refl, ap, subst}
 use Rattle.std.proofs.Common.{sym, ◌∙◌, arith}
 use Rattle.std.proofs.Math.Logic.{⊎_elim}
@@ -22,8 +23,6 @@ use Rattle.index.specs.declared.Follower.{Follower}
 use Rattle.index.specs.Combinations.{combinations_in, machine_in}
 use Rattle.index.specs.Laws.Followers.{narrow}
 use Rattle.growing.specs.declared.Sizes.{Sizes}
-use Rattle.growing.specs.declared.Step.{Step}
-use Rattle.growing.specs.declared.Step.TheVariants as step
 use Rattle.growing.specs.Chains.{elements_in, heads_in, linked_to, Findable, Found}
 use Rattle.growing.specs.Steps.{arc_room, ArcAdded}
 use Rattle.growing.specs.Steps as steps
@@ -90,7 +89,7 @@ module _ {header : Header} {nodes words metastates arcs chains : List ℕ} {size
   abbrev net : Network
   net = network_held half sizes metastates arcs
 
-  module _ (from : ℕ) {found : ℕ}
+  module _ (from : ℕ) {found : Option ℕ}
       (f : Found (metastate_code half)
       (elements_in (metastate_code half) (take (metastate_size half * sizes.table) metastates))
       (metastate_of half follower) found) where
@@ -110,11 +109,11 @@ module _ {header : Header} {nodes words metastates arcs chains : List ℕ} {size
         s.listed)
         (of-append y net.table p.more (subst (IsIn y) p.grown i))
 
-    abbrev Left : Step → (metastates' arcs' chains' : List ℕ) → Type 0
+    abbrev Left : Result Sizes Fault → (metastates' arcs' chains' : List ℕ) → Type 0
     Left answer metastates' arcs' chains' =
         StepLeft header words metastates arcs chains outcome answer metastates' arcs' chains'
 
-    pub enter-placed : (found ≡ 0 → ⊥) → Placed header nodes words follower.number (found - 1)
+    pub enter-placed : {place : ℕ} → found ≡ Some place → Placed header nodes words follower.number place
     unfolding room_in
     enter-placed n =
         let place = growing.enter-place underway machine metastates-told from x pass-none (omega arith) f n in
@@ -125,8 +124,8 @@ module _ {header : Header} {nodes words metastates arcs chains : List ℕ} {size
         }
 
     -- it stands in the table
-    pub enter-known : (found ≡ 0 → ⊥) → {answer : Step} {arcs' : List ℕ}
-        → ArcAdded sizes (into_arc header nodes words from number (found - 1)) arcs answer arcs'
+    pub enter-known : {place : ℕ} → found ≡ Some place → {answer : Result Sizes Fault} {arcs' : List ℕ}
+        → ArcAdded sizes (into_arc header nodes words from number place) arcs answer arcs'
         → Left answer metastates arcs' chains
     unfolding arc_into models_of phone_of combination_of
     enter-known n added =
@@ -136,8 +135,8 @@ module _ {header : Header} {nodes words metastates arcs chains : List ℕ} {size
         }
 
     -- there is no room for it
-    pub enter-crowded : found ≡ 0 → metastate_room half metastates ≤ sizes.table
-        → Left (step.Stop Crowd) metastates arcs chains
+    pub enter-crowded : found ≡ None → metastate_room half metastates ≤ sizes.table
+        → Left (Err Crowd) metastates arcs chains
     unfolding room_in
     enter-crowded n h =
         record {
@@ -146,8 +145,8 @@ module _ {header : Header} {nodes words metastates arcs chains : List ℕ} {size
         }
 
     -- it is added, and the arc into it
-    pub enter-new : found ≡ 0 → sizes.table < metastate_room half metastates
-        → {answer : Step} {metastates' arcs' chains' : List ℕ}
+    pub enter-new : found ≡ None → sizes.table < metastate_room half metastates
+        → {answer : Result Sizes Fault} {metastates' arcs' chains' : List ℕ}
         → MetastateAdded half follower sizes.table metastates chains metastates' chains'
         → ArcAdded (with_one sizes) (into_arc header nodes words from number sizes.table) arcs answer arcs'
         → Left answer metastates' arcs' chains'

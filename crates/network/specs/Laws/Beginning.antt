@@ -1,6 +1,7 @@
 -- Laws about the start of a build: nothing is held yet, and the start metastates are entered as followers of
 -- silence with silence to its left.
-use Rattle.std.specs.Prelude.{◌≡◌, refl, ℕ, min, length, take}
+use Rattle.definitions.specs.declared.Fault.{Fault}
+use Rattle.std.specs.Prelude.{◌≡◌, refl, ℕ, min, length, take, Result}
 use Rattle.std.proofs.Math.Path.{sym, subst}
 use Rattle.std.proofs.Common.{ap, ◌∙◌, arith}
 use mathlib.Core.List.{List}
@@ -19,7 +20,6 @@ use Rattle.matrix.specs.Shapes.{width_of, matrix_in, HasWidth, columns_around}
 use Rattle.matrix.specs.Laws.Widths.{matrix-back, has_width}
 use Rattle.index.specs.Combinations.{combinations_in, Usable}
 use Rattle.growing.specs.declared.Sizes.{Sizes}
-use Rattle.growing.specs.declared.Step.{Step}
 use Rattle.metastates.specs.Networks.{network_held, Holds}
 use Rattle.metastates.specs.Outcomes.{entering_all, followed_from, started_in}
 use Rattle.metastates.specs.Steps.{StepLeft}
@@ -66,7 +66,7 @@ module _ {header : Header} {combinations : List ℕ} (usable : Usable header com
         ∙ ap (columns_around header.half 1 1) (a ∙ ap all_phones phones)
 
     pub started : all ≡ all_phones (min header.phones 64) → (nodes : List ℕ)
-        {metastates arcs chains metastates' arcs' chains' : List ℕ} {answer : Step}
+        {metastates arcs chains metastates' arcs' chains' : List ℕ} {answer : Result Sizes Fault}
         → StepLeft header combinations metastates arcs chains
         (followed_from header nodes combinations metastates arcs none 0 columns)
         answer metastates' arcs' chains'

@@ -1,6 +1,6 @@
 -- Laws about connecting: cleared words hold no network and are words to work with; then the start and the
 -- turns, or a refused start.
-use Rattle.std.specs.Prelude.{◌≡◌, List, ℕ, ◌/◌, ◌≤◌, ◌<◌, length}
+use Rattle.std.specs.Prelude.{◌≡◌, List, ℕ, ◌/◌, ◌≤◌, ◌<◌, length, Result, Ok, Err}
 use Rattle.std.proofs.Common.{sym, ◌∙◌, subst, arith}
 use Rattle.std.proofs.Math.Path.{ap}
 use Rattle.std.proofs.lemmas.List.{length-replicate}
@@ -22,8 +22,6 @@ use Rattle.index.specs.Filling.{Fillable, Filled}
 use Rattle.index.specs.Laws.RecordWords.{combinations-length}
 use Rattle.index.specs.Laws.Filling.{indexed}
 use Rattle.growing.specs.declared.Sizes.{Sizes}
-use Rattle.growing.specs.declared.Step.{Step}
-use Rattle.growing.specs.declared.Step.TheVariants as step
 use Rattle.growing.specs.Chains.{heads_in}
 use Rattle.growing.specs.Steps as growing
 use Rattle.growing.specs.Laws.Steps.{step-stop, next-answered}
@@ -99,7 +97,7 @@ module _ {header : Header} {nodes combinations ends metastates arcs chains spans
 
 module _ {header : Header} {nodes combinations index metastates arcs chains : List ℕ}
     (s : Startable header nodes combinations index metastates arcs chains)
-    {metastates' arcs' chains' : List ℕ} {answer : Step}
+    {metastates' arcs' chains' : List ℕ} {answer : Result Sizes Fault}
     (after : StepLeft header combinations metastates arcs chains
     (started_in header nodes combinations metastates arcs) answer metastates' arcs' chains')
   where
@@ -125,7 +123,7 @@ module _ {header : Header} {nodes combinations index metastates arcs chains : Li
 
     -- ---- the start answers
 
-    module _ {sizes : Sizes} (a : answer ≡ step.Next sizes) where
+    module _ {sizes : Sizes} (a : answer ≡ Ok sizes) where
       abbrev begun : Network
       begun = network_held header.half sizes metastates' arcs'
 
@@ -171,7 +169,7 @@ module _ {header : Header} {nodes combinations index metastates arcs chains : Li
 
     -- ---- the start is refused
 
-    pub start-refused : (limit : ℕ) {fault : Fault} → answer ≡ step.Stop fault
+    pub start-refused : (limit : ℕ) {fault : Fault} → answer ≡ Err fault
         → Connected header metastates arcs
         (connected_in header nodes combinations metastates arcs limit)
         (build.Refused (record { fault = fault; line = 0 })) metastates' arcs'

@@ -1,6 +1,6 @@
 -- Laws about the turns after the start: what is left of a build after so many turns, one more turn, and each
 -- answer.
-use Rattle.std.specs.Prelude.{◌≡◌, List, ℕ, suc, ◌+◌, ◌-◌, ◌≤◌, ◌<◌, length}
+use Rattle.std.specs.Prelude.{◌≡◌, List, ℕ, suc, ◌+◌, ◌-◌, ◌≤◌, ◌<◌, length, Result, Ok, Err}
 use Rattle.std.proofs.Math.Path.{refl, ap}
 use Rattle.std.proofs.Common.{sym, ap₂, ◌∙◌, add-one}
 use Rattle.std.proofs.Math.Nat.{sub-zero}
@@ -19,8 +19,6 @@ use Rattle.definitions.specs.Connecting.{Network, Built, machine_of}
 use Rattle.definitions.proofs.Laws.Text.RefusalLines.{performs-line}
 use Rattle.index.specs.Combinations.{combinations_in, nodes_book, machine_in}
 use Rattle.growing.specs.declared.Sizes.{Sizes}
-use Rattle.growing.specs.declared.Step.{Step}
-use Rattle.growing.specs.declared.Step.TheVariants as step
 use Rattle.growing.specs.Steps as growing
 use Rattle.growing.specs.Laws.Turning.{none_left, one_left, one-turn}
 use Rattle.growing.specs.Laws.Steps.{held-sizes, step-stop, next-answered}
@@ -172,7 +170,7 @@ module _ {header : Header} {nodes combinations index metastates₀ arcs₀ chain
     -- ---- one more turn
 
     module _ (h : turns < limit) {place : ℕ} (e : place ≡ turns) (g : place < sizes.table)
-        {answer : Step} {metastates' arcs' chains' spans' : List ℕ}
+        {answer : Result Sizes Fault} {metastates' arcs' chains' spans' : List ℕ}
         (turn : TurnLeft header nodes combinations metastates arcs chains spans
         (expanded_at header nodes combinations metastates arcs sizes place) answer
         metastates' arcs' chains' spans')
@@ -195,7 +193,7 @@ module _ {header : Header} {nodes combinations index metastates₀ arcs₀ chain
             t.rest ∙ ap (λ (n : ℕ). turns_from (machine_of book cs) room n turns net) more
             ∙ one-turn (machine_of book cs) room (limit - (turns + 1)) turns net (omega (arith, e, g, metastates-are))
 
-        pub turned_more : {next : Sizes} → answer ≡ step.Next next
+        pub turned_more : {next : Sizes} → answer ≡ Ok next
             → Turned header nodes combinations index metastates₀ arcs₀ chains₀ spans₀ sizes₀ limit
             metastates' arcs' chains' spans' next (turns + 1)
         unfolding and_then
@@ -221,7 +219,7 @@ module _ {header : Header} {nodes combinations index metastates₀ arcs₀ chain
                   (sym (add-one turns));
             }
 
-        pub turn-refused : {fault : Fault} → answer ≡ step.Stop fault
+        pub turn-refused : {fault : Fault} → answer ≡ Err fault
             → Connected header metastates₀ arcs₀ whole
             (build.Refused (record { fault = fault; line = 0 })) metastates' arcs'
         unfolding and_then expand

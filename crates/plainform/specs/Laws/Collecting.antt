@@ -1,10 +1,10 @@
 -- Laws about sets noted in lent words: one more set, the sets of a tree, and those of all trees.
-use Rattle.std.specs.Prelude.{if◌then◌else◌, ◌≡◌, refl, ◌≢◌, List, [], ◌∷◌, ◌++◌, map, ℕ, ◌+◌, ◌-◌, ◌*◌, ◌≤◌, ◌<◌, length, take, drop, set, eqb}
-use Rattle.std.proofs.Common.{sym, ap, ◌∙◌, append-nil, add-one, arith, length-append, take-suc-set, length-take-le}
+use Rattle.std.specs.Prelude.{if◌then◌else◌, ◌≡◌, true, false, refl, ◌≢◌, List, [], ◌∷◌, ◌++◌, map, ℕ, ◌+◌, ◌-◌, ◌*◌, ◌≤◌, ◌<◌, length, take, drop, set, eqb}
+use Rattle.std.proofs.Common.{sym, ap, ◌∙◌, append-nil, add-one, arith, length-append, take-suc-set}
 use Rattle.std.proofs.Math.ListN.{length-set}
 use Rattle.definitions.specs.declared.Header.{Header}
 use Rattle.definitions.specs.declared.Node.{Node}
-use Rattle.definitions.specs.Lists.{◌!◌, at_least_one, concat_map, place_of}
+use Rattle.definitions.specs.Lists.{◌!◌, at_least_one, concat_map}
 use Rattle.definitions.specs.BookReading.{node_size}
 use Rattle.definitions.specs.Tables.{node_of}
 use Rattle.definitions.specs.BookLines.{no_root}
@@ -12,33 +12,24 @@ use Rattle.definitions.specs.PlainForm.{Tree, sets_in, first_uses, trees_there}
 use Rattle.definitions.proofs.Laws.Lists.Lists.{concat_map-append}
 use Rattle.plainform.specs.LentTrees.{tree_in, uses_in, KnownNode}
 use Rattle.plainform.specs.Collecting.{Collected}
-use Rattle.plainform.specs.Laws.Sets.{among, not-among}
 use Rattle.plainform.specs.Laws.LentTrees.{asks-here, gives-here, found, not_there, is-there, there-next}
 use Rattle.plainform.specs.Laws.LentTrees.{trees-end}
 
 -- ---- one set
 
 module _ (sets : List ℕ) (used x : ℕ) (room : used < length sets) where
-  noted-many : length (take used sets) ≡ used
-  noted-many = length-take-le used sets (omega arith)
-
-  pub note-old : place_of eqb (take used sets) x < used → Collected sets used (x ∷ []) used sets
+  pub note-old : at_least_one (eqb x) (take used sets) ≡ true → Collected sets used (x ∷ []) used sets
   unfolding first_uses
-  note-old h =
-      record {
-        sized = refl;
-        few = omega arith;
-        holds = rw (among (take used sets) x (omega (arith, noted-many)));
-      }
+  note-old h = record { sized = refl; few = omega arith; holds = rw h }
 
-  pub note-new : used ≤ place_of eqb (take used sets) x → Collected sets used (x ∷ []) (used + 1) (set sets used x)
+  pub note-new : at_least_one (eqb x) (take used sets) ≡ false
+      → Collected sets used (x ∷ []) (used + 1) (set sets used x)
   unfolding first_uses
   note-new h =
       record {
         sized = length-set sets used x;
         few = omega arith;
-        holds = rw (not-among (take used sets) x (omega (arith, noted-many)), add-one)
-            (take-suc-set sets used x room);
+        holds = rw (h, add-one) (take-suc-set sets used x room);
       }
 
 -- ---- several

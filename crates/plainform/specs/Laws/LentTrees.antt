@@ -19,30 +19,24 @@ use Rattle.definitions.proofs.Laws.Lists.Lists.{every-cons}
 use Rattle.definitions.proofs.Spelling.TreeShapes.{tree-asks, tree-gives}
 use Rattle.tables.specs.Usable.{tree_nodes}
 use Rattle.tables.specs.Laws.KnownTables.{question-is, leaf-is, question-fits, known-forward}
-use Rattle.plainform.specs.LentTrees.{tree_in, KnownNode, KnownRoots}
+use Rattle.plainform.specs.LentTrees.{tree_in, KnownNode, Listed}
+use Rattle.plainform.specs.declared.trees.Trees.{Trees}
 
 -- ---- roots
 
 -- one of several, and where it is given, it is a node
-pub root-known : {header : Header} {nodes roots : List ℕ} → KnownRoots header nodes roots
-    → (i : ℕ) → i < length roots → KnownRoots header nodes ((roots ! i) ∷ [])
+pub root-listed : {header : Header} {roots : List ℕ} → Listed header roots
+    → (i : ℕ) → i < length roots → Listed header ((roots ! i) ∷ [])
 unfolding every
-root-known {header} {roots = roots} k i h =
+root-listed {header} {roots} l i h =
     let test : ℕ → Bool = λ root. eqb root no_root || ltb root header.nodes in
-    record {
-      known = k.known;
-      listed = (every-cons test (roots ! i) []).1 (every-at test roots 0 k.listed i h, tt);
-    }
+    record { each = (every-cons test (roots ! i) []).1 (every-at test roots 0 l.each i h, tt) }
 
-pub root-node : {header : Header} {nodes : List ℕ} {root : ℕ} → KnownRoots header nodes (root ∷ [])
-    → root ≢ no_root → KnownNode header nodes root
-root-node {header} {root = root} k there =
-    let own = ((every-cons (λ root. eqb root no_root || ltb root header.nodes) root []).0 k.listed).0 in
-    record {
-      known = k.known;
-      listed = ⊎_elim (λ e. absurd (there (eqb→eq root no_root e))) (λ l. ltb→lt root header.nodes l)
-          ((T-or (eqb root no_root) (ltb root header.nodes)).0 own);
-    }
+pub root-node : {header : Header} {root : ℕ} → Listed header (root ∷ []) → root ≢ no_root → root < header.nodes
+root-node {header} {root} l there =
+    let own = ((every-cons (λ root. eqb root no_root || ltb root header.nodes) root []).0 l.each).0 in
+    ⊎_elim (λ e. absurd (there (eqb→eq root no_root e))) (λ l. ltb→lt root header.nodes l)
+    ((T-or (eqb root no_root) (ltb root header.nodes)).0 own)
 
 -- the tree at a root, if it is given
 module _ (tree : ℕ → Tree) where
@@ -77,6 +71,10 @@ module _ (tree : ℕ → Tree) where
         first (some t) l = refl
 
 -- ---- a node
+
+-- a node of lent trees
+pub at-node : (trees : Trees) (node : ℕ) → node < trees.header.nodes → KnownNode trees.header trees.nodes.now node
+at-node trees node h = record { known = trees.known; listed = h }
 
 -- a node and its record
 module _ {header : Header} {nodes : List ℕ} {node : ℕ} (k : KnownNode header nodes node) {x : Node}

@@ -1,44 +1,23 @@
--- Laws about the place of a set: found by looking at one set after the other, and whether it is among them.
-use Rattle.std.specs.Prelude.{◌≡◌, List, [], ◌∷◌, true, false, length, drop}
-use Rattle.std.proofs.Common.{sym, inl, inr, add-one, arith, eqb→eq, drop_of_length-le, drop-cons}
-use Prim.Native.Nat.{ℕ, suc, ◌+◌, ◌≤◌, ◌<◌}
-use Rattle.std.proofs.Math.Dec.{eqb}
-use borrow.Author.Tests.{eq-eqb, ne_eqb}
-use Rattle.definitions.specs.Lists.{◌!◌, at_least_one, place_of, IsIn}
+-- Laws about a set among others: whether it is there, and its place.
+use Rattle.std.specs.Prelude.{◌≡◌, refl, List, [], ◌∷◌, ℕ, ◌≤◌, ◌<◌, eqb, length, Option}
+use Rattle.std.specs.Iterator.{}
+use Rattle.std.specs.List.{list_any, AllWithin, HoldsAt}
+use Rattle.std.specs.Option.{unwrap_or, MatchOption}
+use Rattle.std.proofs.Common.{sym, arith, add-one, eqb→eq, eq-eqb, ne_eqb}
+use Rattle.std.proofs.lemmas.Iterator.{index_from_first}
+use Rattle.definitions.specs.Lists.{at_least_one, place_of}
 use Rattle.definitions.proofs.Laws.Lists.Tests.{by-test, same_tests}
-use Rattle.definitions.proofs.Laws.Lists.Members.{listed}
-use Rattle.definitions.proofs.Laws.Lists.Places.{numbers-told, placed}
 
--- ---- looking at one set after the other
+same-swapped : (x y : ℕ) → eqb x y ≡ eqb y x
+same-swapped x y =
+    same_tests (eqb x y) (eqb y x) (λ t. rw (eq-eqb y x (sym (eqb→eq x y t))) tt)
+    (λ t. rw (eq-eqb x y (sym (eqb→eq y x t))) tt)
 
--- the sets up to a place are others
-pub record FoundFrom (sets : List ℕ) (set i : ℕ) : Type 0 where
-  pub within : i ≤ length sets
-  pub rest : place_of eqb sets set ≡ i + place_of eqb (drop i sets) set
-
-pub found-start : (sets : List ℕ) (set : ℕ) → FoundFrom sets set 0
-found-start sets set = record { within = omega arith; rest = omega arith }
-
-module _ {sets : List ℕ} {set i : ℕ} (f : FoundFrom sets set i) where
-  pub found_here : i < length sets → sets ! i ≡ set → i ≡ place_of eqb sets set
-  unfolding place_of
-  found_here h e =
-      let here : place_of eqb (drop i sets) set ≡ 0 = rw (drop-cons sets i 0 h, eq-eqb set (sets ! i) (sym e)) in
-      omega (arith, f.rest)
-
-  pub found-later : i < length sets → (sets ! i ≡ set → ⊥) → FoundFrom sets set (i + 1)
-  unfolding place_of
-  found-later h other =
-      let next : place_of eqb (drop i sets) set ≡ suc (place_of eqb (drop (i + 1) sets) set) =
-      rw (drop-cons sets i 0 h, ne_eqb set (sets ! i) (λ e. other (sym e)), add-one) in
-      record { within = omega arith; rest = omega (arith, f.rest) }
-
-  pub found_nowhere : length sets ≤ i → i ≡ place_of eqb sets set
-  unfolding place_of
-  found_nowhere h =
-      let none : place_of eqb (drop i sets) set ≡ 0 = rw (drop_of_length-le sets {i = i} h) in omega (arith, f.rest)
-
--- ---- whether a set is among others
+-- whether it is there, as the library's `contains` says it
+pub listed-any : (set : ℕ) (sets : List ℕ) → list_any (λ y. eqb y set) sets ≡ at_least_one (eqb set) sets
+unfolding at_least_one
+listed-any set [] = refl
+listed-any set (other ∷ sets) = rw (same-swapped other set, listed-any set sets)
 
 pub place-within : (sets : List ℕ) (set : ℕ) → place_of eqb sets set ≤ length sets
 unfolding place_of
@@ -47,19 +26,12 @@ place-within (other ∷ sets) set =
     let rest = place-within sets set in
     by-test (eqb set other) (λ e. rw e (omega arith)) (λ e. rw e (omega arith))
 
-place-listed : (sets : List ℕ) (set : ℕ) → place_of eqb sets set < length sets → IsIn set sets
+-- its place, as the library's `position` says it
+pub place-first : (set : ℕ) (sets : List ℕ) (r : Option ℕ)
+    → MatchOption r (AllWithin (λ y. y ≡ set → ⊥) sets 0 (length sets))
+    (λ i. (i < length sets) × HoldsAt (λ y. y ≡ set) sets i × AllWithin (λ y. y ≡ set → ⊥) sets 0 i)
+    → place_of eqb sets set ≡ unwrap_or r (length sets)
 unfolding place_of
-place-listed [] set h = absurd (omega arith)
-place-listed (other ∷ sets) set h =
-    by-test (eqb set other) (λ e. inl (eqb→eq set other (rw e tt)))
-    (λ e. inr (place-listed sets set (omega (arith, (rw e at h)))))
-
-pub among : (sets : List ℕ) (set : ℕ) → place_of eqb sets set < length sets → at_least_one (eqb set) sets ≡ true
-among sets set h =
-    same_tests _ true (λ t. tt) (λ t. (listed set sets).1 (place-listed sets set h))
-
-pub not-among : (sets : List ℕ) (set : ℕ) → length sets ≤ place_of eqb sets set
-    → at_least_one (eqb set) sets ≡ false
-not-among sets set h =
-    same_tests _ false (λ t. absurd (omega (arith, (placed eqb numbers-told 0 set sets ((listed set sets).0 t)).0)))
-    (λ t. absurd t)
+place-first set =
+    index_from_first (λ l. place_of eqb l set) (λ y. y ≡ set) (λ y. y ≡ set → ⊥) refl
+    (λ x xs e. rw (eq-eqb set x (sym e))) (λ x xs n. rw (ne_eqb set x (λ e. n (sym e)), add-one))

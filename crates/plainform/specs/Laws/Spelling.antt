@@ -2,55 +2,48 @@
 -- same bytes exactly when they have the same half-width, states, phones and, tree by tree, the same shape, positions,
 -- member sets and models"; the form "keeps and compares the B lines". And what was written is read with these trees and
 -- plain phones. The premises are what the contracts of `read` and `write` ensure of their answers and buffers.
-use Rattle.std.specs.Prelude.{if◌then◌else◌, ◌≡◌, refl, ◌↔◌, List, Bool, true, false, ℕ, ◌≤◌, T, leb, length, take}
+use Rattle.std.specs.Prelude.{if◌then◌else◌, ◌≡◌, refl, ◌↔◌, List, Bool, true, false, ℕ, ◌≤◌, T, leb, length, take, Result, Ok}
 use Rattle.std.proofs.Common.{sym, ap, ◌∙◌, subst, arith, le→leb}
 use Rattle.definitions.specs.declared.Header.{Header}
+use Rattle.definitions.specs.declared.Refusal.{Refusal}
 use Rattle.definitions.specs.declared.Fault.TheVariants.{Foreign, Short}
-use Rattle.definitions.specs.Faults.{Outcome, answered, refused, refuse, judge}
-use Rattle.definitions.specs.BookLines.{BookLine, header_of, no_header}
+use Rattle.definitions.specs.Faults.{Outcome, answered, refuse, judge}
+use Rattle.definitions.specs.BookLines.{BookLine, header_of}
 use Rattle.definitions.specs.BookReading.{Lent, read_book}
 use Rattle.definitions.specs.Tables.{Tables, tables_left, contents_of, tables_contents}
 use Rattle.definitions.specs.ForeignTables.{tables_known}
-use Rattle.definitions.specs.Said.{said_of}
+use Rattle.definitions.specs.Said.{result_of}
 use Rattle.definitions.specs.Transcription.{transcribe}
 use Rattle.definitions.specs.PlainForm.{SameBook, plain_lines, plain_text, write_plain}
 use Rattle.definitions.proofs.Laws.Lists.Tests.{if-true}
 use Rattle.definitions.proofs.Laws.Text.Judging.{refused-not-answered}
+use Rattle.definitions.proofs.Laws.Results.{answered-ok}
 use Rattle.definitions.proofs.Laws.Books.Books.{accepted-contents}
 use Rattle.definitions.proofs.Laws.Books.AcceptedKnown.{accepted-known}
 use Rattle.definitions.proofs.Spelling.PlainModels.{plain-accepted, plain-transcribed}
 use Rattle.definitions.proofs.Spelling.OneSpelling.{one-spelling, plain_form}
-use Rattle.book.specs.Answers.{reading_of, reading_said}
-use Rattle.book.specs.declared.Reading.{Reading}
-use Rattle.book.specs.Laws.Said.{reading-told}
-use Rattle.writing.specs.Answers.{written_of, TextLeft}
-use Rattle.writing.specs.declared.Written.{Written}
-use Rattle.writing.specs.Laws.Said.{written-told}
+use Rattle.writing.specs.Answers.{TextLeft}
 use Rattle.writing.specs.Laws.Answering.{bytes-written}
-use Rattle.book.specs.declared.Reading.TheVariants as reading
-use Rattle.writing.specs.declared.Written.TheVariants as written
 
 -- ---- what the entries say
 
 -- what `read` says and leaves, where it was lent tables of these lengths
-pub record ReadBy (lent : Lent) (text : List ℕ) (answer : Reading) (tables : Tables) : Type 0 where
-  pub says : reading_said answer ≡ said_of header_of no_header (read_book lent text)
+pub record ReadBy (lent : Lent) (text : List ℕ) (answer : Result Header Refusal) (tables : Tables) : Type 0 where
+  pub says : answer ≡ result_of header_of (read_book lent text)
   pub leaves : tables ≡ tables_left lent (read_book lent text)
 
 -- a run: a text is read and accepted, and the tables are written into a buffer that is long enough
 pub record Run (lent : Lent) (text : List ℕ) (header : Header) (tables : Tables) (count : ℕ) (after : List ℕ)
     : Type 0
   where
-    pub read : ReadBy lent text (reading.Accepted header) tables
+    pub read : ReadBy lent text (Ok header) tables
     pub size : ℕ
-    pub wrote : TextLeft (write_plain header tables size) size (written.Bytes count) after
+    pub wrote : TextLeft (write_plain header tables size) size (Ok count) after
 
 -- where a header is answered, lines were read, and it is theirs
-header_read : (o : Outcome (List BookLine)) (header : Header) → reading.Accepted header ≡ reading_of o
+header_read : {o : Outcome (List BookLine)} {header : Header} → Ok header ≡ result_of header_of o
     → (lines : List BookLine) × (o ≡ answered lines) × (header_of lines ≡ header)
-unfolding reading_of
-header_read (answered lines) header e = (lines, refl, cc)
-header_read (refused r) header e = let z : ◌≡◌ {A = ℕ} 0 1 = cc in absurd (omega arith)
+header_read {o} {header} e = let h = answered-ok header_of o header (sym e) in (h.answer, h.was, h.said)
 
 -- what is written is the plain form
 plain-answered : (header : Header) (tables : Tables) (size : ℕ) (text : List ℕ)
@@ -82,7 +75,7 @@ module _ {lent : Lent} {text : List ℕ} {header : Header} {tables : Tables} {co
     (run : Run lent text header tables count after) where
   ran : Ran lent text header tables (take count after)
   ran =
-      let (lines, accepted, own) = header_read (read_book lent text) header (reading-told _ run.read.says) in
+      let (lines, accepted, own) = header_read run.read.says in
       let made = bytes-written _ run.size _ count after run.wrote refl in
       let contents : tables_contents header tables ≡ contents_of lines =
       ap (tables_contents header) run.read.leaves
@@ -129,38 +122,38 @@ plain-room lent text lines e {tables} size own room =
     if-true (tables_known (header_of lines) tables) _ _ known ∙ if-true (leb _ size) _ _ (le→leb _ size fits)
 
 pub read-then-write : {lent : Lent} {text : List ℕ} {header : Header} {tables : Tables}
-    → ReadBy lent text (reading.Accepted header) tables → {size : ℕ} {answer : Written} {after : List ℕ}
+    → ReadBy lent text (Ok header) tables → {size : ℕ} {answer : Result ℕ Refusal} {after : List ℕ}
     → length text ≤ size → TextLeft (write_plain header tables size) size answer after
-    → (count : ℕ) × (answer ≡ written.Bytes count)
-unfolding written_of
+    → (count : ℕ) × (answer ≡ Ok count)
+unfolding result_of
 read-then-write {lent} {text} {header} {tables} read {size} {answer} {after} room (says, leaves) =
-    let (lines, accepted, own) = header_read (read_book lent text) header (reading-told _ read.says) in
+    let (lines, accepted, own) = header_read read.says in
     let outcome = subst (λ (h : Header). write_plain h tables size ≡ answered (plain_text (tables_contents h tables))) own
     (plain-room lent text lines accepted size read.leaves room) in
-    (length (plain_text (tables_contents header tables)), written-told _ says ∙ rw (outcome, written_of))
+    (length (plain_text (tables_contents header tables)), says ∙ rw (outcome, result_of))
 
 -- ---- a book written and read again
 
 -- what `read` makes of the bytes that were written, in tables of the lengths that the book was read into
-pub record ReadAgain (header : Header) (tables : Tables) (answer : Reading) (tables' : Tables) : Type 0 where
+pub record ReadAgain (header : Header) (tables : Tables) (answer : Result Header Refusal) (tables' : Tables) : Type 0 where
   pub header' : Header
-  pub accepted : answer ≡ reading.Accepted header'
+  pub accepted : answer ≡ Ok header'
   -- the same trees and plain phones,
   pub same : SameBook (tables_contents header' tables') (tables_contents header tables)
   -- so every phone sequence is transcribed as it was
   pub transcribes : (S : List ℕ) (size : ℕ) → transcribe header' tables' S size ≡ transcribe header tables S size
 
 again-read : (lent : Lent) (text : List ℕ) (lines : List BookLine) → read_book lent text ≡ answered lines
-    → {tables tables' : Tables} {bytes : List ℕ} {answer : Reading}
+    → {tables tables' : Tables} {bytes : List ℕ} {answer : Result Header Refusal}
     → tables ≡ tables_left lent (read_book lent text) → plain_text (contents_of lines) ≡ bytes
     → ReadBy lent bytes answer tables' → ReadAgain (header_of lines) tables answer tables'
-unfolding reading_of
+unfolding result_of
 again-read lent text lines e own plain again =
     let contents = contents_of lines in
     let read = plain-accepted lent text lines e in
     record {
       header' = header_of (plain_lines contents);
-      accepted = reading-told _ again.says ∙ rw (← plain, read, reading_of);
+      accepted = again.says ∙ rw (← plain, read, result_of);
       same =
           rw (
             again.leaves,
@@ -173,7 +166,7 @@ again-read lent text lines e own plain again =
     }
 
 pub write-then-read : {lent : Lent} {text : List ℕ} {header : Header} {tables : Tables} {count : ℕ} {after : List ℕ}
-    → Run lent text header tables count after → {answer : Reading} {tables' : Tables}
+    → Run lent text header tables count after → {answer : Result Header Refusal} {tables' : Tables}
     → ReadBy lent (take count after) answer tables' → ReadAgain header tables answer tables'
 write-then-read {lent} {text} {header} {tables} run {answer} {tables'} again =
     let a = ran run in

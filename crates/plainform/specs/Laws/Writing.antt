@@ -1,7 +1,7 @@
 -- Laws about writing the plain form: the sets that were collected and the trees numbered by them are the plain form of
 -- the book that was lent, so the lines that are written are its lines, and the answer and the text are those that the
 -- definition says.
-use Rattle.std.specs.Prelude.{◌≡◌, true, false, not, ℕ, ◌*◌, ◌/◌, ◌≤◌, ◌<◌, T, ltb, eqb}
+use Rattle.std.specs.Prelude.{◌≡◌, true, false, not, ℕ, ◌*◌, ◌/◌, ◌≤◌, ◌<◌, T, ltb, eqb, Result, Ok, Err}
 use Rattle.std.proofs.Math.Path.{sym, ap}
 use Rattle.std.proofs.Common.{◌∙◌, subst, inl, inr, arith, lt→ltb, length-append, length-take-le}
 use mathlib.Core.List.{List, [], ◌∷◌, map}
@@ -10,6 +10,7 @@ use Rattle.std.proofs.Math.ListN.{length, take, length-map}
 use borrow.Author.Tests.{le-leb, lt-leb}
 use Rattle.definitions.specs.declared.Header.{Header}
 use Rattle.definitions.specs.declared.Fault.TheVariants.{Foreign, Short}
+use Rattle.definitions.specs.declared.Refusal.{Refusal}
 use Rattle.definitions.specs.Forms.{most_nodes}
 use Rattle.definitions.specs.Lists.{concat_map, sum_of, cleared, padded}
 use Rattle.definitions.specs.Faults.{judge}
@@ -36,13 +37,11 @@ use Rattle.lines.specs.Laws.Putting.{put-after}
 use Rattle.tables.specs.Usable.{tree_nodes}
 use Rattle.tables.specs.Laws.KnownTables.{known-records}
 use Rattle.writing.specs.Answers.{TextLeft}
-use Rattle.writing.specs.declared.Written.{Written}
-use Rattle.writing.specs.declared.Written.TheVariants.{Bytes}
-use Rattle.writing.specs.Laws.Answering.{refusal, refused-left, answered-left}
+use Rattle.writing.specs.Laws.Answering.{refused-left, answered-left}
 use Rattle.booktext.specs.Parts.{contents_with, book_lines}
 use Rattle.booktext.specs.Putting.{Put}
 use Rattle.booktext.specs.Laws.Texts.{text-counted, text-put}
-use Rattle.plainform.specs.LentTrees.{trees_in, there_in, KnownRoots}
+use Rattle.plainform.specs.LentTrees.{trees_in, there_in, Listed}
 use Rattle.plainform.specs.Collecting.{Collected}
 use Rattle.plainform.specs.Numbering.{all_words, Numberable}
 
@@ -94,11 +93,10 @@ module _ {header : Header} {nodes classes roots plains : List ℕ}
   s : Stated header contents
   s = lent.stated
 
-  pub roots-known : KnownRoots header nodes roots
-  roots-known =
+  pub roots-listed : Listed header roots
+  roots-listed =
       record {
-        known = lent.known;
-        listed = every_in _ roots (λ root i. (T-or (eqb root no_root) (ltb root header.nodes)).1
+        each = every_in _ roots (λ root i. (T-or (eqb root no_root) (ltb root header.nodes)).1
             (by-test (eqb root no_root) (λ e. inl (rw e tt))
             (λ e.
             let given = in-select (λ root. not (eqb root no_root)) root roots i (rw e tt) in
@@ -274,22 +272,22 @@ module _ (header : Header) (tables : Tables) (known : tables_known header tables
 
     -- ---- what writing answers and leaves
 
-    pub write-short : {answer : Written} {cleared-again : List ℕ} → size / 32 < count → answer ≡ refusal Short
+    pub write-short : {answer : Result ℕ Refusal} {cleared-again : List ℕ} → size / 32 < count → answer ≡ Err (record { fault = Short; line = 0 })
         → cleared-again ≡ cleared size → TextLeft (write_plain header tables size) size answer cleared-again
     unfolding write_plain judge
     write-short l =
         let long : size < length (plain_text own) = omega (arith, plain-counted) in
         refused-left size Short (rw (known, lt-leb (length (plain_text own)) size long))
 
-    pub write_done : 32 * count ≤ size → TextLeft (write_plain header tables size) size (Bytes (32 * count)) after
+    pub write_done : 32 * count ≤ size → TextLeft (write_plain header tables size) size (Ok (32 * count)) after
     unfolding write_plain judge
     write_done room =
         let fits : length (plain_text own) ≤ size = omega (arith, plain-counted) in
         answered-left size (rw (known, le-leb (length (plain_text own)) size fits)) (sym plain-counted)
         (plain-put room)
 
-pub write-foreign : (header : Header) (tables : Tables) (size : ℕ) {answer : Written} {after : List ℕ}
-    → tables_known header tables ≡ false → answer ≡ refusal Foreign → after ≡ cleared size
+pub write-foreign : (header : Header) (tables : Tables) (size : ℕ) {answer : Result ℕ Refusal} {after : List ℕ}
+    → tables_known header tables ≡ false → answer ≡ Err (record { fault = Foreign; line = 0 }) → after ≡ cleared size
     → TextLeft (write_plain header tables size) size answer after
 unfolding write_plain judge
 write-foreign header tables size k = refused-left size Foreign (rw k)

@@ -3,7 +3,6 @@ use Rattle.std.specs.Prelude.{◌≡◌, List, [], ℕ, ◌+◌, ◌-◌, ◌≤
 use Rattle.std.proofs.Math.Path.{sym}
 use Rattle.std.proofs.Common.{◌∙◌, add-one, drop_of_length-le, length-take, length-drop, drop-cons, take_all}
 use native.Mathlib.Omega.{arith}
-use Rattle.std.proofs.Math.Nat.{sub-zero}
 use Rattle.std.proofs.Math.ListN.{length}
 use borrow.Author.Tests.{eq-eqb, ne_eqb}
 use Rattle.definitions.specs.Lists.{◌!◌}
@@ -29,9 +28,9 @@ module _ (text : List ℕ) (byte i : ℕ) where
 -- ---- cutting out a title and what stands below it
 
 module _ (text : List ℕ) (line : ℕ) (e : line ≡ place_of 10 text) where
-  pub title-cut : take (line - 0) text ≡ title_of text
+  pub title-cut : take line text ≡ title_of text
   unfolding title_of
-  title-cut = rw (e, sub-zero)
+  title-cut = rw e
 
   -- below it are all the bytes from there on
   rest_below : take (length text - line) (drop line text) ≡ drop line text

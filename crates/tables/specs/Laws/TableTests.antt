@@ -1,20 +1,21 @@
 -- Laws about the tests of whole tables under a known header: nothing beyond the words that count, and the walk
 -- over the nodes. The code's counts are those of the header, by the equations handed in.
-use Rattle.std.specs.Prelude.{◌≡◌, List, true, false, ◌&&◌, ◌||◌, T, ℕ, ◌+◌, ◌*◌, ◌≤◌, ◌<◌, length, take, drop}
-use Rattle.std.proofs.Math.Path.{sym}
-use Rattle.std.proofs.Common.{◌∙◌, add-one, arith, length-take-le}
+use Rattle.std.specs.Prelude.{◌≡◌, List, [], true, false, ◌&&◌, ◌||◌, T, ℕ, ◌+◌, ◌*◌, ◌≤◌, ◌<◌, length, take, drop}
+use Rattle.std.proofs.Math.Path.{sym, refl}
+use Rattle.std.proofs.Common.{◌∙◌, add-one, arith, length-take-le, drop-cons, drop_of_length-le}
 use Rattle.definitions.specs.declared.Header.{Header}
 use Rattle.definitions.specs.declared.Node.{Node}
 use Rattle.definitions.specs.BookLines.{root_count}
 use Rattle.definitions.specs.BookReading.{node_size}
-use Rattle.definitions.specs.Tables.{node_of}
+use Rattle.definitions.specs.Tables.{node_of, node_records}
 use Rattle.definitions.specs.ForeignTables.{question_known, leaf_known, nodes_known, holds_only, node_table_known}
 use Rattle.definitions.specs.ForeignTables.{header_known, class_table_known, root_table_known}
 use Rattle.definitions.proofs.Laws.Lists.Tests.{T-three}
+use Rattle.definitions.proofs.Laws.Books.Tables.{node-records-length}
 use Rattle.definitions.proofs.Laws.Books.AcceptedKnown.{holds-padded}
 use Rattle.definitions.proofs.Laws.Books.KnownBooks.{root-table-parts}
-use Rattle.tables.specs.Usable.{records_from}
-use Rattle.tables.specs.Laws.Records.{records-start, records-next, records-end}
+use Rattle.tables.specs.Records.{Gives}
+use Rattle.tables.specs.Laws.KnownTables.{record-listed}
 
 -- ---- a table's length, and nothing beyond
 
@@ -36,37 +37,42 @@ roots-taken header words {count} e h = sym (length-take-le count words (omega ar
 
 -- ---- nodes
 
--- the records before a node are known, so the table is left to the others
-pub record Judged (header : Header) (words : List ℕ) (at : ℕ) : Type 0 where
-  pub within : at ≤ header.nodes
-  pub rest : node_table_known header words ≡ nodes_known header at (records_from header.nodes at words)
+-- the records before a node are known, so all are left to the others
+pub record Judged (header : Header) (nodes : List Node) (at : ℕ) : Type 0 where
+  pub within : at ≤ length nodes
+  pub rest : nodes_known header 0 nodes ≡ nodes_known header at (drop at nodes)
 
-pub nodes-held : (header : Header) (words : List ℕ) {count : ℕ} → count ≡ header.nodes
-    → holds_only (node_size * count) words ≡ true → Judged header words 0
-unfolding node_table_known
-nodes-held header words e h =
-    let held : holds_only (node_size * header.nodes) words ≡ true = rw e at h in
-    record { within = omega arith; rest = rw (held, records-start header words) }
+pub judged-start : (header : Header) (nodes : List Node) → Judged header nodes 0
+judged-start header nodes = record { within = omega arith; rest = refl }
 
-module _ {header : Header} {words : List ℕ} {at : ℕ} (j : Judged header words at) where
-  judged-next : at < header.nodes → {node : Node} → node ≡ node_of (drop (node_size * at) words)
-      → (question_known header at node || leaf_known node) ≡ true
-      → node_table_known header words ≡ nodes_known header (at + 1) (records_from header.nodes (at + 1) words)
-  unfolding nodes_known
-  judged-next h e known = j.rest ∙ rw (records-next header.nodes at words h, ← e, known, add-one)
+module _ {answers : ℕ → Node → Type 0} {header : Header} {nodes : List Node} {at : ℕ}
+    (g : Gives answers header.nodes nodes) (j : Judged header nodes at)
+  where
+    module _ (h : at < header.nodes) {node : Node} (own : answers at node) where
+      next : nodes_known header 0 nodes
+          ≡ ((question_known header at node || leaf_known node) && nodes_known header (at + 1) (drop (at + 1) nodes))
+      unfolding nodes_known
+      next = j.rest ∙ rw (drop-cons nodes at (node_of []) (omega (arith, g.counted)), add-one, ← g.own at h node own)
 
-  pub nodes-more : at < header.nodes → {node : Node} → node ≡ node_of (drop (node_size * at) words)
-      → (question_known header at node || leaf_known node) ≡ true → Judged header words (at + 1)
-  nodes-more h e known = record { within = omega arith; rest = judged-next h e known }
+      pub judged-more : (question_known header at node || leaf_known node) ≡ true → Judged header nodes (at + 1)
+      judged-more known = record { within = omega (arith, g.counted); rest = next ∙ rw known }
 
-  pub nodes-stop : at < header.nodes → {node : Node} → node ≡ node_of (drop (node_size * at) words)
-      → (question_known header at node || leaf_known node) ≡ false → false ≡ node_table_known header words
-  unfolding nodes_known
-  nodes-stop h e foreign = sym (j.rest ∙ rw (records-next header.nodes at words h, ← e, foreign))
+      pub judged-stop : (question_known header at node || leaf_known node) ≡ false → false ≡ nodes_known header 0 nodes
+      judged-stop foreign = sym (next ∙ rw foreign)
 
-  pub nodes-end : header.nodes ≤ at → true ≡ node_table_known header words
-  unfolding nodes_known
-  nodes-end h = sym (j.rest ∙ rw (records-end header.nodes at words h))
+    pub judged-end : header.nodes ≤ at → true ≡ nodes_known header 0 nodes
+    unfolding nodes_known
+    judged-end h = sym (j.rest ∙ rw (drop_of_length-le nodes {i = at} (omega (arith, g.counted))))
+
+-- the words of a table give its records
+pub words-give : (header : Header) (words : List ℕ) {answers : ℕ → Node → Type 0}
+    → ((node : ℕ) (r : Node) → answers node r → r ≡ node_of (drop (node_size * node) words))
+    → Gives answers header.nodes (node_records header words)
+words-give header words says =
+    record {
+      counted = node-records-length header words;
+      own = λ node h r k. says node r k ∙ sym (record-listed header words node h);
+    }
 
 -- what `named_once` asks holds once the records and the roots are known
 pub once-asks : (header : Header) (nodes classes plains roots : List ℕ)

@@ -14,7 +14,7 @@ use Rattle.definitions.specs.declared.Node.{Node}
 use Rattle.definitions.specs.Lists.{◌!◌, every, concat_map}
 use Rattle.definitions.specs.BookLines.{TreeNode, root_count, is_phone}
 use Rattle.definitions.specs.BookReading.{node_size}
-use Rattle.definitions.specs.Tables.{Book, node_of, root_of}
+use Rattle.definitions.specs.Tables.{Book, node_of, node_records, root_of}
 use Rattle.definitions.specs.Lookup.{reached, model_at, is_context}
 use Rattle.definitions.specs.TreesGive.{silences, contexts}
 use Rattle.definitions.specs.Transcription.{reached_for, model_of, transcription}
@@ -26,7 +26,8 @@ use Rattle.definitions.proofs.Laws.Trees.Contexts.{context_at, contexts-length, 
 use Rattle.definitions.proofs.Laws.Trees.Contexts.{silent-context-length}
 use Rattle.tables.specs.Usable.{book_with, tree_nodes}
 use Rattle.trees.specs.declared.Walked.{Walked}
-use Rattle.trees.specs.Answers.{walked_of}
+use Rattle.tables.specs.Laws.KnownTables.{record-listed}
+use Rattle.trees.specs.Answers.{Walks}
 use Rattle.transcripts.specs.Answers.{found_of, state_models}
 use Rattle.trees.specs.Laws.Walking.{model_is}
 
@@ -35,19 +36,21 @@ pub found-reached : (header : Header) (nodes classes roots context : List ℕ)
     (state root count : ℕ) (walked : Walked) (x : Node)
     → root ≡ take (root_count header) roots ! ((context ! header.half - 1) * header.states + (state - 1))
     → count ≡ header.classes
-    → (walked ≡ walked_of (reached (tree_nodes header nodes) (take count classes) context root))
-    × (walked.leaf < header.nodes) × ((node_of (drop (node_size * walked.leaf) nodes)).kind ≡ 1 → ⊥)
+    → Walks header (node_records header nodes) (take count classes) context root walked
     → x ≡ node_of (drop (node_size * walked.leaf) nodes)
     → record { model = x.value; questions = walked.questions }
     ≡ found_of (reached_for (book_with header nodes classes roots) context state)
 unfolding book_with root_of
 found-reached header nodes classes roots context state root count walked x r n w own =
     let tree : List TreeNode = tree_nodes header nodes in
-    let model = ap (λ (x : Node). x.value) own ∙ sym (model_is header nodes walked.leaf w.1 w.2)
-    ∙ ap (λ (walked : Walked). model_at tree walked.leaf) w.0
+    let listed = record-listed header nodes walked.leaf w.listed in
+    let other : (node_of (drop (node_size * walked.leaf) nodes)).kind ≡ 1 → ⊥ =
+    λ k. w.ends (ap (λ (x : Node). x.kind) listed ∙ k) in
+    let model = ap (λ (x : Node). x.value) own ∙ sym (model_is header nodes walked.leaf w.listed other)
+    ∙ ap (λ (walked : Walked). model_at tree walked.leaf) w.reaches
     ∙ sym (reached-model tree (take count classes) context root) in
     ap₂ (λ (model questions : ℕ). record { model = model; questions = questions })
-    model (ap (λ (walked : Walked). walked.questions) w.0)
+    model (ap (λ (walked : Walked). walked.questions) w.reaches)
     ∙ ap₂ (λ (count root : ℕ). found_of (reached tree (take count classes) context root)) n r
 
 -- ---- the states of a context

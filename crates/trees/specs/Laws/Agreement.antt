@@ -1,6 +1,6 @@
 -- The two lookups agree: over a table of words that holds only the header's records and over these records;
 -- over node structs and over their words, with any number of zeros beyond them.
-use Rattle.std.specs.Prelude.{◌≡◌, refl}
+use Rattle.std.specs.Prelude.{◌≡◌, refl, Result}
 use Rattle.std.proofs.Math.Path.{sym, ap, subst}
 use Rattle.std.proofs.Common.{◌∙◌, arith}
 use mathlib.Core.List.{List, ◌++◌}
@@ -9,8 +9,9 @@ use Rattle.std.proofs.Math.Dec.{T}
 use Rattle.std.proofs.Math.ListN.{length}
 use Rattle.definitions.specs.declared.Header.{Header}
 use Rattle.definitions.specs.declared.Node.{Node}
+use Rattle.definitions.specs.declared.Refusal.{Refusal}
 use Rattle.definitions.specs.Faults.{judge}
-use Rattle.definitions.specs.Said.{said_of}
+use Rattle.definitions.specs.Said.{result_of}
 use Rattle.definitions.specs.Lists.{concat_map, cleared, padded}
 use Rattle.definitions.specs.BookReading.{node_size}
 use Rattle.definitions.specs.Tables.{record_words, node_of, node_records}
@@ -21,9 +22,8 @@ use Rattle.definitions.proofs.Laws.Lists.Members.{map_back}
 use Rattle.definitions.proofs.Laws.Lists.Records.{flat-length}
 use Rattle.definitions.proofs.Laws.Books.Tables.{written-nodes}
 use Rattle.definitions.proofs.Laws.Books.AcceptedKnown.{holds-used}
-use Rattle.trees.specs.declared.Lookup.{Lookup}
-use Rattle.trees.specs.Answers.{walked_of, no_walk, lookup_of, lookup_said}
-use Rattle.trees.specs.Laws.Said.{lookup-told}
+use Rattle.trees.specs.declared.Walked.{Walked}
+use Rattle.trees.specs.Answers.{walked_of}
 
 -- ---- over a table of words and over its records
 
@@ -76,13 +76,13 @@ module _ (header : Header) (nodes : List Node) (counted : length nodes ≡ heade
 -- with their words and is 0 beyond them; the other arguments were the same. The premises are what the contracts
 -- of the two entries ensure of their answers.
 module _ (header : Header) (classes : List ℕ) (nodes : List Node) (root : ℕ) (context : List ℕ) (beyond : ℕ)
-    (counted : length nodes ≡ header.nodes) (of-structs of_words : Lookup)
-    (structs-say : lookup_said of-structs ≡ said_of walked_of no_walk (leaf_lookup header classes nodes root context))
-    (words-say : lookup_said of_words ≡ said_of walked_of no_walk
+    (counted : length nodes ≡ header.nodes) (of-structs of_words : Result Walked Refusal)
+    (structs-say : of-structs ≡ result_of walked_of (leaf_lookup header classes nodes root context))
+    (words-say : of_words ≡ result_of walked_of
     (leaf_lookup_in_table header classes (concat_map record_words nodes ++ cleared beyond) root context))
   where
     -- then they answer the same, refusals too
     pub answers_agree : of-structs ≡ of_words
     answers_agree =
         let same = structs-agree header nodes counted beyond classes root context in
-        lookup-told _ structs-say ∙ sym (lookup-told _ words-say ∙ ap lookup_of same)
+        structs-say ∙ sym (words-say ∙ ap (result_of walked_of) same)

@@ -1,27 +1,24 @@
 -- Laws about the answers of the lookup, one for each way that the code returns.
-use Rattle.std.specs.Prelude.{◌≡◌, refl, List, map, true, ◌&&◌, ℕ, ◌*◌, ◌<◌, ltb, length}
+use Rattle.std.specs.Prelude.{◌≡◌, refl, List, map, Result, Ok, Err, true, ◌&&◌, ℕ, ◌*◌, ◌<◌, ltb, length}
 use Rattle.std.proofs.Common.{sym, ap, ◌∙◌}
-use Rattle.std.proofs.Math.Bool.{Bool, false}
+use Rattle.std.proofs.Math.Bool.{Bool, false, and_assoc, and_comm}
 use Rattle.std.proofs.lemmas.Bool.{false≢true}
-use Rattle.std.proofs.Math.Dec.{T, eqb, ltb→lt}
+use Rattle.std.proofs.Math.Dec.{T, eqb, ltb→lt, eqb→eq}
 use Rattle.definitions.specs.declared.Header.{Header}
 use Rattle.definitions.specs.declared.Node.{Node}
 use Rattle.definitions.specs.declared.Fault.{Fault}
 use Rattle.definitions.specs.declared.Fault.TheVariants.{Foreign, Range}
 use Rattle.definitions.specs.declared.Refusal.{Refusal}
 use Rattle.definitions.specs.Faults.{judge}
-use Rattle.definitions.specs.Said.{said_of}
+use Rattle.definitions.specs.Said.{result_of}
 use Rattle.definitions.specs.BookReading.{node_size}
 use Rattle.definitions.specs.Tables.{tree_node, node_records}
 use Rattle.definitions.specs.ForeignTables.{header_known, nodes_known, holds_only, class_table_known}
 use Rattle.definitions.specs.Lookup.{reached, lookup_known, is_context, leaf_lookup, leaf_lookup_in_table}
-use Rattle.definitions.proofs.Laws.Lists.Tests.{T-three, by-test}
+use Rattle.definitions.proofs.Laws.Lists.Tests.{T-three, T_and, by-test}
 use Rattle.tables.specs.Usable.{tree_nodes}
 use Rattle.trees.specs.declared.Walked.{Walked}
-use Rattle.trees.specs.declared.Lookup.{Lookup}
-use Rattle.trees.specs.declared.Lookup.TheVariants as lookup
-use Rattle.trees.specs.Answers.{walked_of, no_walk, lookup_of, lookup_said}
-use Rattle.trees.specs.Laws.Said.{lookup-said}
+use Rattle.trees.specs.Answers.{walked_of}
 use Rattle.trees.specs.Laws.Agreement.{tables_agree}
 
 abbrev pub at-no-line : Fault → Refusal
@@ -34,22 +31,48 @@ both false b e = absurd (false≢true e)
 -- ---- the lookup over records: 18, then 13
 
 module _ (header : Header) (classes : List ℕ) (nodes : List Node) (root : ℕ) (context : List ℕ) where
+  -- all but the records are tested first
+  abbrev pub listed : Bool
+  listed = header_known header && eqb (length nodes) header.nodes && class_table_known header classes && ltb root header.nodes
+
+  pub records-last : lookup_known header classes nodes root ≡ (listed && nodes_known header 0 nodes)
+  unfolding lookup_known
+  records-last =
+      shuffled (header_known header) (eqb (length nodes) header.nodes) (nodes_known header 0 nodes)
+      (class_table_known header classes) (ltb root header.nodes)
+    where
+      shuffled : (a b c d e : Bool) → (a && b && c && d && e) ≡ ((a && b && d && e) && c)
+      shuffled true true c d e = and_assoc c d e ∙ and_comm c (d && e)
+      shuffled true false c d e = refl
+      shuffled false b c d e = refl
+
+  -- then there are as many records as the header says
+  pub listed-counted : listed ≡ true → length nodes ≡ header.nodes
+  listed-counted e =
+      let counted : Bool = eqb (length nodes) header.nodes in
+      let front = ((T-three (header_known header && counted) (class_table_known header classes)
+      (ltb root header.nodes)).0 (rw e tt)).0 in
+      eqb→eq _ _ ((T_and (header_known header) counted).0 front).1
+
   pub records-foreign : lookup_known header classes nodes root ≡ false
-      → lookup.Refused (at-no-line Foreign) ≡ lookup_of (leaf_lookup header classes nodes root context)
-  unfolding leaf_lookup judge lookup_of
+      → Err (at-no-line Foreign) ≡ result_of walked_of (leaf_lookup header classes nodes root context)
+  unfolding leaf_lookup judge result_of
   records-foreign h = rw h
 
   module _ (h : lookup_known header classes nodes root ≡ true) where
     pub records-range : is_context header context ≡ false
-        → lookup.Refused (at-no-line Range) ≡ lookup_of (leaf_lookup header classes nodes root context)
-    unfolding leaf_lookup judge lookup_of
+        → Err (at-no-line Range) ≡ result_of walked_of (leaf_lookup header classes nodes root context)
+    unfolding leaf_lookup judge result_of
     records-range e = rw (h, e)
 
     pub records-leaf : is_context header context ≡ true → (walked : Walked)
         → walked ≡ walked_of (reached (map tree_node nodes) classes context root)
-        → lookup.Leaf walked ≡ lookup_of (leaf_lookup header classes nodes root context)
-    unfolding leaf_lookup judge lookup_of
+        → Ok walked ≡ result_of walked_of (leaf_lookup header classes nodes root context)
+    unfolding leaf_lookup judge result_of
     records-leaf e walked own = rw (h, e, own)
+
+    pub records-counted : length nodes ≡ header.nodes
+    records-counted = listed-counted (both listed (nodes_known header 0 nodes) (sym records-last ∙ h)).0
 
     -- what a walk asks of the records
     pub records-fit : T (nodes_known header 0 nodes) × (root < header.nodes)
@@ -71,16 +94,15 @@ module _ (header : Header) (words classes : List ℕ) (root : ℕ) (context : Li
   abbrev known : Bool
   known = lookup_known header classes (node_records header words) root
 
-  abbrev Says : Lookup → Type 0
-  Says found = lookup_said found ≡ said_of walked_of no_walk (leaf_lookup_in_table header classes words root context)
+  abbrev Says : Result Walked Refusal → Type 0
+  Says found = found ≡ result_of walked_of (leaf_lookup_in_table header classes words root context)
 
-  in_table : {found : Lookup} → held ≡ true
-      → found ≡ lookup_of (leaf_lookup header classes (node_records header words) root context) → Says found
-  in_table e h =
-      lookup-said _ (h ∙ ap lookup_of (sym (tables_agree header classes words root context (rw e tt))))
+  in_table : {found : Result Walked Refusal} → held ≡ true
+      → found ≡ result_of walked_of (leaf_lookup header classes (node_records header words) root context) → Says found
+  in_table e h = h ∙ ap (result_of walked_of) (sym (tables_agree header classes words root context (rw e tt)))
 
-  pub lookup-foreign : (held && known) ≡ false → Says (lookup.Refused (at-no-line Foreign))
-  unfolding leaf_lookup_in_table judge said_of
+  pub lookup-foreign : (held && known) ≡ false → Says (Err (at-no-line Foreign))
+  unfolding leaf_lookup_in_table judge result_of
   lookup-foreign h =
       by-test held
       (λ e. let other : known ≡ false = rw e at h in
@@ -88,13 +110,13 @@ module _ (header : Header) (words classes : List ℕ) (root : ℕ) (context : Li
       (λ e. rw e)
 
   module _ (h : (held && known) ≡ true) where
-    pub lookup-range : is_context header context ≡ false → Says (lookup.Refused (at-no-line Range))
+    pub lookup-range : is_context header context ≡ false → Says (Err (at-no-line Range))
     lookup-range e =
         let (words-held, all) = both held known h in
         in_table words-held (records-range header classes (node_records header words) root context all e)
 
     pub lookup-leaf : is_context header context ≡ true → (walked : Walked)
-        → walked ≡ walked_of (reached (tree_nodes header words) classes context root) → Says (lookup.Leaf walked)
+        → walked ≡ walked_of (reached (tree_nodes header words) classes context root) → Says (Ok walked)
     lookup-leaf e walked own =
         let (words-held, all) = both held known h in
         in_table words-held (records-leaf header classes (node_records header words) root context all e walked own)

@@ -19,7 +19,7 @@ use Rattle.tables.specs.Usable.{tree_nodes}
 use Rattle.tables.specs.Laws.KnownTables.{node-listed, leaf-is, record-fits}
 use Rattle.trees.specs.declared.Walked.{Walked}
 use Rattle.trees.specs.Answers.{walked_of}
-use Rattle.trees.specs.Stages.{record_at}
+use Rattle.tables.specs.Records.{record_at}
 
 module _ (header : Header) (nodes : List Node) (classes context : List ℕ) where
   abbrev walked : (steps node : ℕ) → Reached

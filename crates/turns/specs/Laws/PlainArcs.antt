@@ -1,6 +1,6 @@
 -- Laws about the arcs that a turn adds first: a metastate's own, and the arc to FINAL where it may end; and
 -- that they are at most three.
-use Rattle.std.specs.Prelude.{◌≡◌, refl, false, not, ℕ, ◌≤◌, ◌<◌, length, drop}
+use Rattle.std.specs.Prelude.{◌≡◌, refl, false, ℕ, ◌≤◌, ◌<◌, length, drop}
 use Rattle.std.proofs.Common.{sym, ◌∙◌, arith, length-append, length-drop, eq-eqb, ne_eqb}
 use Rattle.std.proofs.Math.Path.{subst}
 use mathlib.Core.List.{List, [], ◌∷◌, ◌++◌, append-nil}
@@ -11,7 +11,7 @@ use Rattle.definitions.specs.Arcs.{Arc, arc, first_state, last_state}
 use Rattle.definitions.specs.Matrices.{ends_here}
 use Rattle.definitions.specs.Metastates.{Metastate, combination_of, phone_of, models_of, may_end}
 use Rattle.definitions.specs.Connecting.{final_arcs}
-use Rattle.definitions.proofs.Laws.Lists.Tests.{by-test, held, failed}
+use Rattle.definitions.proofs.Laws.Lists.Tests.{by-test}
 use Rattle.definitions.proofs.Laws.Books.AcceptedKnown.{header-ranges}
 use Rattle.tables.specs.Usable.{book_with}
 use Rattle.index.specs.Combinations.{combinations_in, nodes_book, Usable, rules_in}
@@ -54,22 +54,22 @@ module _ {header : Header} {nodes combinations : List ℕ} {place : ℕ} (x : Me
 
     -- silence that may not stand to the right
     pub plain-inside : {answer : Bool} {new : Arcs} → answer ≡ ends_here header.half x.carried
-        → not answer ≡ true → Own new → Plain new
+        → answer ≡ false → Own new → Plain new
     unfolding may_end book_with
     plain-inside e n own =
         let silent : Bool = eqb (phone_of (combinations_in header combinations) x) 1 in
-        no-final (rw (failed e n) (and-false silent)) own
+        no-final (rw (sym e ∙ n) (and-false silent)) own
 
     -- the arc to FINAL
     pub plain-final : {phone last : ℕ} {answer : Bool} {new more : Arcs}
         → phone ≡ phone_word header.half combinations x.number → phone ≡ 1
-        → answer ≡ ends_here header.half x.carried → not answer ≡ false
+        → answer ≡ ends_here header.half x.carried → answer ≡ true
         → last ≡ last_state header.states place → Own new
         → ((arcs : List Arc) → AreArcs new arcs → AreArcs more (arcs ++ (arc last 1 0 0 ∷ []))) → Plain more
     unfolding may_end book_with final_arcs models_of combination_of
     plain-final {more = more} e one a n s own grows =
         let ends : may_end (nodes_book header nodes) (combinations_in header combinations) x ≡ true =
-        rw (eq-eqb _ 1 (sym (phone_is e) ∙ one), held a n) in
+        rw (eq-eqb _ 1 (sym (phone_is e) ∙ one), sym a ∙ n) in
         subst (λ (k : List Arc). AreArcs more (own_of header nodes combinations place x ++ k))
         (rw (ends, s)) (grows _ own)
 

@@ -1,5 +1,5 @@
 -- Laws about one line of a word book as the code has it: what its row says, and when it comes next.
-use Rattle.std.specs.Prelude.{◌≡◌, false, ℕ, suc, ◌+◌, eqb}
+use Rattle.std.specs.Prelude.{◌≡◌, ℕ, suc, ◌+◌, eqb}
 use Rattle.std.proofs.Math.Bool.{or-false}
 use Rattle.std.proofs.Math.Numerals.{add-one}
 use Rattle.std.proofs.Common.{arith}
@@ -31,10 +31,10 @@ module _ (last line : WordLine) where
       )
 
   module _ (n : line.word ≡ last.word → ⊥) {word next : ℕ} (p : word ≡ line.word) (q : next ≡ last.word) where
-    pub next-far : (word ≡ next + 1 → ⊥) → false ≡ comes_next last line
+    pub next-far : (word ≡ next + 1 → ⊥) → eqb word (next + 1) ≡ comes_next last line
     unfolding comes_next
     next-far k =
-        rw (ne_eqb line.word last.word n, ne_eqb line.word (suc last.word) (λ e. k (omega arith)))
+        rw (ne_eqb word (next + 1) k, ne_eqb line.word last.word n, ne_eqb line.word (suc last.word) (λ e. k (omega arith)))
 
     pub next-first : word ≡ next + 1 → eqb line.place 1 ≡ comes_next last line
     unfolding comes_next

@@ -1,6 +1,6 @@
 -- Laws about the reading loop: what holds after each line that was taken, and what a refusal and the end give.
 -- The idea: the last line and the lent table are those of the lines before, and reading goes on from there.
-use Rattle.std.specs.Prelude.{◌≡◌, refl, true, false, ℕ, suc, ◌+◌, ◌/◌, ◌≤◌, ◌<◌, leb}
+use Rattle.std.specs.Prelude.{◌≡◌, refl, true, false, ℕ, suc, ◌+◌, ◌/◌, ◌≤◌, ◌<◌, leb, Result, Ok, Err}
 use Rattle.std.proofs.Math.Path.{sym, ap, subst}
 use Rattle.std.proofs.Common.{◌∙◌, add-one, arith}
 use mathlib.Core.List.{List, [], ◌∷◌, ◌++◌}
@@ -10,6 +10,8 @@ use Rattle.definitions.specs.declared.Fault.TheVariants.{Ragged}
 use Rattle.definitions.specs.Faults.{refuse, judge}
 use Rattle.definitions.specs.Forms.{word_forms}
 use Rattle.definitions.specs.Lines.{whole_lines}
+use Rattle.definitions.specs.declared.Refusal.{Refusal}
+use Rattle.definitions.specs.Said.{result_of}
 use Rattle.definitions.specs.Reading.{Kind, read_from}
 use Rattle.definitions.specs.WordBooks.{WordLine, word_line, last_line, word_count, word_size, word_kind}
 use Rattle.definitions.specs.WordBooks.{read_words, words_left}
@@ -23,11 +25,6 @@ use Rattle.lines.specs.Judging.{taken_by, line_taken, lines_before, line_bytes}
 use Rattle.lines.specs.Laws.Judging.{verdict-taken, lines_none, lines_more, GoesOn}
 use Rattle.lines.specs.Laws.Judging.{goes-on-first, text-torn, goes-on-more, goes-on-refused, goes-on-end}
 use Rattle.words.specs.declared.Entry.{Entry}
-use Rattle.words.specs.declared.Reading.{Reading}
-use Rattle.words.specs.declared.Reading.TheVariants.{Refused}
-use Rattle.words.specs.declared.Step.{Step}
-use Rattle.words.specs.declared.Step.TheVariants.{Next, Stop}
-use Rattle.words.specs.Answers.{reading_of}
 use Rattle.words.specs.Entries.{entry_line}
 use Rattle.words.specs.Storing.{words_stored}
 use Rattle.words.specs.Taking.{step_of, words_taken, finish_of, Cleared, Read}
@@ -63,8 +60,8 @@ first-turn text words whole c =
 
 refused-returns : (lent : ℕ) (text words : List ℕ) (fault : Fault) (line : ℕ)
     → read_words lent text ≡ refuse fault line → length words ≡ lent
-    → (Refused (record { fault = fault; line = line }) ≡ reading_of (read_words lent text)) × Read lent text words
-unfolding reading_of
+    → (Err (record { fault = fault; line = line }) ≡ result_of word_count (read_words lent text)) × Read lent text words
+unfolding result_of
 refused-returns lent text words fault line e l = (
   rw e refl,
   record {
@@ -75,7 +72,7 @@ refused-returns lent text words fault line e l = (
 
 -- a text that is not in whole lines
 pub torn-returns : (text words : List ℕ) → whole_lines text ≡ false
-    → (Refused (record { fault = Ragged; line = 0 }) ≡ reading_of (read_words (length words) text))
+    → (Err (record { fault = Ragged; line = 0 }) ≡ result_of word_count (read_words (length words) text))
     × Read (length words) text words
 unfolding read_words
 torn-returns text words e =
@@ -84,8 +81,8 @@ torn-returns text words e =
 -- ---- after the last line
 
 finish-last : (lent : ℕ) (before : List WordLine) (at : ℕ)
-    → finish_of lent (last_line before) ≡ reading_of (read_from (word_kind lent) at before [])
-unfolding finish_of read_from judge word_kind word_count reading_of
+    → finish_of lent (last_line before) ≡ result_of word_count (read_from (word_kind lent) at before [])
+unfolding finish_of read_from judge word_kind word_count result_of
 finish-last lent before at = by-test (leb (last_line before).word (lent / word_size)) (λ e. rw e) (λ e. rw e)
 
 -- ---- a turn, and what the returns give
@@ -98,21 +95,21 @@ module _ {lent : ℕ} {text : List ℕ} {i : ℕ} {last : Entry} {words : List �
   before = lines_before kind text i
 
   -- the step as it was taken, by the lines before
-  step-here : (bytes : List ℕ) (step taken : Step) → bytes ≡ line_bytes text i
+  step-here : (bytes : List ℕ) (step taken : Result Entry Fault) → bytes ≡ line_bytes text i
       → step ≡ step_of (entry_line last) bytes → step ≡ taken → step_of (last_line before) (line_bytes text i) ≡ taken
   step-here bytes step taken b e k = rw (← t.newest, ← b) (sym e ∙ k)
 
   -- a line that was taken
-  pub turn-next : (bytes : List ℕ) (step : Step) (next : Entry) (words' : List ℕ)
+  pub turn-next : (bytes : List ℕ) (step : Result Entry Fault) (next : Entry) (words' : List ℕ)
       → bytes ≡ line_bytes text i → i < length text / 32
-      → step ≡ step_of (entry_line last) bytes → step ≡ Next next
+      → step ≡ step_of (entry_line last) bytes → step ≡ Ok next
       → words' ≡ words_taken step words → Turn lent text (i + 1) next words'
   unfolding words_taken line_taken word_kind
   turn-next bytes step next words' b l e k a =
       let line : WordLine = taken_by word_forms word_line (line_bytes text i) in
       let more : before ++ (line ∷ []) ≡ lines_before kind text (i + 1) =
       sym (lines_more kind text i l) ∙ ap (lines_before kind text) (sym (add-one i)) in
-      let here = step-here bytes step (Next next) b e k in
+      let here = step-here bytes step (Ok next) b e k in
       let (verdict, own) = step-next (last_line before) (line_bytes text i) next here in
       let fits = verdict-fits (last_line before) (line_bytes text i) verdict in
       let passed = verdict-taken kind before (line_bytes text i) (sym (verdict-last lent before _) ∙ verdict) in
@@ -129,13 +126,13 @@ module _ {lent : ℕ} {text : List ℕ} {i : ℕ} {last : Entry} {words : List �
       }
 
   -- a line with a fault: the table stays as it was
-  pub stop-returns : (bytes : List ℕ) (step : Step) (fault : Fault) (words' : List ℕ)
+  pub stop-returns : (bytes : List ℕ) (step : Result Entry Fault) (fault : Fault) (words' : List ℕ)
       → bytes ≡ line_bytes text i → i < length text / 32
-      → step ≡ step_of (entry_line last) bytes → step ≡ Stop fault → words' ≡ words_taken step words
-      → (Refused (record { fault = fault; line = i + 1 }) ≡ reading_of (read_words lent text)) × Read lent text words'
+      → step ≡ step_of (entry_line last) bytes → step ≡ Err fault → words' ≡ words_taken step words
+      → (Err (record { fault = fault; line = i + 1 }) ≡ result_of word_count (read_words lent text)) × Read lent text words'
   unfolding words_taken read_words
   stop-returns bytes step fault words' b l e k a =
-      let here = step-here bytes step (Stop fault) b e k in
+      let here = step-here bytes step (Err fault) b e k in
       let verdict = step-stop (last_line before) (line_bytes text i) fault here in
       let refusal : read_words lent text ≡ refuse fault (i + 1) =
       rw (add-one i)
@@ -143,8 +140,8 @@ module _ {lent : ℕ} {text : List ℕ} {i : ℕ} {last : Entry} {words : List �
       refused-returns lent text words' fault (i + 1) refusal (rw (a, k) t.sized)
 
   -- after the last line
-  pub end_returns : (answer : Reading) → length text / 32 ≤ i → answer ≡ finish_of (length words) (entry_line last)
-      → (answer ≡ reading_of (read_words lent text)) × Read lent text words
+  pub end_returns : (answer : Result ℕ Refusal) → length text / 32 ≤ i → answer ≡ finish_of (length words) (entry_line last)
+      → (answer ≡ result_of word_count (read_words lent text)) × Read lent text words
   unfolding read_words words_left
   end_returns answer e a =
       let ended : read_words lent text ≡ read_from kind (suc i) before [] = goes-on-end kind text i t.goes_on e in (

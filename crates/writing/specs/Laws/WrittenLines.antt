@@ -155,17 +155,23 @@ feed-put part bytes k h =
     ∙ set_at part (get_or bytes 30 0) (drop 31 bytes) line_feed 30 k
     ∙ sym (append_snoc part line_feed (drop 31 bytes))
 
+-- what was lent for them came back as long as it was
+module _ (bytes part : List ℕ) (v : ℕ) (room : 32 ≤ length bytes)
+    (lent : length part ≡ length (take 30 (drop 1 (set bytes 0 v)))) where
+  thirty : length part ≡ 30
+  thirty = lent ∙ middle-length bytes v room
+
+  pub put-length : length (put_mid 1 30 (set bytes 0 v) part) ≡ length bytes
+  put-length = same_len_mid 1 30 (set bytes 0 v) part lent ∙ length-set bytes 0 v
+
 -- the letter, the fields and the line feed are written
-pub line-put : (row : Row) (bytes part : List ℕ) → 32 ≤ length bytes → length part ≡ 30
+pub line-put : (row : Row) (bytes part : List ℕ) → 32 ≤ length bytes
+    → length part ≡ length (take 30 (drop 1 (set bytes 0 row.letter)))
     → part ≡ fields_text (line_in row).numbers
     → set (put_mid 1 30 (set bytes 0 row.letter) part) 31 line_feed ≡ written row bytes
 unfolding written line_text line_in fields_text
 line-put row [] part h k e = absurd (omega arith)
 line-put row (b ∷ bytes) part h k e =
     ap (λ (l : List ℕ). row.letter ∷ l)
-    (feed-put part bytes k (omega arith) ∙ ap (λ (l : List ℕ). l ++ (line_feed ∷ []) ++ drop 31 bytes) e)
-
-pub put-length : (bytes part : List ℕ) (v : ℕ) → 32 ≤ length bytes → length part ≡ 30
-    → length (put_mid 1 30 (set bytes 0 v) part) ≡ length bytes
-put-length bytes part v h k =
-    same_len_mid 1 30 (set bytes 0 v) part (k ∙ sym (middle-length bytes v h)) ∙ length-set bytes 0 v
+    (feed-put part bytes (thirty (b ∷ bytes) part row.letter h k) (omega arith)
+    ∙ ap (λ (l : List ℕ). l ++ (line_feed ∷ []) ++ drop 31 bytes) e)

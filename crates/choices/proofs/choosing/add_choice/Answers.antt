@@ -64,7 +64,12 @@ pub slice_bounds-put_choice-end : goal.slice_bounds-put_choice-end
 slice_bounds-put_choice-end c = within (goal.at.slice_bounds-put_choice-end c).After-combination_size-size
 
 pub put_choice-requires : goal.put_choice-requires
-put_choice-requires c = simp (length-take, length-drop) (omega (arith, few (goal.at.put_choice-requires c).After-combination_size-size))
+put_choice-requires c =
+    let own = (goal.at.put_choice-requires c).After-combination_size-size in
+    let long : length (take (c.combination_size-size.result * c.args.count + c.combination_size-size.result
+    - c.combination_size-size.result * c.args.count) (drop (c.combination_size-size.result * c.args.count) c.args.space.now))
+    ≡ c.combination_size-size.result = simp (length-take, length-drop) (omega (arith, within own)) in
+    (omega (arith, long, c.combination_size-size.ensures), omega (arith, long, few own))
 
 pub returns : goal.returns
 returns c =

@@ -1,7 +1,7 @@
 -- `choosing::next_fit` meets its contract. The loop's invariant: the leaves before `place` do not fit.
-use mathlib.Core.Path.{◌≡◌, sym, ◌∙◌}
+use mathlib.Core.Path.{subst, ◌≡◌, sym, ◌∙◌}
 use mathlib.Core.List.{List}
-use Prim.Native.Nat.{◌+◌, ◌*◌, ◌<◌}
+use Prim.Native.Nat.{ℕ, ◌≤◌, ◌+◌, ◌*◌, ◌<◌}
 use native.Mathlib.Omega.{arith}
 use lib.ListN.{length, take}
 use Rattle.definitions.specs.Combinations.{Leaf}
@@ -9,7 +9,7 @@ use Rattle.definitions.proofs.Laws.Lists.Searching.{none-start, none-one, none_m
 use Rattle.matrix.specs.Shapes.{width_of}
 use Rattle.matrix.specs.Laws.Meeting.{met-test}
 use Rattle.leafsets.specs.Leaves.{leaves_in}
-use Rattle.choices.specs.Choices.{fits_at}
+use Rattle.choices.specs.Choices.{fits_at, FirstFit}
 use Rattle.choices.specs.Laws.LeafLists.{leaves-length, leaf-within, leaf-columns, leaf-width}
 use Rattle.choices.proofs.choosing.next_fit.Goals as goal
 use Rattle.choices.proofs.choosing.next_fit.Goals.{After-meets, In-loop-place}
@@ -47,7 +47,11 @@ tested c =
     c.meets.ensures)
 
 pub returns-then-meets : goal.returns-then-meets
-returns-then-meets c = none_found c.loop-place.invariant (tested (goal.at.returns-then-meets c).After-meets ∙ c.if-meets.true)
+returns-then-meets c =
+    record {
+      first = none_found c.loop-place.invariant (tested (goal.at.returns-then-meets c).After-meets ∙ c.if-meets.true);
+      inside = inside (goal.at.returns-then-meets c).In-loop-place;
+    }
 
 pub loop-place-preserved : goal.loop-place-preserved
 loop-place-preserved c =
@@ -55,4 +59,14 @@ loop-place-preserved c =
     (none-one (inside (goal.at.loop-place-preserved c).In-loop-place) (tested (goal.at.loop-place-preserved c).After-meets ∙ c.if-meets.false))
 
 pub returns : goal.returns
-returns c = none-all c.loop-place.invariant (rw leaves-length c.loop-place-test.false)
+returns c =
+    let a = c.args in
+    let inv = c.loop-place.invariant in
+    let all : List Leaf = leaves_in (width_of a.half) a.leaves.now in
+    let over : length all ≤ c.loop-place.place = rw leaves-length c.loop-place-test.false in
+    let last : c.loop-place.place ≡ length all = omega (arith, over, inv.within) in
+    record {
+      first =
+          subst (λ (n : ℕ). FirstFit (take (width_of a.half) a.m.columns) all a.from n) last (none-all inv over);
+      inside = tt;
+    }

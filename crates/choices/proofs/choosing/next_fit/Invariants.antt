@@ -1,5 +1,4 @@
 -- `choosing::next_fit` meets its contract. The loop's invariant: the leaves before `place` do not fit.
-use Prim.Native.Nat.{◌-◌}
 use lib.ListN.{length, take}
 use Rattle.definitions.specs.Searching.{NoneFrom}
 use Rattle.matrix.specs.Shapes.{width_of}
@@ -11,6 +10,3 @@ abbrev pub invariant-loop-place : goal.invariant-loop-place
 invariant-loop-place l =
     NoneFrom (fits_at (take (width_of l.half) l.m.columns) (leaves_in (width_of l.half) l.leaves))
     (length (leaves_in (width_of l.half) l.leaves)) l.from l.place
-
-abbrev pub decreases-loop-place : goal.decreases-loop-place
-decreases-loop-place l = length l.leaves - l.place

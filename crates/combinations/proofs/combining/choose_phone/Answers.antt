@@ -11,17 +11,17 @@ use Rattle.matrix.specs.Laws.Shapes.{root-shaped}
 use Rattle.combinations.specs.Laws.Starting.{list-is, start-chosen, start-all}
 use Rattle.combinations.specs.Laws.Working.{still-unused, worked}
 use Rattle.combinations.proofs.combining.choose_phone.Goals as goal
-use Rattle.combinations.proofs.combining.choose_phone.Goals.{After-around-top}
+use Rattle.combinations.proofs.combining.choose_phone.Goals.{After-around}
 
-top-is : (c : goal.After-around-top)
-    → c.around-top.result.columns
+top-is : (c : goal.After-around)
+    → c.around.result.columns
     ≡ matrix_words (root_matrix (book_with c.args.header c.args.nodes.now c.args.classes.now c.args.roots.now).half
     (book_with c.args.header c.args.nodes.now c.args.classes.now c.args.roots.now).phones c.args.phone)
 unfolding book_with
 top-is c =
     let r = c.requires.0.ranges in
     root-shaped _ _ _ r.half_range.high r.phones_range.high c.requires.1.high
-    c.all_phones-all.ensures c.alone.ensures c.around-top.ensures
+    c.all_phones-all.ensures c.alone.ensures c.around.ensures
 
 pub list_leaves-b-requires : goal.list_leaves-b-requires
 list_leaves-b-requires c =
@@ -84,7 +84,7 @@ choose-requires c =
     let narrow = r.half_range.high in (
       record {
         chosen =
-            start-chosen b a.phone _ width narrow _ (top-is (goal.at.choose-requires c).After-around-top)
+            start-chosen b a.phone _ width narrow _ (top-is (goal.at.choose-requires c).After-around)
             p.1.low p.1.high;
         few = omega (arith, r.states_range.high);
         first_is = list-is b a.phone _ width narrow 1 c.list_leaves-a.ensures.holds;
@@ -113,7 +113,7 @@ returns c =
     let first = c.list_leaves-a.ensures in
     let second = c.list_leaves-b.ensures in
     let third = c.list_leaves-c.ensures in
-    let all = start-all b a.phone _ width r.half_range.high _ (top-is (goal.at.returns c).After-around-top)
+    let all = start-all b a.phone _ width r.half_range.high _ (top-is (goal.at.returns c).After-around)
     r.states_range.low r.states_range.high first.holds second.holds third.holds in
     let table = third.table_sized ∙ second.table_sized ∙ first.table_sized in
     record {

@@ -4,6 +4,7 @@ use mathlib.Core.Path.{◌≡◌, refl, sym, ap, ◌∙◌}
 use Prim.Native.Nat.{◌≤◌}
 use native.Mathlib.Omega.{arith}
 use lib.ListN.{length}
+use Rattle.std.proofs.lemmas.Result.{err_from_is_err_and}
 use Rattle.definitions.specs.Ranges.{InRange}
 use Rattle.tables.specs.Usable.{book_with}
 use Rattle.choices.specs.Laws.Grown.{holding-none}
@@ -23,7 +24,7 @@ ends_sized c = noted-length c.loop-phone.invariant.0 ∙ sym (ap length c.requir
 within : (c : goal.In-loop-phone)
     → c.loop-phone.phone ≤ (book_with c.args.header c.args.nodes.now c.args.classes.now c.args.roots.now).phones
 unfolding book_with
-within c = c.loop-phone-test.true
+within c = omega (arith, c.loop-phone-test.true)
 
 pub loop-phone-init : goal.loop-phone-init
 unfolding book_with
@@ -39,27 +40,29 @@ loop-phone-init c =
       worked-none working,
     )
 
-pub choose_phone-adding-requires : goal.choose_phone-adding-requires
+pub choose_phone-requires : goal.choose_phone-requires
 unfolding book_with
-choose_phone-adding-requires c =
+choose_phone-requires c =
     let (added, worked) = c.loop-phone.invariant in
     let fit = c.requires.0 in
-    (fit, record { low = added.low; high = c.loop-phone-test.true }, worked.working, added-holding added)
+    (fit, record { low = added.low; high = omega (arith, c.loop-phone-test.true) }, worked.working, added-holding added)
 
-pub shape_of-ends-in-Stop : goal.shape_of-ends-in-Stop
-shape_of-ends-in-Stop c = ends_sized (goal.at.shape_of-ends-in-Stop c).At-loop-phone
+pub shape_of-ends-in_err-count : goal.shape_of-ends-in_err-count
+shape_of-ends-in_err-count c = ends_sized (goal.at.shape_of-ends-in_err-count c).At-loop-phone
 
-pub returns-in-Stop : goal.returns-in-Stop
+pub returns-in_err-count : goal.returns-in_err-count
 unfolding book_with
-returns-in-Stop c =
-    added-over c.loop-phone.invariant.0 (within (goal.at.returns-in-Stop c).In-loop-phone) c.choose_phone-adding.ensures.space
-    c.in-Stop.is
+returns-in_err-count c =
+    let p = err_from_is_err_and c.from_residual.result c.from_residual.ensures.1 in
+    rw (p.1, p.2)
+    (added-over c.loop-phone.invariant.0 (within (goal.at.returns-in_err-count c).In-loop-phone) c.choose_phone.ensures.space
+    c.in_err-count.was)
 
 pub overflow_cast-ends : goal.overflow_cast-ends
 unfolding book_with
 overflow_cast-ends c =
-    let few = added-few c.loop-phone.invariant.0 (within (goal.at.overflow_cast-ends c).In-loop-phone) c.choose_phone-adding.ensures.space
-    c.in-Count.is in
+    let few = added-few c.loop-phone.invariant.0 (within (goal.at.overflow_cast-ends c).In-loop-phone) c.choose_phone.ensures.space
+    c.in_ok-count.was in
     omega (arith, few)
 
 pub bounds-ends-wide : goal.bounds-ends-wide
@@ -68,16 +71,12 @@ bounds-ends-wide c =
     let sized = noted-length c.loop-phone.invariant.0 in
     omega (arith, c.wide.ensures, c.loop-phone-test.true, most, sized)
 
-pub overflow_add-phone : goal.overflow_add-phone
-overflow_add-phone c =
-    omega (arith, c.loop-phone-test.true, (ranges (goal.at.overflow_add-phone c).Start).phones_range.high)
-
 pub loop-phone-preserved : goal.loop-phone-preserved
 unfolding book_with
 loop-phone-preserved c =
     let (added, worked) = c.loop-phone.invariant in
-    let both = c.choose_phone-adding.ensures in (
-      added_more added (within (goal.at.loop-phone-preserved c).In-loop-phone) both.space c.in-Count.is c.wide.ensures refl,
+    let both = c.choose_phone.ensures in (
+      added_more added (within (goal.at.loop-phone-preserved c).In-loop-phone) both.space c.in_ok-count.was c.wide.ensures refl,
       worked-more worked both.lists,
     )
 
@@ -86,4 +85,4 @@ shape_of-ends c = ends_sized (goal.at.shape_of-ends c).At-loop-phone
 
 pub returns : goal.returns
 unfolding book_with
-returns c = added-end c.loop-phone.invariant.0 c.loop-phone-test.false
+returns c = added-end c.loop-phone.invariant.0 (omega (arith, c.loop-phone-test.false))

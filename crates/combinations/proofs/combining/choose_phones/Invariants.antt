@@ -1,6 +1,5 @@
 -- `combining::choose_phones` meets its contract. The loop's invariant: the space has the combinations of the
 -- phones before `phone`, `ends` how many there were after each, and the lists are fit for the next phone.
-use Prim.Native.Nat.{suc, ◌-◌}
 use Rattle.tables.specs.Usable.{book_with}
 use Rattle.leafsets.specs.Working.{Worked}
 use Rattle.combinations.specs.Laws.Phones.{PhonesAdded}
@@ -11,6 +10,3 @@ invariant-loop-phone l =
     PhonesAdded (book_with l.header l.nodes l.classes l.roots) l.initial.space l.phone l.space l.ends l.count
     × Worked l.header.nodes l.initial.table l.initial.first l.initial.second l.initial.third
     l.table l.first l.second l.third
-
-abbrev pub decreases-loop-phone : goal.decreases-loop-phone
-decreases-loop-phone l = suc l.header.phones - l.phone

@@ -5,7 +5,7 @@ use Rattle.followers.proofs.following.follow.Given as goal
 
 abbrev pub invariant-loop-number : goal.invariant-loop-number
 invariant-loop-number l =
-    Followed l.header l.nodes l.combinations l.shifted.columns l.source.state
+    Followed l.header l.rules.nodes.now l.combinations l.shifted.columns l.source.state
     l.initial.metastates l.initial.arcs l.initial.chains l.source.sizes l.metastates l.arcs l.chains l.now l.number
 
 abbrev pub decreases-loop-number : goal.decreases-loop-number

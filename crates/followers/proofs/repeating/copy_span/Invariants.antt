@@ -1,10 +1,6 @@
 -- `repeating::copy_span` meets its contract. The loop's invariant: `i` copies were appended.
-use Prim.Native.Nat.{◌-◌}
 use Rattle.followers.specs.Laws.Copying.{Copied}
 use Rattle.followers.proofs.repeating.copy_span.Given as goal
 
 abbrev pub invariant-loop-i : goal.invariant-loop-i
 invariant-loop-i l = Copied l.initial.arcs l.count l.first l.many l.from l.arcs l.i
-
-abbrev pub decreases-loop-i : goal.decreases-loop-i
-decreases-loop-i l = l.many - l.i

@@ -2,12 +2,12 @@
 use Rattle.index.specs.Laws.Filling.{place-beyond, place_set}
 use Rattle.index.proofs.indexing.mark.Goals as goal
 
-pub returns-then-index-at : goal.returns-then-index-at
-returns-then-index-at c = place-beyond _ _ _ c.if-index-at.true
+pub returns-else-at-index : goal.returns-else-at-index
+returns-else-at-index c = place-beyond _ _ _ c.if-at-index.false
 
-pub returns : goal.returns
-returns c =
+pub returns-then-at-index : goal.returns-then-at-index
+returns-then-at-index c =
     let a = c.args in
     place_set a.index.now a.at a.place c.alone.result c.requires
-    c.if-index-at.false
+    c.if-at-index.true
     c.alone.ensures

@@ -13,7 +13,7 @@ loop-number-init c = all_none _ _ _
 pub mark_columns-requires : goal.mark_columns-requires
 mark_columns-requires c =
     let (narrow, few) = c.requires in
-    let count = c.count_of-count.ensures in
+    let count = c.count_of-number-end.ensures in
     let listed : c.loop-number.number < count_in c.args.header.half c.args.combinations.now =
     omega (arith, c.loop-number-test.true, count) in
     record {
@@ -27,9 +27,6 @@ pub loop-number-preserved : goal.loop-number-preserved
 loop-number-preserved c =
     all_more c.loop-number.invariant c.blocks_in-blocks.ensures c.mark_columns.ensures
 
-pub shape_of-index : goal.shape_of-index
-shape_of-index c = c.loop-number.invariant.marking.sized
-
 pub returns : goal.returns
 returns c =
-    all-marked (omega (arith, c.loop-number-test.false, c.count_of-count.ensures)) c.loop-number.invariant
+    all-marked (omega (arith, c.loop-number-test.false, c.count_of-number-end.ensures)) c.loop-number.invariant

@@ -1,11 +1,7 @@
 -- `indexing::mark_all` meets its contract. The loop's invariant: the combinations before `number` are marked.
-use Prim.Native.Nat.{◌-◌}
 use Rattle.index.specs.Filling.{CombinationsMarked}
 use Rattle.index.proofs.indexing.mark_all.Given as goal
 
 abbrev pub invariant-loop-number : goal.invariant-loop-number
 invariant-loop-number l =
     CombinationsMarked l.header l.combinations l.initial.index l.number l.index
-
-abbrev pub decreases-loop-number : goal.decreases-loop-number
-decreases-loop-number l = l.count - l.number

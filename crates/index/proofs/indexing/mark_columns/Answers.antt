@@ -32,19 +32,8 @@ pub overflow_add-column : goal.overflow_add-column
 overflow_add-column c =
     let pre = c.requires in
     record {
-      fits = omega (arith, c.loop-column-test.true, c.wide.ensures, pre.narrow.half_few, pre.number_few);
+      fits = omega (arith, c.loop-column-test.true, c.wide-column-end.ensures, pre.narrow.half_few, pre.number_few);
     }
-
-pub bounds-record-column : goal.bounds-record-column
-bounds-record-column c =
-    let pre = c.requires in
-    omega (
-      arith,
-      c.loop-column-test.true,
-      c.wide.ensures,
-      columns-held _ pre.narrow.half_few,
-      (record_is (goal.at.bounds-record-column c).After-record_at-record).sized,
-    )
 
 pub mark_column-requires : goal.mark_column-requires
 mark_column-requires c =
@@ -52,14 +41,10 @@ mark_column-requires c =
       record {
         phones_few = pre.narrow.phones_few;
         blocks_few = pre.blocks_few;
-        left = omega (arith, c.loop-column-test.true, c.wide.ensures, pre.narrow.half_few);
+        left = omega (arith, c.loop-column-test.true, c.wide-column-end.ensures, pre.narrow.half_few);
       },
       pre.number_few,
     )
-
-pub loop-column-smaller : goal.loop-column-smaller
-loop-column-smaller c =
-    omega (arith, c.loop-column-test.true, c.wide.ensures)
 
 pub loop-column-preserved : goal.loop-column-preserved
 loop-column-preserved c =
@@ -70,9 +55,17 @@ loop-column-preserved c =
     ∙ sym (get_or-drop 4 own c.loop-column.column 0))
     c.mark_column.ensures
 
-pub shape_of-index : goal.shape_of-index
-shape_of-index c = c.loop-column.invariant.marking.sized
-
 pub returns : goal.returns
 returns c =
-    columns-all (omega (arith, c.loop-column-test.false, c.wide.ensures)) c.loop-column.invariant
+    columns-all (omega (arith, c.loop-column-test.false, c.wide-column-end.ensures)) c.loop-column.invariant
+
+pub bounds-record-column : goal.bounds-record-column
+bounds-record-column c =
+    let pre = c.requires in
+    omega (
+      arith,
+      c.loop-column-test.true,
+      c.wide-column-end.ensures,
+      columns-held _ pre.narrow.half_few,
+      (record_is (goal.at.bounds-record-column c).After-record_at-record).sized,
+    )

@@ -2,13 +2,8 @@
 use Prim.Native.Nat.{◌-◌, ◌/◌, ◌^◌}
 use native.Mathlib.Omega.{arith}
 use lib.Count.{trailing_le}
-use Rattle.index.specs.Laws.NextMember.{next_past, next-none, next-found}
+use Rattle.index.specs.Laws.NextMember.{next-none, next-found}
 use Rattle.index.proofs.indexing.next_member.Goals as goal
-
-pub returns-then-from-gt64 : goal.returns-then-from-gt64
-returns-then-from-gt64 c =
-    let (some, within) = c.requires in
-    next_past c.args.set c.args.from some c.if-from-gt64.true within
 
 pub overflow_add-next : goal.overflow_add-next
 overflow_add-next c =
@@ -16,12 +11,12 @@ overflow_add-next c =
     let (some, within) = c.requires in
     record { fits = omega (arith, within, trailing_le 64 (a.set / 2 ^ (a.from - 1))) }
 
-pub returns-then-next-gt64 : goal.returns-then-next-gt64
-returns-then-next-gt64 c =
+pub returns-then-next-le64 : goal.returns-then-next-le64
+returns-then-next-le64 c =
     let (some, within) = c.requires in
-    next-none c.args.set c.args.from some c.if-from-gt64.false c.if-next-gt64.true
+    record { next = next-found c.args.set c.args.from some c.if-next-le64.true; some = c.if-next-le64.true }
 
-pub returns : goal.returns
-returns c =
+pub returns-else-next-le64 : goal.returns-else-next-le64
+returns-else-next-le64 c =
     let (some, within) = c.requires in
-    next-found c.args.set c.args.from some c.if-next-gt64.false
+    record { next = next-none c.args.set c.args.from some c.if-from-gt64.false c.if-next-le64.false; some = tt }

@@ -2,7 +2,6 @@
 use mathlib.Core.Path.{ap, ◌∙◌}
 use mathlib.Core.List.{List}
 use Prim.Native.Nat.{ℕ}
-use native.Mathlib.Omega.{arith}
 use lib.ListN.{drop}
 use Rattle.definitions.specs.Lists.{◌!◌}
 use Rattle.definitions.specs.Metastates.{metastate_size}
@@ -23,13 +22,10 @@ pub record_at-record-requires : goal.record_at-record-requires
 record_at-record-requires c =
     cut-within c.metastate_size.ensures c.args.metastates.now c.args.place c.requires.1
 
-pub bounds-record-0 : goal.bounds-record-0
-bounds-record-0 c = omega (arith, (own (goal.at.bounds-record-0 c).After-record_at-record).sized)
-
 pub returns : goal.returns
 returns c =
     let cut = own (goal.at.returns c).After-record_at-record in
     record {
       number_is = ap (λ (l : List ℕ). l ! 0) cut.is;
-      columns_are = c.matrix_at-met.ensures ∙ ap (λ (l : List ℕ). first_seven (drop 1 l)) cut.is;
+      columns_are = c.matrix_at.ensures ∙ ap (λ (l : List ℕ). first_seven (drop 1 l)) cut.is;
     }

@@ -2,7 +2,6 @@
 use mathlib.Core.Path.{◌≡◌, sym, ap, ◌∙◌}
 use mathlib.Core.List.{List}
 use Prim.Native.Nat.{ℕ, ◌+◌, ◌*◌}
-use native.Mathlib.Omega.{arith}
 use lib.ListN.{drop}
 use lib.Seq.{get_or-drop}
 use Rattle.definitions.specs.declared.Node.{Node}
@@ -36,13 +35,7 @@ record_at-record-requires c =
     cut-within c.combination_size.ensures c.args.combinations.now c.args.number
     c.requires.within
 
-pub bounds-record-state : goal.bounds-record-state
-bounds-record-state c = omega (arith, (own (goal.at.bounds-record-state c).After-record_at-record).sized, c.requires.states)
-
-pub overflow_cast-record : goal.overflow_cast-record
-overflow_cast-record c = record { fits = omega (arith, word-is (goal.at.overflow_cast-record c).After-record_at-record, c.requires.few) }
-
 pub returns : goal.returns
 returns c =
-    ap (λ (node : Node). node.value) c.node_at-leaf.ensures
+    ap (λ (node : Node). node.value) c.node_at.ensures
     ∙ ap (λ (k : ℕ). (node_of (drop (node_size * k) c.args.nodes.now)).value) (word-is (goal.at.returns c).After-record_at-record)

@@ -22,9 +22,6 @@ record_at-requires c =
     cut-within c.combination_size.ensures c.args.combinations.now c.args.number
     c.requires.within
 
-pub bounds-record_at-0 : goal.bounds-record_at-0
-bounds-record_at-0 c = omega (arith, (own (goal.at.bounds-record_at-0 c).After-record_at).sized)
-
 pub overflow_cast-result : goal.overflow_cast-result
 overflow_cast-result c =
     let first = ap (λ (l : List ℕ). l ! 0) (own (goal.at.overflow_cast-result c).After-record_at).is in

@@ -5,6 +5,6 @@ use Rattle.index.proofs.rows.marked_in.Goals as goal
 pub returns : goal.returns
 returns c =
     λ p a b all.
-    in_all p c.row_word-first.result c.row_word-second.result c.row_word-third.result
-    (c.row_word-first.ensures p a b all.first) (c.row_word-second.ensures p a b all.second)
-    (c.row_word-third.ensures p a b all.third)
+    in_all p c.row_word.result c.row_word-2.result c.row_word-3.result
+    (c.row_word.ensures p a b all.first) (c.row_word-2.ensures p a b all.second)
+    (c.row_word-3.ensures p a b all.third)

@@ -9,8 +9,8 @@ pub returns-then-wide-column : goal.returns-then-wide-column
 returns-then-wide-column c =
     let (s, left) = c.requires in no_row s
 
-pub returns-then-set-alone : goal.returns-then-set-alone
-returns-then-set-alone c =
+pub returns-in_default : goal.returns-in_default
+returns-in_default c =
     let (s, left) = c.requires in no_row s
 
 pub row_at-requires : goal.row_at-requires
@@ -28,13 +28,13 @@ row_at-requires c =
             );
         left = left;
       },
-      c.next_member-phone.ensures.within,
+      omega (arith, c.in-Some.ensures.some),
     )
 
-pub returns : goal.returns
-returns c =
+pub returns-in-Some : goal.returns-in-Some
+returns-in-Some c =
     let (s, few) = c.requires in
     row-admits s
-    (omega (arith, c.if-wide-column.false, c.wide.ensures)) c.next_member-phone.ensures.after
-    c.alone.ensures c.if-set-alone.false c.blocks_in.ensures c.row_at.ensures.0
+    (omega (arith, c.if-wide-column.false, c.wide.ensures)) c.in-Some.ensures.next.after
+    c.alone.ensures c.if-set-alone.true c.blocks_in.ensures c.row_at.ensures.0
     c.row_at.ensures.1

@@ -2,5 +2,5 @@
 use Rattle.index.specs.Laws.Rows.{all_set}
 use Rattle.index.proofs.rows.row_word.Goals as goal
 
-pub returns : goal.returns
-returns c = λ p a b h. all_set p a b
+pub returns-else-at-index : goal.returns-else-at-index
+returns-else-at-index c = λ p a b h. all_set p a b

@@ -58,10 +58,6 @@ next_marked-number-requires-in-loop-number c =
       few = omega (arith, few, c.requires.seeking.usable.few);
     }
 
-pub loop-number-smaller : goal.loop-number-smaller
-loop-number-smaller c =
-    omega (arith, c.after-next.ensures.0, c.next_marked-number-in-loop-number.ensures.after, c.loop-number-test.true)
-
 pub loop-number-preserved : goal.loop-number-preserved
 loop-number-preserved c =
     none_more (none_more c.loop-number.invariant c.after-next.ensures.1)

@@ -52,4 +52,5 @@ shape_of-list c = c.loop-node.invariant.sized
 
 pub returns : goal.returns
 returns c =
-    collected-end _ _ _ _ c.requires.3 _ _ _ _ c.loop-node.invariant c.requires.2 c.loop-node-test.false
+    collected-end _ _ _ _ c.requires.3 _ _ _ _ c.loop-node.invariant c.requires.2
+    (omega (arith, c.loop-node-test.false))

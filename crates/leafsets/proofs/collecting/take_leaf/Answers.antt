@@ -10,5 +10,5 @@ returns c =
       table = refl;
       list = c.put_numbered.ensures
           ∙ leaf-copied a.table.now a.node c.requires.0 a.list.now a.place c.requires.1
-          c.matrix_at-m.ensures;
+          c.whole_matrix-m.ensures;
     }

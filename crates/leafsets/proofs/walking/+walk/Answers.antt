@@ -20,21 +20,21 @@ returns-then-record-ne1 t c =
           c.if-record-ne1.true a.m.columns;
     }
 
-pub overflow_sub-class : goal.overflow_sub-class
-overflow_sub-class t c =
+pub overflow_sub-set : goal.overflow_sub-set
+overflow_sub-set t c =
     let a = c.args in
     let read = c.node_at-record in
     let fits = question-fits a.header a.nodes.now c.requires.1 a.node c.requires.3 read.result read.ensures
     c.if-record-ne1.false in
-    omega (arith, c.wide-class.ensures, fits.in-range.class_low)
+    omega (arith, c.wide.ensures, fits.in-range.class_low)
 
-pub bounds-classes-class : goal.bounds-classes-class
-bounds-classes-class t c =
+pub bounds-classes-wide : goal.bounds-classes-wide
+bounds-classes-wide t c =
     let a = c.args in
     let read = c.node_at-record in
     let fits = question-fits a.header a.nodes.now c.requires.1 a.node c.requires.3 read.result read.ensures
     c.if-record-ne1.false in
-    omega (arith, c.wide-class.ensures, fits.in-range.class_low, fits.in-range.class_high, c.requires.2)
+    omega (arith, c.wide.ensures, fits.in-range.class_low, fits.in-range.class_high, c.requires.2)
 
 pub walk-on_yes-requires : goal.walk-on_yes-requires
 walk-on_yes-requires t c =
@@ -66,10 +66,10 @@ returns t c =
     record {
       table =
           walk-sides a.header a.nodes.now a.classes.now p.1 a.node p.3 read.result read.ensures p.0
-          c.if-record-ne1.false p.4 c.wide-class.ensures c.yes_side.ensures c.no_side.ensures a.table.now
+          c.if-record-ne1.false p.4 c.wide.ensures c.yes_side.ensures c.no_side.ensures a.table.now
           c.walk-on_yes.ensures.table c.walk-on_no.ensures.table;
       last =
           last-sides a.header a.nodes.now a.classes.now p.1 a.node p.3 read.result read.ensures p.0
-          c.if-record-ne1.false p.4 c.wide-class.ensures c.yes_side.ensures c.no_side.ensures c.greater.ensures
+          c.if-record-ne1.false p.4 c.wide.ensures c.yes_side.ensures c.no_side.ensures c.max.ensures
           c.walk-on_yes.ensures.last c.walk-on_no.ensures.last;
     }

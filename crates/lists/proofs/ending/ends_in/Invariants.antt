@@ -1,5 +1,4 @@
 -- `ending::ends_in` meets its contract. The loop's invariant: no path may end with the matrices before `place`.
-use Prim.Native.Nat.{◌-◌}
 use Rattle.definitions.specs.Matrices.{ends_here}
 use Rattle.lines.specs.Laws.Passing.{Missed}
 use Rattle.lists.specs.Held.{list_in}
@@ -7,6 +6,3 @@ use Rattle.lists.proofs.ending.ends_in.Given as goal
 
 abbrev pub invariant-loop-place : goal.invariant-loop-place
 invariant-loop-place l = Missed (ends_here l.half) (list_in l.half l.list) l.place
-
-abbrev pub decreases-loop-place : goal.decreases-loop-place
-decreases-loop-place l = l.count - l.place

@@ -20,9 +20,10 @@ module _ (c : goal.After-valid) where
 
 pub returns-then-not-valid : goal.returns-then-not-valid
 returns-then-not-valid c =
-    added-invalid _ (failed (tested (goal.at.returns-then-not-valid c).After-valid) (not_from_false _ c.if-not-valid.true)) c.requires
+    let invalid = not_from_false _ c.if-not-valid.true in
+    rw invalid (added-invalid _ (failed (tested (goal.at.returns-then-not-valid c).After-valid) invalid) c.requires)
 
-pub returns : goal.returns
-returns c =
-    added-valid _ (held (tested (goal.at.returns c).After-valid) (not_from_true _ c.if-not-valid.false))
+pub returns-else-not-valid : goal.returns-else-not-valid
+returns-else-not-valid c =
+    added-valid _ (held (tested (goal.at.returns-else-not-valid c).After-valid) (not_from_true _ c.if-not-valid.false))
     c.insert.ensures

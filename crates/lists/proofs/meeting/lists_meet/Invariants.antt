@@ -1,5 +1,4 @@
 -- `meeting::lists_meet` meets its contract. The loop's invariant: the matrices before `place` meet none.
-use Prim.Native.Nat.{◌-◌}
 use Rattle.lines.specs.Laws.Passing.{Missed}
 use Rattle.lists.specs.Held.{list_in}
 use Rattle.lists.specs.Meeting.{meets_some}
@@ -8,6 +7,3 @@ use Rattle.lists.proofs.meeting.lists_meet.Given as goal
 abbrev pub invariant-loop-place : goal.invariant-loop-place
 invariant-loop-place l =
     Missed (meets_some (list_in l.half l.b)) (list_in l.half l.a) l.place
-
-abbrev pub decreases-loop-place : goal.decreases-loop-place
-decreases-loop-place l = l.count - l.place

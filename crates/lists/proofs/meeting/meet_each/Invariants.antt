@@ -1,7 +1,6 @@
 -- `meeting::meet_each` meets its contract. The loop's invariant: the meets with the matrices before `place`
 -- are in.
 use mathlib.Core.List.{map}
-use Prim.Native.Nat.{◌-◌}
 use Rattle.definitions.specs.Matrices.{meet}
 use Rattle.definitions.specs.MatrixLists.{gather}
 use Rattle.matrix.specs.Shapes.{matrix_in}
@@ -15,6 +14,3 @@ invariant-loop-place l =
     Gathered l.half (met_alone (matrix_in l.half l.m.columns)) (list_in l.half l.list)
     (gather (list_in l.half l.initial.out) (map (meet (matrix_in l.half l.m.columns)) (list_in l.half l.list)))
     l.place l.initial.out l.out
-
-abbrev pub decreases-loop-place : goal.decreases-loop-place
-decreases-loop-place l = l.count - l.place

@@ -8,5 +8,5 @@ returns-then-phones-ge64 c = all-of-word c.args.phones c.if-phones-ge64.true
 pub overflow_sub-result : goal.overflow_sub-result
 overflow_sub-result c = shifted-some c.args.phones c.if-phones-ge64.false
 
-pub returns : goal.returns
-returns c = all-shifted c.args.phones c.if-phones-ge64.false
+pub returns-else-phones-ge64 : goal.returns-else-phones-ge64
+returns-else-phones-ge64 c = all-shifted c.args.phones c.if-phones-ge64.false

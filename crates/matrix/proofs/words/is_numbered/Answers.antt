@@ -1,54 +1,21 @@
--- `words::is_numbered` meets its contract. The loop's invariant: the words before `i` are the same.
-use mathlib.Core.Path.{◌≡◌, sym, ap, ◌∙◌}
-use mathlib.Core.List.{List, ◌∷◌}
-use Prim.Native.Nat.{ℕ, suc, min}
-use native.Mathlib.Omega.{arith}
-use lib.ListN.{length, take, length-take}
-use lib.Seq.{get_or-take}
-use Rattle.definitions.proofs.Laws.Lists.Same.{same-lengths, alike-start, alike-more, alike-stop}
-use Rattle.definitions.proofs.Laws.Lists.Same.{alike_end}
-use borrow.Author.Rules.{rules}
+-- `words::is_numbered` meets its contract: `==` and `starts_with` compare place by place.
+use Rattle.std.proofs.Common.{ap, ◌∙◌, List, ℕ, eqb, length, take}
+use Rattle.std.specs.Cmp.Lexicographic.{pointwise}
+use Rattle.std.proofs.lemmas.List.{take_rest}
+use Rattle.matrix.specs.Laws.Words.{numbered-none, numbered-rest, numbered-other}
 use Rattle.matrix.proofs.words.is_numbered.Goals as goal
 
--- the first words of a number and seven columns
-cut-length : (words row : List ℕ) → length row ≡ 8 → length (take (length words) row) ≡ min (length words) 8
-cut-length words row e = rw (length-take, e)
+pub returns-in-empty : goal.returns-in-empty
+returns-in-empty c = numbered-none c.args.words.now _ c.in-empty.len_below
 
-pub returns-then-words-gt8 : goal.returns-then-words-gt8
-returns-then-words-gt8 c =
+pub returns-then-first-number : goal.returns-then-first-number
+returns-then-first-number c =
     let a = c.args in
-    let sized : length (a.number ∷ a.m.columns) ≡ 8 = ap suc (search rules) in
-    let cut = cut-length a.words.now (a.number ∷ a.m.columns) sized in
-    same-lengths a.words.now (take (length a.words.now) (a.number ∷ a.m.columns))
-    (λ e. omega (arith, cut, e, c.if-words-gt8.true))
+    numbered-rest a.words.now a.number a.m.columns c.in-len1-up.len_at_least c.if-first-number.true
+    (c.starts_with.ensures.value
+    ∙ ap (λ (l : List ℕ). pointwise eqb l (take (length l) a.m.columns)) (take_rest a.words.now 1))
 
-pub loop-i-init : goal.loop-i-init
-loop-i-init c =
+pub returns-else-first-number : goal.returns-else-first-number
+returns-else-first-number c =
     let a = c.args in
-    let sized : length (a.number ∷ a.m.columns) ≡ 8 = ap suc (search rules) in
-    let cut = cut-length a.words.now (a.number ∷ a.m.columns) sized in
-    alike-start a.words.now (take (length a.words.now) (a.number ∷ a.m.columns))
-    (omega (arith, cut, c.if-words-gt8.false))
-
-pub numbered_word-requires : goal.numbered_word-requires
-numbered_word-requires c =
-    let few = c.if-words-gt8.false in
-    search rules
-
-pub returns-then-words-i : goal.returns-then-words-i
-returns-then-words-i c =
-    let a = c.args in
-    let inside = c.loop-i-test.true in
-    let same_word = get_or-take (length a.words.now) (a.number ∷ a.m.columns) _ 0 inside in
-    alike-stop c.loop-i.invariant inside
-    (λ e. c.if-words-i.true (e ∙ same_word ∙ sym c.numbered_word.ensures))
-
-pub loop-i-preserved : goal.loop-i-preserved
-loop-i-preserved c =
-    let a = c.args in
-    let inside = c.loop-i-test.true in
-    let same_word = get_or-take (length a.words.now) (a.number ∷ a.m.columns) _ 0 inside in
-    alike-more c.loop-i.invariant inside (c.if-words-i.false ∙ c.numbered_word.ensures ∙ sym same_word)
-
-pub returns : goal.returns
-returns c = alike_end c.loop-i.invariant (search rules)
+    numbered-other a.words.now a.number a.m.columns c.in-len1-up.len_at_least c.if-first-number.false

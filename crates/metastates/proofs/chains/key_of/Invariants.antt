@@ -1,10 +1,6 @@
--- `chains::key_of` meets its contract. The loop's invariant: the key of the columns before `c`, the rest left.
-use Prim.Native.Nat.{◌-◌}
+-- `chains::key_of` meets its contract. The loop's invariant: the columns before the index are taken in, the rest left.
 use Rattle.metastates.specs.Laws.Keys.{Keyed}
 use Rattle.metastates.proofs.chains.key_of.Given as goal
 
-abbrev pub invariant-loop-c : goal.invariant-loop-c
-invariant-loop-c l = Keyed l.number l.m.columns l.c l.key
-
-abbrev pub decreases-loop-c : goal.decreases-loop-c
-decreases-loop-c l = 7 - l.c
+abbrev pub invariant-loop-column : goal.invariant-loop-column
+invariant-loop-column l = Keyed l.number l.column-items l.column-index l.key

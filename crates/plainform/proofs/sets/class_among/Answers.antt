@@ -1,23 +1,28 @@
 -- `sets::class_among` meets its contract: a place is at most the number of sets, so its number fits a word.
-use Prim.Native.Nat.{◌≤◌}
-use native.Mathlib.Omega.{arith}
-use Rattle.definitions.specs.Forms.{most_nodes}
-use Rattle.plainform.specs.Laws.Sets.{place-within}
+use Rattle.std.proofs.Common.{◌≡◌, ◌∙◌, sym, rules, arith, eqb}
+use borrow.Author.Tests.{tests}
+use Rattle.std.proofs.lemmas.Iterator.{IsFirst-from_position, YieldsList-from_slice}
+use Rattle.definitions.specs.Lists.{place_of}
+use Rattle.plainform.specs.Laws.Sets.{place-within, place-first}
 use Rattle.plainform.proofs.sets.class_among.Goals as goal
-use Rattle.plainform.proofs.sets.class_among.Goals.{After-place_of-place}
+use Rattle.plainform.proofs.sets.class_among.Goals.{After-unwrap_or}
 
--- a place is at most the number of sets
-few : (c : goal.After-place_of-place) → c.place_of-place.result ≤ most_nodes
-few c =
-    let a = c.args in
-    omega (arith, c.place_of-place.ensures, place-within a.sets.now c.set_of.result)
+-- the place that was found, or the number of sets
+found : (c : goal.After-unwrap_or) → c.unwrap_or.result ≡ place_of eqb c.args.sets.now c.set_of-set.result
+found c =
+    let set = c.set_of-set.result in
+    c.unwrap_or.ensures
+    ∙ sym (place-first set c.args.sets.now c.position-place.result
+    (IsFirst-from_position _ _ _ (λ y. y ≡ set) (λ y. y ≡ set → ⊥) c.position-place.ensures.ran
+    (YieldsList-from_slice _ c.iter.ensures.rest) (λ x q k. search (rules, tests)) (λ x q k. search (rules, tests))))
 
 pub overflow_add-result : goal.overflow_add-result
-overflow_add-result c = omega (arith, few (goal.at.overflow_add-result c).After-place_of-place)
+overflow_add-result c =
+    omega (arith, found (goal.at.overflow_add-result c).After-unwrap_or, place-within c.args.sets.now c.set_of-set.result)
 
 pub overflow_cast-result : goal.overflow_cast-result
-overflow_cast-result c = omega (arith, few (goal.at.overflow_cast-result c).After-place_of-place)
+overflow_cast-result c =
+    omega (arith, found (goal.at.overflow_cast-result c).After-unwrap_or, place-within c.args.sets.now c.set_of-set.result)
 
 pub returns : goal.returns
-returns c = let own = c.set_of in
-    rw (← own.ensures) (omega (arith, c.place_of-place.ensures))
+returns c = rw (← c.set_of-set.ensures) (omega (arith, found (goal.at.returns c).After-unwrap_or))

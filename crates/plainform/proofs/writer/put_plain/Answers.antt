@@ -8,7 +8,7 @@ use lib.ListN.{length, take}
 use Rattle.definitions.specs.Forms.{most_nodes}
 use Rattle.definitions.specs.Tables.{Tables}
 use Rattle.tables.specs.Lending.{lent_tables}
-use Rattle.plainform.specs.Laws.Writing.{LentBook, root_room, roots-known, uses-fit, roots-fit, plains-fit}
+use Rattle.plainform.specs.Laws.Writing.{LentBook, root_room, roots-listed, uses-fit, roots-fit, plains-fit}
 use Rattle.plainform.specs.Laws.Writing.{used-few, used-many, trees-numberable, plain-written}
 use Rattle.plainform.specs.Laws.Writing.{own_room, roots-lent, roots-narrow, own-lent, own_put}
 use Rattle.plainform.proofs.writer.put_plain.Goals as goal
@@ -53,10 +53,13 @@ slice_bounds-kept-end c = sym (length-take-le _ _ (cut (goal.at.slice_bounds-kep
 pub slice_bounds-given-end : goal.slice_bounds-given-end
 slice_bounds-given-end c = sym (length-take-le _ _ (cut (goal.at.slice_bounds-given-end c).After-wide).roots)
 
+pub invariant_of-trees : goal.invariant_of-trees
+invariant_of-trees c = record { known = (cut (goal.at.invariant_of-trees c).After-wide).lent.known }
+
 pub collect_all-used-requires : goal.collect_all-used-requires
 collect_all-used-requires c =
     let lent = (cut (goal.at.collect_all-used-requires c).After-wide).lent in
-    (roots-known lent, uses-fit lent)
+    (roots-listed lent, uses-fit lent)
 
 record Many (c : goal.After-collect_all-used) : Type 0 where
   few : c.collect_all-used.result ≤ most_nodes
@@ -85,7 +88,7 @@ slice_bounds-own-end c = sym (many (goal.at.slice_bounds-own-end c).After-collec
 pub number_all-requires : goal.number_all-requires
 number_all-requires c =
     let lent = (cut (goal.at.number_all-requires c).After-wide).lent in (
-      roots-known lent,
+      roots-listed lent,
       trees-numberable lent refl c.collect_all-used.ensures refl,
       roots-fit lent,
     )

@@ -5,6 +5,7 @@ use mathlib.Core.Bool.{true}
 use Prim.Native.Nat.{ℕ}
 use native.Mathlib.Omega.{arith}
 use lib.ListN.{length}
+use Rattle.std.specs.Prelude.{Err}
 use Rattle.definitions.specs.Lists.{cleared}
 use Rattle.definitions.specs.Tables.{Tables}
 use Rattle.definitions.specs.ForeignTables.{tables_known}
@@ -30,8 +31,8 @@ returns-then-not-tables_known c =
     let a = c.args in
     let all =
     write-foreign a.header (lent (goal.at.returns-then-not-tables_known c).After-tables_known) (length a.text.now)
-    (failed c.tables_known.ensures (not_from_false _ c.if-not-tables_known.true)) c.not_written.ensures
-    c.clear_bytes.ensures in
+    (failed c.tables_known.ensures (not_from_false _ c.if-not-tables_known.true)) (ap Err c.into.ensures)
+    (c.fill.ensures.after (λ y e. e)) in
     record { answer = all.0; leaves = all.1 }
 
 pub put_plain-count-requires : goal.put_plain-count-requires
@@ -40,26 +41,25 @@ put_plain-count-requires c = known (goal.at.put_plain-count-requires c).Else-not
 -- the text that lines were put into is as long as it was
 sized : (c : goal.After-put_plain-count)
     → length c.put_plain-count.new.text ≡ length c.args.text.now
-sized c = c.put_plain-count.auto.text ∙ c.clear_bytes.auto.bytes
+sized c = c.put_plain-count.auto.text ∙ c.fill.auto.self
 
 pub returns-then-text-count : goal.returns-then-text-count
 returns-then-text-count c =
-    let cleared-again = c in
-    let done = cleared-again in
-    let passed = done in
-    let a = passed.args in
+    let a = c.args in
+    let size = sized (goal.at.returns-then-text-count c).After-put_plain-count in
     let all =
-    write-short a.header (lent (goal.at.returns-then-text-count c).After-tables_known) (known (goal.at.returns-then-text-count c).Else-not-tables_known) (length a.text.now)
-    passed.clear_bytes.ensures done.put_plain-count.ensures
-    (omega (arith, sized (goal.at.returns-then-text-count c).After-put_plain-count, cleared-again.if-text-count.true)) c.not_written-then-text-count.ensures
-    (cleared-again.clear_bytes-then-text-count.ensures ∙ ap (λ (n : ℕ). cleared n) (sized (goal.at.returns-then-text-count c).After-put_plain-count)) in
+    write-short a.header (lent (goal.at.returns-then-text-count c).After-tables_known)
+    (known (goal.at.returns-then-text-count c).Else-not-tables_known) (length a.text.now)
+    (c.fill.ensures.after (λ y e. e)) c.put_plain-count.ensures
+    (omega (arith, size, c.if-text-count.true)) (ap Err c.into-then-text-count.ensures)
+    (c.fill-then-text-count.ensures.after (λ y e. e) ∙ ap (λ (n : ℕ). cleared n) size) in
     record { answer = all.0; leaves = all.1 }
 
 pub returns : goal.returns
 returns c =
     let a = c.args in
     let all =
-    write_done a.header (lent (goal.at.returns c).After-tables_known) (known (goal.at.returns c).Else-not-tables_known) (length a.text.now)
-    c.clear_bytes.ensures c.put_plain-count.ensures
+    write_done a.header (lent (goal.at.returns c).After-tables_known) (known (goal.at.returns c).Else-not-tables_known)
+    (length a.text.now) (c.fill.ensures.after (λ y e. e)) c.put_plain-count.ensures
     (omega (arith, sized (goal.at.returns c).After-put_plain-count, c.if-text-count.false)) in
     record { answer = all.0; leaves = all.1 }

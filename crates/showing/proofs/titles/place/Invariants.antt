@@ -1,10 +1,7 @@
 -- `titles::place` meets its contract. The loop's invariant: the byte does not stand before `i`.
-use Rattle.std.proofs.Common.{◌≡◌, ◌+◌, ◌-◌, ◌≤◌, length, drop}
+use Rattle.std.proofs.Common.{◌≡◌, ◌+◌, drop}
 use Rattle.showing.specs.Titles.{place_of}
 use Rattle.showing.proofs.titles.place.Given as goal
 
 abbrev pub invariant-loop-i : goal.invariant-loop-i
-invariant-loop-i l = (l.i ≤ length l.text) × (place_of l.byte l.text ≡ l.i + place_of l.byte (drop l.i l.text))
-
-abbrev pub decreases-loop-i : goal.decreases-loop-i
-decreases-loop-i l = length l.text - l.i
+invariant-loop-i l = place_of l.byte l.text ≡ l.i + place_of l.byte (drop l.i l.text)

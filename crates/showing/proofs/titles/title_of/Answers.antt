@@ -3,4 +3,4 @@ use Rattle.showing.specs.Laws.Titles.{title-cut}
 use Rattle.showing.proofs.titles.title_of.Goals as goal
 
 pub returns : goal.returns
-returns c = title-cut _ _ c.place-line.ensures.found
+returns c = title-cut _ _ c.place.ensures.found

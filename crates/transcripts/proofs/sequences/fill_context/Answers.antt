@@ -1,6 +1,7 @@
 -- `sequences::fill_context` meets its contract. The loop's invariant: the columns before `column` hold the
 -- context's phones, the others are as they were.
 use mathlib.Core.Path.{◌≡◌, ◌∙◌}
+use native.Mathlib.Omega.{arith}
 use lib.ListN.{length}
 use Rattle.definitions.proofs.Laws.Trees.Contexts.{context_at, silent-context-length}
 use Rattle.lines.specs.Laws.Filling.{filled-start, filled_more, filled-end}
@@ -22,8 +23,8 @@ loop-column-init c = filled-start _ _
 pub loop-column-preserved : goal.loop-column-preserved
 loop-column-preserved c =
     filled_more (as_many (goal.at.loop-column-preserved c).Start) c.loop-column.invariant
-    c.loop-column-test.true c.phone_at.ensures
+    (omega (arith, c.loop-column-test.true, c.loop-column.invariant.sized)) c.phone_at.ensures
 
 pub returns : goal.returns
 returns c =
-    filled-end (as_many (goal.at.returns c).Start) c.loop-column.invariant c.loop-column-test.false
+    filled-end (as_many (goal.at.returns c).Start) c.loop-column.invariant (omega (arith, c.loop-column-test.false, c.loop-column.invariant.sized))

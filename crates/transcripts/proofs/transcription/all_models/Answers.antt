@@ -16,7 +16,7 @@ use Rattle.transcripts.proofs.transcription.all_models.Goals.{In-loop-place, Sta
 abbrev book : goal.Start → Book
 book c =
     let a = c.args in
-    book_with a.header a.nodes.now a.classes.now a.roots.now
+    book_with a.trees.header a.trees.nodes.now a.trees.classes.now a.trees.roots.now
 
 -- the room of the place
 fits : (c : goal.In-loop-place)
@@ -25,7 +25,7 @@ fits : (c : goal.In-loop-place)
 unfolding book_with
 fits c =
     let a = c.args in
-    room (book_with a.header a.nodes.now a.classes.now a.roots.now) a.sequence.now a.models.now c.requires.2 _ _
+    room (book_with a.trees.header a.trees.nodes.now a.trees.classes.now a.trees.roots.now) a.sequence.now a.models.now c.requires.1 _ _
     c.loop-place-test.true c.wide-states.ensures
 
 pub loop-place-init : goal.loop-place-init
@@ -49,8 +49,7 @@ slice_bounds-models_at-end c = omega (arith, fits (goal.at.slice_bounds-models_a
 pub models_at-questions-requires : goal.models_at-questions-requires
 models_at-questions-requires c =
     let p = c.requires in (
-      p.0,
-      utterance-phones _ _ p.1,
+      utterance-phones _ _ p.0,
       c.loop-place-test.true,
       omega (arith, c.wide-states.ensures),
     )
@@ -59,10 +58,10 @@ pub overflow_add-questions : goal.overflow_add-questions
 unfolding book_with
 overflow_add-questions c =
     let a = c.args in
-    let few = sum-few a.header a.nodes.now a.classes.now a.roots.now c.requires.0 a.sequence.now
+    let few = sum-few a.trees.header a.trees.nodes.now a.trees.classes.now a.trees.roots.now c.args.trees.fit a.sequence.now
     c.loop-place.place c.loop-place.invariant.placed.within in
-    let more = place_few a.header a.nodes.now a.classes.now a.roots.now c.requires.0
-    (context_at a.header.half a.sequence.now c.loop-place.place) in
+    let more = place_few a.trees.header a.trees.nodes.now a.trees.classes.now a.trees.roots.now c.args.trees.fit
+    (context_at a.trees.header.half a.sequence.now c.loop-place.place) in
     omega (
       arith,
       few,
@@ -70,7 +69,7 @@ overflow_add-questions c =
       c.loop-place.invariant.summed,
       c.models_at-questions.ensures.questions_are,
       c.loop-place.invariant.placed.within,
-      utterance-few _ _ c.requires.1,
+      utterance-few _ _ c.requires.0,
     )
 
 pub loop-place-preserved : goal.loop-place-preserved
@@ -84,7 +83,7 @@ loop-place-preserved c =
     record {
       placed =
           placed-more (book (goal.at.loop-place-preserved c).Start) a.sequence.now a.models.now c.loop-place.models i
-          inv.placed c.requires.2 c.loop-place-test.true k (i * k + k - i * k)
+          inv.placed c.requires.1 c.loop-place-test.true k (i * k + k - i * k)
           c.wide-states.ensures (omega arith) _ given.models_are;
       summed =
           sum-next (book (goal.at.loop-place-preserved c).Start) a.sequence.now i c.loop-place-test.true _ inv.summed _

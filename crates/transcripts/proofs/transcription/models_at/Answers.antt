@@ -16,7 +16,7 @@ use Rattle.transcripts.proofs.transcription.models_at.Goals as goal
 use Rattle.transcripts.proofs.transcription.models_at.Goals.{After-fill_context, After-wide-half, Start}
 
 half-small : (c : goal.After-wide-half) → c.wide-half.result ≤ 3
-half-small c = omega (arith, c.requires.0.ranges.half_range.high, c.wide-half.ensures)
+half-small c = omega (arith, c.args.trees.fit.ranges.half_range.high, c.wide-half.ensures)
 
 -- the front of the window, filled with the context
 abbrev filled : goal.After-fill_context → List ℕ
@@ -26,15 +26,15 @@ inside : (c : goal.After-fill_context) (rest : List ℕ)
     → 2 * c.wide-half.result + 1 ≤ length (filled c ++ rest)
 inside c rest =
     let a = c.args in
-    window-inside a.header a.sequence.now a.place c.requires.2
+    window-inside a.trees.header a.sequence.now a.place c.requires.1
     c.wide-half.result c.wide-half.ensures (filled c) c.fill_context.ensures rest
 
 -- that is the context of the place, as the book has it
 taken : (c : goal.After-fill_context) (rest : List ℕ)
-    → take (2 * c.wide-half.result + 1) (filled c ++ rest) ≡ context_at c.args.header.half c.args.sequence.now c.args.place
+    → take (2 * c.wide-half.result + 1) (filled c ++ rest) ≡ context_at c.args.trees.header.half c.args.sequence.now c.args.place
 taken c rest =
     let a = c.args in
-    window-taken a.header a.sequence.now a.place c.requires.2
+    window-taken a.trees.header a.sequence.now a.place c.requires.1
     c.wide-half.result c.wide-half.ensures (filled c) c.fill_context.ensures rest
 
 pub slice_bounds-window-end : goal.slice_bounds-window-end
@@ -46,7 +46,7 @@ slice_bounds-fill_context-end c = sym (length-take-le _ _ (omega (arith, half-sm
 pub fill_context-requires : goal.fill_context-requires
 fill_context-requires c =
     let small = half-small (goal.at.fill_context-requires c).After-wide-half in
-    (small, c.requires.2, length-take-le _ _ (omega arith))
+    (small, c.requires.1, length-take-le _ _ (omega arith))
 
 pub slice_bounds-window-end-2 : goal.slice_bounds-window-end-2
 slice_bounds-window-end-2 c = inside (goal.at.slice_bounds-window-end-2 c).After-fill_context _
@@ -57,17 +57,16 @@ slice_bounds-models_of-end c = sym (length-take-le _ _ (inside (goal.at.slice_bo
 pub models_of-requires : goal.models_of-requires
 models_of-requires c =
     let a = c.args in
-    let fits = context-fits a.header a.sequence.now a.place
-    c.requires.2 c.requires.0.ranges.phones_range.low c.requires.1 in (
-      c.requires.0,
-      subst (λ (l : List ℕ). T (is_context a.header l)) (sym (taken (goal.at.models_of-requires c).After-fill_context _)) fits,
-      c.requires.3,
+    let fits = context-fits a.trees.header a.sequence.now a.place
+    c.requires.1 c.args.trees.fit.ranges.phones_range.low c.requires.0 in (
+      subst (λ (l : List ℕ). T (is_context a.trees.header l)) (sym (taken (goal.at.models_of-requires c).After-fill_context _)) fits,
+      c.requires.2,
     )
 
 pub returns : goal.returns
 returns c =
     let a = c.args in
-    let book = book_with a.header a.nodes.now a.classes.now a.roots.now in
+    let book = book_with a.trees.header a.trees.nodes.now a.trees.classes.now a.trees.roots.now in
     let given = c.models_of.ensures in
     record {
       models_are = given.models_are ∙ ap (state_models book) (taken (goal.at.returns c).After-fill_context _);

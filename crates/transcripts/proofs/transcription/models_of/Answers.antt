@@ -19,24 +19,24 @@ use Rattle.transcripts.proofs.transcription.models_of.Goals.{After-reached_for-f
 abbrev target : goal.Start → List ℕ
 target c =
     let a = c.args in
-    state_models (book_with a.header a.nodes.now a.classes.now a.roots.now)
+    state_models (book_with a.trees.header a.trees.nodes.now a.trees.classes.now a.trees.roots.now)
     a.context.now
 
 as_many : (c : goal.Start) → length (target c) ≡ length c.args.models.now
 unfolding book_with
-as_many c = states-length _ _ ∙ sym c.requires.2
+as_many c = states-length _ _ ∙ sym c.requires.1
 
 -- a word for each state
 inside : (c : goal.In-loop-state)
     → c.loop-state.state < length c.loop-state.models
 inside c =
-    omega (arith, c.requires.2, c.loop-state-test.true, c.loop-state.invariant.filled.sized)
+    omega (arith, c.requires.1, c.loop-state-test.true, c.loop-state.invariant.filled.sized)
 
 -- what was found for the state, and the sum of what was met before
 abbrev met : goal.Start → (state : ℕ) → ℕ
 met c state =
     let a = c.args in
-    (reached_for (book_with a.header a.nodes.now a.classes.now a.roots.now) a.context.now state
+    (reached_for (book_with a.trees.header a.trees.nodes.now a.trees.classes.now a.trees.roots.now) a.context.now state
     ).questions
 
 few : (c : goal.In-loop-state) → c.loop-state.questions ≤ 12288
@@ -44,18 +44,18 @@ few c =
     let a = c.args in
     omega (
       arith,
-      states-few a.header a.nodes.now a.classes.now a.roots.now c.requires.0
+      states-few a.trees.header a.trees.nodes.now a.trees.classes.now a.trees.roots.now c.args.trees.fit
           a.context.now c.loop-state.state,
       c.loop-state.invariant.summed,
       c.loop-state.invariant.filled.within,
-      c.requires.2,
-      c.requires.0.ranges.states_range.high,
+      c.requires.1,
+      c.args.trees.fit.ranges.states_range.high,
     )
 
 found-few : (c : goal.After-reached_for-found) → c.reached_for-found.result.questions ≤ 4096
 found-few c =
     let a = c.args in
-    rw c.reached_for-found.ensures (met-few a.header a.nodes.now a.classes.now a.roots.now c.requires.0
+    rw c.reached_for-found.ensures (met-few a.trees.header a.trees.nodes.now a.trees.classes.now a.trees.roots.now c.args.trees.fit
     a.context.now (c.loop-state.state + 1))
 
 pub loop-state-init : goal.loop-state-init
@@ -64,7 +64,7 @@ loop-state-init c = states-start _ _ _
 pub reached_for-found-requires : goal.reached_for-found-requires
 reached_for-found-requires c =
     let p = c.requires in
-    (p.0, p.1, omega arith, omega (arith, c.loop-state-test.true))
+    (p.0, omega arith, omega (arith, c.loop-state-test.true))
 
 pub bounds-models-wide : goal.bounds-models-wide
 bounds-models-wide c = omega (arith, inside (goal.at.bounds-models-wide c).In-loop-state, c.wide.ensures)
@@ -76,7 +76,7 @@ pub loop-state-preserved : goal.loop-state-preserved
 unfolding book_with model_of
 loop-state-preserved c =
     let found = c.reached_for-found.ensures in
-    rw c.wide.ensures record {
+    rw (c.wide.ensures, c.from-questions.ensures) record {
       filled =
           filled_more (as_many (goal.at.loop-state-preserved c).Start) c.loop-state.invariant.filled (inside (goal.at.loop-state-preserved c).In-loop-state)
           (ap (λ (f : Found). f.model) found ∙ state-at _ _ c.loop-state.state c.loop-state-test.true);
@@ -89,11 +89,11 @@ pub returns : goal.returns
 unfolding questions_at book_with
 returns c =
     let inv = c.loop-state.invariant in
-    let all : c.loop-state.state ≡ c.args.header.states =
-    omega (arith, c.requires.2, c.loop-state-test.false, inv.filled.within) in
+    let all : c.loop-state.state ≡ c.args.trees.header.states =
+    omega (arith, c.requires.1, c.loop-state-test.false, inv.filled.within) in
     record {
       models_are =
           filled-end (as_many (goal.at.returns c).Start) inv.filled
-          (omega (arith, c.requires.2, c.loop-state-test.false, inv.filled.sized));
+          (omega (arith, c.requires.1, c.loop-state-test.false, inv.filled.sized));
       questions_are = inv.summed ∙ ap (λ (n : ℕ). sum_of (met (goal.at.returns c).Start) (up_from 1 n)) all;
     }

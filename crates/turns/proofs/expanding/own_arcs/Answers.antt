@@ -39,10 +39,10 @@ pub model_of-model-requires : goal.model_of-model-requires
 model_of-model-requires c =
     let p = c.requires in
     let a = c.args in
-    let here : c.loop-state.state < a.header.states =
+    let here : c.loop-state.state < a.rules.header.states =
     omega (arith, c.loop-state-test.true, c.wide-states.ensures) in
-    has-leaf a.header a.combinations.now p.connectable.usable a.number p.listed
-    a.nodes.now
+    has-leaf a.rules.header a.rules.combinations.now p.connectable.usable a.number p.listed
+    a.rules.nodes.now
     p.connectable.modelled c.loop-state.state here
 
 -- the state that an arc leads to

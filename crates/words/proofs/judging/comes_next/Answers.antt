@@ -7,10 +7,8 @@ returns-then-line-last c = next-same _ _ c.if-line-last.true c.wide.ensures c.wi
 
 pub returns-then-wide : goal.returns-then-wide
 returns-then-wide c =
-    next-far _ _ c.if-line-last.false c.wide-2.ensures c.wide-3.ensures
-    c.if-wide.true
+    next-first _ _ c.if-line-last.false c.wide-else-line-last.ensures c.wide-else-line-last-2.ensures c.if-wide.true
 
-pub returns : goal.returns
-returns c =
-    next-first _ _ c.if-line-last.false c.wide-2.ensures c.wide-3.ensures
-    c.if-wide.false
+pub returns-else-wide : goal.returns-else-wide
+returns-else-wide c =
+    next-far _ _ c.if-line-last.false c.wide-else-line-last.ensures c.wide-else-line-last-2.ensures c.if-wide.false

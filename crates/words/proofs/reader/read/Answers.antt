@@ -1,22 +1,18 @@
 -- `reader::read` meets its contract: the table is cleared before reading, and again where it refuses.
-use Rattle.definitions.proofs.Laws.Lists.Lists.{clear-itself}
-use Rattle.words.specs.Laws.Answering.{accepted-returns, refused-returns}
+use Rattle.std.proofs.Common.{rules, ◌≡◌, sym, length}
+use Rattle.definitions.specs.Lists.{cleared}
+use Rattle.words.specs.Laws.Answering.{accepted-left, refused-left}
 use Rattle.words.proofs.reader.read.Goals as goal
 
-pub read_lines-answer-requires : goal.read_lines-answer-requires
-read_lines-answer-requires c =
-    clear-itself c.args.words.now _ c.clear_words.ensures
+pub returns-then-is_err-clause-words : goal.returns-then-is_err-clause-words
+returns-then-is_err-clause-words c =
+    let first : c.fill.new.self ≡ cleared (length c.args.words.now) = search rules in
+    let again : c.fill-then-is_err.new.self ≡ cleared (length c.read_lines-answer.new.words) = search rules in
+    refused-left c.args.words.now first c.read_lines-answer.ensures.answer c.read_lines-answer.ensures.words
+    (sym c.if-is_err.ensures.value) again
 
-pub returns-in-Accepted : goal.returns-in-Accepted
-returns-in-Accepted c =
-    let all =
-    accepted-returns c.args.words.now c.clear_words.ensures c.read_lines-answer.ensures.answer
-    c.read_lines-answer.ensures.words _ c.in-Accepted.is in
-    record { answer = all.0; words = all.1 }
-
-pub returns-in-Refused : goal.returns-in-Refused
-returns-in-Refused c =
-    let all =
-    refused-returns c.args.words.now c.clear_words.ensures c.read_lines-answer.ensures.answer
-    c.read_lines-answer.ensures.words _ c.in-Refused.is c.clear_words-in-Refused.ensures in
-    record { answer = all.0; words = all.1 }
+pub returns-else-is_err-clause-words : goal.returns-else-is_err-clause-words
+returns-else-is_err-clause-words c =
+    let first : c.fill.new.self ≡ cleared (length c.args.words.now) = search rules in
+    accepted-left c.args.words.now first c.read_lines-answer.ensures.answer c.read_lines-answer.ensures.words
+    (sym c.if-is_err.ensures.value)

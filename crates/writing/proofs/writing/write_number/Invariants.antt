@@ -1,8 +1,7 @@
 -- `writing::write_number` meets its contract. The loop's invariant: the field's text is the bytes that are
--- still to be written, and those of the buffer from `i` on.
+-- still to be written, and those of the buffer after them.
 use mathlib.Core.Path.{◌≡◌}
 use mathlib.Core.List.{◌++◌}
-use Prim.Native.Nat.{◌≤◌}
 use lib.ListN.{length, drop}
 use Rattle.definitions.specs.Lines.{field_text}
 use Rattle.writing.specs.Writing.{leading}
@@ -10,7 +9,4 @@ use Rattle.writing.proofs.writing.write_number.Given as goal
 
 abbrev pub invariant-loop-i : goal.invariant-loop-i
 invariant-loop-i l =
-    (l.i ≤ 5) × (length l.field ≡ 6) × (field_text l.n ≡ leading l.i l.rest ++ drop l.i l.field)
-
-abbrev pub decreases-loop-i : goal.decreases-loop-i
-decreases-loop-i l = l.i
+    (length l.field ≡ 6) × (field_text l.n ≡ leading l.i l.rest ++ drop l.i l.field)

@@ -1,8 +1,0 @@
--- `expanding::with_arc` meets its contract.
-use Rattle.turns.specs.Laws.OwnArcs.{arc-stored}
-use borrow.Author.Rules.{rules}
-use Rattle.turns.proofs.expanding.with_arc.Goals as goal
-
-pub returns : goal.returns
-returns c arcs are =
-    arc-stored c.args.new arcs _ _ _ (search rules) c.requires.few are
