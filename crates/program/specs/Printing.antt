@@ -1,6 +1,8 @@
 -- What stands in the program's output, and the texts that are printed there.
 use Rattle.std.specs.Prelude.{◌≡◌, List, [], ℕ, ◌+◌, ◌*◌, length}
 use Rattle.definitions.specs.declared.Counts.{Counts}
+use Rattle.network.specs.declared.Build.{Build}
+use Rattle.network.specs.declared.Build.TheVariants as build
 use Rattle.definitions.specs.Lists.{padded}
 use Rattle.definitions.specs.Arcs.{arcs_in}
 use Rattle.definitions.specs.BookBuilding.{build_book}
@@ -26,3 +28,8 @@ text_in counts words = network_text counts (arcs_in counts.arcs words)
 -- what the program prints of a book
 abbrev pub book_text : (text : List ℕ) → List ℕ
 book_text text = printed (network_of (build_book program_lent program_space program_turns text))
+
+-- the counts of a network that was built, finished or not
+abbrev pub counts_told : Build → Counts
+counts_told (build.Finished totals) = totals.counts
+counts_told (build.Stopped totals) = totals.counts

@@ -5,16 +5,15 @@ ghost use Rattle.definitions.specs.Arcs.{arc_size};
 ghost use Rattle.definitions.specs.NetworkText.{network_known};
 ghost use Rattle.definitions.specs.Program.{refusal_text, program};
 ghost use Rattle.program.specs.Demand.{PrintsDemand3};
-ghost use Rattle.program.specs.Printing.{output_size, Empty, Prints, text_in, book_text};
+ghost use Rattle.program.specs.Printing.{output_size, Empty, Prints, counts_told, text_in, book_text};
 ghost use Rattle.program.specs.Reading.{PrintsInput};
 
 use crate::{BUFFER_SIZE, LONGEST_INPUT, OUTPUT_SIZE, Output};
 use builder::building::build_book;
-use definitions::{ARC_SIZE, Counts, Fault, MOST_COLUMNS, NODE_SIZE, Refusal, number};
+use definitions::{ARC_SIZE, Counts, Fault, MOST_COLUMNS, NODE_SIZE, Refusal};
 use lines::Row;
 use nettext::writer::write as write_network;
 use network::Build;
-use writing::Written;
 use writing::writing::write as write_line;
 
 // One line X with number and line.
@@ -22,11 +21,10 @@ fn print_refusal(refusal: Refusal, output: &mut [u8]) -> usize
     requires { (refusal.line ≤ most_number) × Empty output.old }
     ensures { Prints (refusal_text refusal) output.new result }
 {
-    let fault = refusal.fault;
     let row = Row {
         letter: b'X',
         used: 2,
-        numbers: [number(fault), refusal.line as u32, 0, 0, 0],
+        numbers: [refusal.fault.into(), refusal.line as u32, 0, 0, 0],
     };
     write_line(row, output);
     32
@@ -37,13 +35,15 @@ fn print_network(counts: Counts, arcs: &[u32], output: &mut [u8]) -> usize
     requires { T (network_known counts arcs.now) × (length arcs.now ≡ arc_size * 2000) × Empty output.old }
     ensures { Prints (text_in counts arcs.now) output.new result }
 {
-    match write_network(counts, arcs, output) {
-        Written::Bytes(length) => {
-            return length;
-        }
-        Written::Refused(_) => {
-            return 0;
-        }
+    write_network(counts, arcs, output).unwrap_or(0)
+}
+
+// The counts of a network that was built, finished or not.
+fn counts_of(built: Build) -> Counts
+    ensures { result ≡ counts_told built }
+{
+    match built {
+        Build::Finished(totals) | Build::Stopped(totals) => totals.counts,
     }
 }
 
@@ -59,7 +59,7 @@ fn print_built(text: &[u8], output: &mut [u8]) -> usize
     let mut combinations = [0u64; 512 * (4 + MOST_COLUMNS)];
     let mut metastates = [0u64; 512 * (1 + MOST_COLUMNS)];
     let mut arcs = [0u32; 2000 * ARC_SIZE];
-    let answer = build_book(
+    let built = build_book(
         text,
         &mut nodes,
         &mut classes,
@@ -70,18 +70,9 @@ fn print_built(text: &[u8], output: &mut [u8]) -> usize
         &mut arcs,
         512,
     );
-    match answer {
-        Build::Finished(totals) => {
-            let counts = totals.counts;
-            return print_network(counts, &arcs, output);
-        }
-        Build::Stopped(totals) => {
-            let counts = totals.counts;
-            return print_network(counts, &arcs, output);
-        }
-        Build::Refused(refusal) => {
-            return print_refusal(refusal, output);
-        }
+    match built {
+        Ok(built) => print_network(counts_of(built), &arcs, output),
+        Err(refusal) => print_refusal(refusal, output),
     }
 }
 
@@ -91,13 +82,7 @@ fn print_all(input: &[u8], output: &mut [u8]) -> usize
     ensures { Prints (program input.now) output.new result }
 {
     if input.len() > LONGEST_INPUT {
-        return print_refusal(
-            Refusal {
-                fault: Fault::Long,
-                line: 0,
-            },
-            output,
-        );
+        return print_refusal(Fault::Long.into(), output);
     }
     print_built(input, output)
 }
@@ -106,10 +91,7 @@ fn print_all(input: &[u8], output: &mut [u8]) -> usize
 fn bytes_read<'a>(buffer: &'a [u8], got: usize) -> &'a [u8]
     ensures { result.now ≡ take got buffer.now }
 {
-    if got >= buffer.len() {
-        return buffer;
-    }
-    &buffer[..got]
+    &buffer[..got.min(buffer.len())]
 }
 
 // What the program prints for an input, of which as many bytes as are counted stand in the buffer. The buffer has

@@ -1,7 +1,7 @@
 -- Laws about what a book prints, by the answer of its build. Where a network was built, its counts and the words
 -- in the arc buffer are known, and their text is printed; where the book is refused, the line of the refusal has
 -- room in a field. The proof of the function that builds and prints uses them.
-use Rattle.std.specs.Prelude.{◌≡◌, List, ℕ, ◌≤◌, T, length}
+use Rattle.std.specs.Prelude.{◌≡◌, List, ℕ, ◌≤◌, T, length, Result, Ok, Err}
 use Rattle.std.proofs.Math.Path.{refl, subst}
 use Rattle.std.proofs.Common.{◌∙◌, arith}
 use Rattle.definitions.specs.Faults.{Outcome, answered, refused, and_then}
@@ -13,46 +13,43 @@ use Rattle.definitions.specs.Connecting.{Built}
 use Rattle.definitions.specs.Building.{Space, build, network_in, counts_in, Buffers, buffers_of, buffers_left}
 use Rattle.definitions.specs.BookBuilding.{BookBuilt, build_read, build_book, buffers_after}
 use Rattle.definitions.specs.NetworkText.{network_known}
-use Rattle.definitions.specs.Said.{said_of, no_progress, book_progress}
+use Rattle.definitions.specs.Said.{result_of}
+use Rattle.definitions.specs.declared.Refusal.{Refusal}
 use Rattle.definitions.specs.Program.{program_lent, program_space, program_turns, text_of_built, network_of}
 use Rattle.definitions.specs.Program.{refusal_text, printed}
 use Rattle.definitions.proofs.Laws.Text.Judging.{and_then-answered}
 use Rattle.definitions.proofs.Laws.Lists.Records.{arcs-read}
 use Rattle.definitions.proofs.Laws.Text.RefusalLines.{built-line}
 use Rattle.network.specs.declared.Build.{Build}
-use Rattle.network.specs.declared.Build.TheVariants as build
-use Rattle.network.specs.Answers.{build_of, build_said, totals_of}
+use Rattle.network.specs.Answers.{build_of, totals_of}
 use Rattle.builder.specs.Answers.{book_answer}
-use Rattle.builder.specs.Laws.Said.{book-told as book-answered}
 use Rattle.program.specs.Laws.BuiltNetworks.{built-known}
-use Rattle.program.specs.Printing.{text_in, book_text}
+use Rattle.program.specs.Printing.{counts_told, text_in, book_text}
 
 -- ---- what is told of an answer and the words in the arc buffer
 
 -- they can be printed
-abbrev pub Printable : Build → (words : List ℕ) → Type 0
-Printable (build.Finished totals) words = T (network_known totals.counts words)
-Printable (build.Stopped totals) words = T (network_known totals.counts words)
-Printable (build.Refused r) words = r.line ≤ 999999
+abbrev pub Printable : Result Build Refusal → (words : List ℕ) → Type 0
+Printable (Ok built) words = T (network_known (counts_told built) words)
+Printable (Err r) words = r.line ≤ 999999
 
 -- what is printed of them
-abbrev pub text_told : Build → (words : List ℕ) → List ℕ
-text_told (build.Finished totals) words = text_in totals.counts words
-text_told (build.Stopped totals) words = text_in totals.counts words
-text_told (build.Refused r) words = refusal_text r
+abbrev pub text_told : Result Build Refusal → (words : List ℕ) → List ℕ
+text_told (Ok built) words = text_in (counts_told built) words
+text_told (Err r) words = refusal_text r
 
 -- ---- a network that is built
 
 module _ (states : ℕ) (words : List ℕ) where
   built-printable : (built : Built) → T (network_known (counts_in states (network_in built)) words)
-      → Printable (build_of states (answered built)) words
-  unfolding build_of totals_of grown_in
+      → Printable (Ok (build_of states built)) words
+  unfolding totals_of grown_in
   built-printable (finished turns net) h = h
   built-printable (stopped turns net) h = h
 
   built-told : (built : Built)
-      → text_told (build_of states (answered built)) words ≡ text_in (counts_in states (network_in built)) words
-  unfolding build_of totals_of grown_in
+      → text_told (Ok (build_of states built)) words ≡ text_in (counts_in states (network_in built)) words
+  unfolding totals_of grown_in
   built-told (finished turns net) = refl
   built-told (stopped turns net) = refl
 
@@ -65,7 +62,7 @@ module _ (lent : Lent) (space : Space) where
   book-told : (b : BookBuilt)
       → text_told (book_answer (answered b)) (arcs_after lent space (answered b))
       ≡ printed (network_of (answered b))
-  unfolding book_answer buffers_after buffers_of counts_in network_of and_then printed text_of_built
+  unfolding result_of buffers_after buffers_of counts_in network_of and_then printed text_of_built
   book-told b =
       built-told (header_of b.lines).states (arcs_after lent space (answered b)) b.built
       ∙ rw (arcs-read space.arcs (network_in b.built).arcs)
@@ -74,7 +71,7 @@ module _ (lent : Lent) (space : Space) where
       → build (header_of lines) (tables_left lent (answered lines)) space limit ≡ answered built
       → Printable (book_answer (answered (record { lines = lines; built = built })))
       (arcs_after lent space (answered (record { lines = lines; built = built })))
-  unfolding book_answer buffers_after buffers_left
+  unfolding result_of buffers_after buffers_left
   read-printable limit lines built e =
       let known = built-known (header_of lines) (tables_left lent (answered lines)) space limit built e in
       built-printable (header_of lines).states _ built (rw e at known)
@@ -95,23 +92,20 @@ module _ (lent : Lent) (space : Space) where
 
     outcome-printable : (outcome : Outcome BookBuilt) → build_book lent space limit text ≡ outcome
         → length text ≤ 65536 → Printable (book_answer outcome) (arcs_after lent space outcome)
-    unfolding book_answer
+    unfolding result_of
     outcome-printable (answered b) e h = book-printable b e
     outcome-printable (refused r) e h = omega (arith, built-line lent space limit text r e)
 
     outcome-told : (outcome : Outcome BookBuilt)
         → text_told (book_answer outcome) (arcs_after lent space outcome) ≡ printed (network_of outcome)
-    unfolding book_answer network_of and_then printed
+    unfolding result_of network_of and_then printed
     outcome-told (answered b) = book-told b
     outcome-told (refused r) = refl
 
-    module _ (answer : Build) (buffers : Buffers)
-        (says : build_said answer ≡ said_of book_progress no_progress (build_book lent space limit text))
+    module _ (answer : Result Build Refusal) (buffers : Buffers)
+        (told : answer ≡ book_answer (build_book lent space limit text))
         (left : buffers ≡ buffers_after lent space (build_book lent space limit text))
       where
-        told : answer ≡ book_answer (build_book lent space limit text)
-        told = book-answered (build_book lent space limit text) says
-
         pub answer-printable : length text ≤ 65536 → Printable answer buffers.arcs
         answer-printable h = rw (told, left) (outcome-printable (build_book lent space limit text) refl h)
 

@@ -3,7 +3,7 @@
 use Rattle.std.proofs.Math.Path.{◌≡◌}
 use Rattle.std.proofs.Common.{sym, ap, ◌∙◌, length-append, le-leb}
 use mathlib.Core.List.{List, [], ◌∷◌, ◌++◌}
-use Rattle.std.specs.Prelude.{if◌then◌else◌, Bool, true, ◌&&◌, ℕ, ◌+◌, ◌-◌, ◌*◌, ◌≤◌, T, leb, drop}
+use Rattle.std.specs.Prelude.{if◌then◌else◌, Bool, true, ◌&&◌, ℕ, ◌+◌, ◌-◌, ◌*◌, ◌≤◌, T, leb, drop, Result, Ok}
 use Prim.Native.Char.{code}
 use native.Mathlib.Omega.{arith}
 use Rattle.std.proofs.Math.ListN.{length}
@@ -22,9 +22,8 @@ use Rattle.definitions.proofs.Laws.Networks.Program.{fault-small, refusal-length
 use Rattle.lines.specs.declared.Row.{Row}
 use Rattle.lines.specs.Rows.{line_in}
 use Rattle.writing.specs.Writing.{writable, written}
-use Rattle.writing.specs.declared.Written.{Written}
-use Rattle.writing.specs.declared.Written.TheVariants as written
-use Rattle.writing.specs.Answers.{written_of}
+use Rattle.definitions.specs.Said.{result_of}
+use Rattle.std.specs.Result.{result_unwrap_or}
 use Rattle.program.specs.Printing.{output_size, Empty, Prints, text_in}
 
 -- ---- an empty output
@@ -92,20 +91,18 @@ module _ (counts : Counts) (words output : List ℕ) (known : T (network_known c
         known_written counts words (length output) known
         (omega (arith, (known-holds counts words known).0, empty-length output_size output empty))
 
-    pub network-prints : (after : List ℕ) (count : ℕ)
-        → written.Bytes count ≡ written_of (write_network counts words (length output))
-        → after ≡ answer_left (length output) (write_network counts words (length output))
-        → Prints (text_in counts words) after count
-    unfolding written_of answer_left
-    network-prints after count e left =
-        let bytes : ◌≡◌ {A = Written} (written.Bytes count) (written.Bytes (length (text_in counts words))) =
-        e ∙ rw network-written in
-        let sized : length output ≡ output_size = empty-length output_size output empty in
-        (left ∙ rw network-written (rw sized), (cc))
+    -- what is answered, by the words of the contract
+    network-answer : (answer : Result ℕ Refusal)
+        → answer ≡ result_of length (write_network counts words (length output))
+        → answer ≡ Ok (length (text_in counts words))
+    unfolding result_of
+    network-answer answer e = e ∙ rw network-written
 
-    pub network-unrefused : (r : Refusal)
-        → written.Refused r ≡ written_of (write_network counts words (length output)) → ⊥
-    unfolding written_of
-    network-unrefused r e =
-        let told : written.Refused r ≡ written.Bytes (length (text_in counts words)) = e ∙ rw network-written in
-        let z : ◌≡◌ {A = ℕ} 0 1 = cc in omega arith
+    pub network-prints : (answer : Result ℕ Refusal) (after : List ℕ)
+        → answer ≡ result_of length (write_network counts words (length output))
+        → after ≡ answer_left (length output) (write_network counts words (length output))
+        → Prints (text_in counts words) after (result_unwrap_or answer 0)
+    unfolding answer_left
+    network-prints answer after e left =
+        let sized : length output ≡ output_size = empty-length output_size output empty in
+        (left ∙ rw network-written (rw sized), rw (network-answer answer e))

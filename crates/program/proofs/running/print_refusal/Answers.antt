@@ -5,4 +5,4 @@ use Rattle.program.proofs.running.print_refusal.Goals as goal
 pub returns : goal.returns
 returns c =
     refusal-prints c.args.refusal _ c.args.output.now _ _ c.requires.0 c.requires.1
-    c.number.ensures c.write.ensures.answer c.write.ensures.leaves
+    c.into.ensures c.write.ensures.answer c.write.ensures.leaves
