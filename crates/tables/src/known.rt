@@ -35,7 +35,6 @@ pub fn header_known(header: Header) -> bool
 
 // Records that N and L lines leave, and nothing beyond them.
 pub fn node_table_known(header: Header, words: &[u32]) -> bool
-    requires { T (header_known header) }
     ensures { result ≡ node_table_known header words.now }
 {
     holds_only(words, NODE_SIZE * wide(header.nodes), 0)
