@@ -4,8 +4,9 @@ ghost use Rattle.definitions.specs.Combinations.{combinations_of, combine, combi
 ghost use Rattle.definitions.specs.Said.{result_of};
 ghost use Rattle.definitions.specs.Tables.{tables_book};
 ghost use Rattle.tables.specs.Lending.{lent_tables};
+ghost use Rattle.tables.specs.Trees.{trees_book};
 ghost use Rattle.leafsets.specs.Leaves.{leaf_size};
-ghost use Rattle.leafsets.specs.Working.{AllFit, book_of, IsPhone, Working, Worked};
+ghost use Rattle.leafsets.specs.Working.{IsPhone, Working, Worked};
 ghost use Rattle.choices.specs.Space.{Holding, Added};
 ghost use Rattle.combinations.specs.Answers.{by_phone, Clear, AllAdded};
 
@@ -13,12 +14,13 @@ use crate::ByPhone;
 use choices::Choice;
 use choices::choosing::choose;
 use definitions::{Fault, Header, MOST_NODES, Refusal, wide};
+use leafsets::LEAF_SIZE;
 use leafsets::collecting::list_leaves;
-use leafsets::{LEAF_SIZE, Trees};
 use matrix::Matrix;
 use matrix::sets::{all_phones, alone};
 use tables::forcing::{MOST_ROOTS, roots_in_force};
 use tables::foreign::tables_known;
+use tables::trees::Trees;
 
 // Up to so many nodes a book gets short lists: a record for each node, of these or of all that a book may have.
 const FEW_NODES: usize = 1024;
@@ -38,20 +40,19 @@ fn choose_phone(
     space: &mut [u64],
     count: usize,
 ) -> Result<usize, Fault>
-    requires { AllFit trees × IsPhone trees.header phone
+    requires { IsPhone trees.header phone
         × Working trees.header.nodes table.old first.old second.old third.old
         × Holding trees.header.half space.old count }
     ensures space { Added trees.entry.header.half space.old count
-        (combinations_of (book_of trees.entry)
-        phone) result space.new }
+        (combinations_of (trees_book trees.entry) phone) result space.new }
     ensures lists { Worked trees.entry.header.nodes
         table.old first.old second.old third.old
         table.new first.new second.new third.new }
 {
+    let header = trees.header;
     let a = list_leaves(trees, phone, 1, table, first);
     let b = list_leaves(trees, phone, 2, table, second);
     let c = list_leaves(trees, phone, 3, table, third);
-    let header = trees.header;
     let all = all_phones(header.phones);
     let start = Choice {
         phone,
@@ -81,10 +82,9 @@ fn choose_phones(
     space: &mut [u64],
     ends: &mut [u32],
 ) -> Result<usize, Fault>
-    requires { AllFit trees × Clear space.old ends.old
+    requires { Clear space.old ends.old
         × Working trees.header.nodes table.old first.old second.old third.old }
-    ensures { AllAdded (book_of trees.entry)
-        space.old result space.new ends.new }
+    ensures { AllAdded (trees_book trees.entry) space.old result space.new ends.new }
 {
     let mut count = 0;
     for phone in 1..trees.header.phones + 1 {
@@ -100,10 +100,9 @@ fn choose_in<const N: usize>(
     space: &mut [u64],
     ends: &mut [u32],
 ) -> Result<usize, Fault>
-    requires { AllFit trees × Clear space.old ends.old
+    requires { Clear space.old ends.old
         × (leaf_size * trees.header.nodes ≤ N) × (N ≤ 32768) }
-    ensures { AllAdded (book_of trees.entry)
-        space.old result space.new ends.new }
+    ensures { AllAdded (trees_book trees.entry) space.old result space.new ends.new }
 {
     let mut table = [0u64; N];
     let mut first = [0u64; N];
@@ -124,9 +123,8 @@ fn choose_in<const N: usize>(
 // Adds the combinations of all phones. A short table of leaves gets short arrays, for itself and for the lists,
 // so that few words are cleared for a small book.
 fn choose_all(trees: Trees, space: &mut [u64], ends: &mut [u32]) -> Result<usize, Fault>
-    requires { AllFit trees × Clear space.old ends.old }
-    ensures { AllAdded (book_of trees.entry)
-        space.old result space.new ends.new }
+    requires { Clear space.old ends.old }
+    ensures { AllAdded (trees_book trees.entry) space.old result space.new ends.new }
 {
     if wide(trees.header.nodes) <= FEW_NODES {
         choose_in::<SHORT_LIST>(trees, space, ends)
@@ -161,13 +159,13 @@ pub fn combine(
     }
     let mut forced = [0u32; MOST_ROOTS];
     roots_in_force(header, roots, plains, &mut forced);
+    let mut ends = [0u32; 65];
     let trees = Trees {
         header,
         nodes,
         classes,
         roots: &forced,
     };
-    let mut ends = [0u32; 65];
     match choose_all(trees, space, &mut ends) {
         Ok(count) => Ok(ByPhone { count, ends }),
         Err(fault) => {

@@ -1,17 +1,19 @@
 // The leaves of a tree with their matrices, ascending by node number.
 ghost use Rattle.std.specs.Prelude.{◌++◌, ◌≡◌, ◌+◌, ◌*◌, ◌≤◌, length, set, take, drop};
 ghost use Rattle.definitions.specs.Lists.{concat_map};
+ghost use Rattle.tables.specs.Trees.{trees_book};
 ghost use Rattle.leafsets.specs.Leaves.{leaf_size, listed, listed_at, UsedWithin, leaf_words, leaves_for};
 ghost use Rattle.leafsets.specs.Leaves.{Listing};
-ghost use Rattle.leafsets.specs.Working.{AllFit, book_of, IsPhone, Unused};
+ghost use Rattle.leafsets.specs.Working.{IsPhone, Unused};
 
+use crate::LEAF_SIZE;
 use crate::walking::walk;
-use crate::{LEAF_SIZE, Trees};
 use definitions::wide;
 use matrix::Matrix;
 use matrix::sets::{all_phones, alone};
 use matrix::words::{put_numbered, whole_matrix};
 use tables::roots::root_of;
+use tables::trees::Trees;
 
 // Takes a leaf out of the table: copies its matrix into the record at a place of the list, the node before it,
 // and marks its own record as not used.
@@ -55,11 +57,10 @@ pub fn list_leaves(
     table: &mut [u64],
     list: &mut [u64],
 ) -> usize
-    requires { AllFit trees × IsPhone trees.header phone × (1 ≤ state)
+    requires { IsPhone trees.header phone × (1 ≤ state)
         × Unused trees.header.nodes table.old × (length table.old ≤ length list.old) }
-    ensures { Listing (concat_map leaf_words (leaves_for
-        (book_of trees.entry)
-        phone state)) table.old list.old result table.new list.new }
+    ensures { Listing (concat_map leaf_words (leaves_for (trees_book trees.entry) phone state))
+        table.old list.old result table.new list.new }
 {
     let header = trees.header;
     if header.states < state {

@@ -68,7 +68,7 @@ fn records_known(header: Header, nodes: &[u32], classes: &[u64]) -> bool
     header_known(header) && node_table_known(header, nodes) && class_table_known(header, classes)
 }
 
-// Whether reading leaves these tables with this header.
+// Whether reading leaves these tables with this header. They stay apart, as C lends them to the entries that README names.
 #[tactic(auto, unfolding(definitions::specs::ForeignTables::tables_known, definitions::specs::ForeignTables::named_once, definitions::specs::Tables::tables_contents))]
 pub fn tables_known(
     header: Header,

@@ -35,7 +35,6 @@ pub fn header_known(header: Header) -> bool
 
 // Records that N and L lines leave, and nothing beyond them.
 pub fn node_table_known(header: Header, words: &[u32]) -> bool
-    requires { T (header_known header) }
     ensures { result ≡ node_table_known header words.now }
 {
     holds_only(words, NODE_SIZE * wide(header.nodes), 0)
@@ -99,7 +98,6 @@ fn roots_known(header: Header, plains: &[u32], roots: &[u32]) -> bool
 
 // Roots that R lines leave beside these plain phones, and nothing beyond them.
 pub fn root_table_known(header: Header, plains: &[u32], words: &[u32]) -> bool
-    requires { T (header_known header) }
     ensures { result ≡ root_table_known header (take header.phones plains.now) words.now }
 {
     let roots = wide(header.phones) * wide(header.states);

@@ -85,6 +85,7 @@ fn all_models(trees: Trees, sequence: &[u32], models: &mut [u32]) -> u64
 }
 
 // The models that the trees give to a phone sequence, and 0 in the rest of the buffer; and how many questions were put.
+// The tables stay apart, as C lends them.
 pub fn transcribe(
     header: Header,
     nodes: &[u32],
