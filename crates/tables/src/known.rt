@@ -99,7 +99,6 @@ fn roots_known(header: Header, plains: &[u32], roots: &[u32]) -> bool
 
 // Roots that R lines leave beside these plain phones, and nothing beyond them.
 pub fn root_table_known(header: Header, plains: &[u32], words: &[u32]) -> bool
-    requires { T (header_known header) }
     ensures { result ≡ root_table_known header (take header.phones plains.now) words.now }
 {
     let roots = wide(header.phones) * wide(header.states);

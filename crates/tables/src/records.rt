@@ -61,9 +61,6 @@ pub fn put_node(words: &mut [u32], number: u32, node: Node)
     ensures { words.new ≡ put_at (node_size * number) (record_words node) words.old }
 {
     let at = NODE_SIZE * wide(number);
-    words[at] = node.kind;
-    words[at + 1] = node.value;
-    words[at + 2] = node.position;
-    words[at + 3] = node.yes;
-    words[at + 4] = node.no;
+    let record = [node.kind, node.value, node.position, node.yes, node.no];
+    words[at..at + NODE_SIZE].copy_from_slice(&record);
 }

@@ -1,12 +1,15 @@
 -- Laws about the records of nodes: the words of each in the table of nodes, and the records from a node on.
-use Rattle.std.specs.Prelude.{◌≡◌, List, [], ◌∷◌, ℕ, suc, ◌+◌, ◌-◌, ◌*◌, ◌≤◌, ◌<◌, drop}
-use Rattle.std.proofs.Common.{add-zero, arith, get_or-drop, drop-drop}
+use Rattle.std.specs.Prelude.{◌≡◌, List, [], ◌∷◌, ℕ, suc, ◌+◌, ◌-◌, ◌*◌, ◌≤◌, ◌<◌, length, take, drop}
+use borrow.Rule.Slice.PartMut.{put_mid}
+use mathlib.Core.List.{append_assoc}
+use Rattle.std.proofs.Common.{sym, add-zero, arith, get_or-drop, drop-drop}
 use Rattle.std.proofs.Math.Nat.{sub-zero}
 use Rattle.definitions.specs.declared.Header.{Header}
 use Rattle.definitions.specs.Lists.{◌!◌, records}
 use Rattle.definitions.specs.BookReading.{node_size}
 use Rattle.definitions.specs.Tables.{node_of, node_records}
 use Rattle.definitions.proofs.Laws.Books.Tables.{node-of-first}
+use Rattle.lines.specs.Putting.{put_at}
 use Rattle.tables.specs.Usable.{records_from}
 
 -- five words from a place on are a record
@@ -35,3 +38,9 @@ records-next nodes at words h =
 pub records-end : (nodes at : ℕ) (words : List ℕ) → nodes ≤ at → records_from nodes at words ≡ []
 unfolding records
 records-end nodes at words h = let left : nodes - at ≡ 0 = omega arith in rw left
+
+-- words copied into the middle of a table are put there
+pub mid-put : (at count : ℕ) (words table : List ℕ) → count ≡ length words
+    → put_mid at count table words ≡ put_at at words table
+unfolding put_at
+mid-put at count words table e = rw (e, drop-drop (length words) at table) (sym (append_assoc (take at table) words (drop (at + length words) table)))

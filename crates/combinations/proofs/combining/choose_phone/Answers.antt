@@ -15,28 +15,28 @@ use Rattle.combinations.proofs.combining.choose_phone.Goals.{After-around}
 
 top-is : (c : goal.After-around)
     → c.around.result.columns
-    ≡ matrix_words (root_matrix (book_with c.args.header c.args.nodes.now c.args.classes.now c.args.roots.now).half
-    (book_with c.args.header c.args.nodes.now c.args.classes.now c.args.roots.now).phones c.args.phone)
+    ≡ matrix_words (root_matrix (book_with c.args.trees.header c.args.trees.nodes.now c.args.trees.classes.now c.args.trees.roots.now).half
+    (book_with c.args.trees.header c.args.trees.nodes.now c.args.trees.classes.now c.args.trees.roots.now).phones c.args.phone)
 unfolding book_with
 top-is c =
-    let r = c.requires.0.ranges in
-    root-shaped _ _ _ r.half_range.high r.phones_range.high c.requires.1.high
+    let r = c.args.trees.fit.ranges in
+    root-shaped _ _ _ r.half_range.high r.phones_range.high c.requires.0.high
     c.all_phones-all.ensures c.alone.ensures c.around.ensures
 
 pub list_leaves-b-requires : goal.list_leaves-b-requires
 list_leaves-b-requires c =
     let p = c.requires in
     let left = c.list_leaves-a.ensures in
-    let unused = still-unused p.2.unused left.table_sized left.none in
-    (p.0, p.1, omega arith, unused, omega (arith, left.table_sized, p.2.second_long))
+    let unused = still-unused p.1.unused left.table_sized left.none in
+    (p.0, omega arith, unused, omega (arith, left.table_sized, p.1.second_long))
 
 pub list_leaves-c-requires : goal.list_leaves-c-requires
 list_leaves-c-requires c =
     let p = c.requires in
     let left = c.list_leaves-b.ensures in
     let sized = left.table_sized ∙ c.list_leaves-a.ensures.table_sized in
-    let unused = still-unused p.2.unused sized left.none in
-    (p.0, p.1, omega arith, unused, omega (arith, sized, p.2.third_long))
+    let unused = still-unused p.1.unused sized left.none in
+    (p.0, omega arith, unused, omega (arith, sized, p.1.third_long))
 
 pub overflow_mul-a : goal.overflow_mul-a
 overflow_mul-a c =
@@ -69,20 +69,20 @@ unfolding book_with
 choose-requires c =
     let a = c.args in
     let p = c.requires in
-    let r = p.0.ranges in
-    let b : Book = book_with a.header a.nodes.now a.classes.now a.roots.now in
-    let width : width_of a.header.half ≡ width_of b.half = refl in
+    let r = a.trees.fit.ranges in
+    let b : Book = book_with a.trees.header a.trees.nodes.now a.trees.classes.now a.trees.roots.now in
+    let width : width_of a.trees.header.half ≡ width_of b.half = refl in
     let narrow = r.half_range.high in (
       record {
         chosen =
             start-chosen b a.phone _ width narrow _ (top-is (goal.at.choose-requires c).After-around)
-            p.1.low p.1.high;
+            p.0.low p.0.high;
         few = omega (arith, r.states_range.high);
         first_is = list-is b a.phone _ width narrow 1 c.list_leaves-a.ensures.holds;
         second_is = list-is b a.phone _ width narrow 2 c.list_leaves-b.ensures.holds;
         third_is = list-is b a.phone _ width narrow 3 c.list_leaves-c.ensures.holds;
       },
-      p.3,
+      p.2,
     )
 
 pub shape_of-table : goal.shape_of-table
@@ -94,9 +94,9 @@ pub returns : goal.returns
 unfolding book_with
 returns c =
     let a = c.args in
-    let r = c.requires.0.ranges in
-    let b : Book = book_with a.header a.nodes.now a.classes.now a.roots.now in
-    let width : width_of a.header.half ≡ width_of b.half = refl in
+    let r = c.args.trees.fit.ranges in
+    let b : Book = book_with a.trees.header a.trees.nodes.now a.trees.classes.now a.trees.roots.now in
+    let width : width_of a.trees.header.half ≡ width_of b.half = refl in
     let first = c.list_leaves-a.ensures in
     let second = c.list_leaves-b.ensures in
     let third = c.list_leaves-c.ensures in
@@ -106,5 +106,5 @@ returns c =
     record {
       space = rw (← all) c.choose.ensures;
       lists =
-          worked c.requires.2 third.none table first.list_sized second.list_sized third.list_sized;
+          worked c.requires.1 third.none table first.list_sized second.list_sized third.list_sized;
     }

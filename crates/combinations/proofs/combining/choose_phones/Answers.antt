@@ -14,23 +14,23 @@ use Rattle.combinations.specs.Laws.Working.{worked-none, worked-more}
 use Rattle.combinations.proofs.combining.choose_phones.Goals as goal
 use Rattle.combinations.proofs.combining.choose_phones.Goals.{At-loop-phone, In-loop-phone, Start}
 
-ranges : (c : goal.Start) → InRange c.args.header
-ranges c = c.requires.0.ranges
+ranges : (c : goal.Start) → InRange c.args.trees.header
+ranges c = c.args.trees.fit.ranges
 
 ends_sized : (c : goal.At-loop-phone) → length c.loop-phone.ends ≡ length c.args.ends.now
-ends_sized c = noted-length c.loop-phone.invariant.0 ∙ sym (ap length c.requires.1.ends_clear)
+ends_sized c = noted-length c.loop-phone.invariant.0 ∙ sym (ap length c.requires.0.ends_clear)
 
 -- a phone of the book
 within : (c : goal.In-loop-phone)
-    → c.loop-phone.phone ≤ (book_with c.args.header c.args.nodes.now c.args.classes.now c.args.roots.now).phones
+    → c.loop-phone.phone ≤ (book_with c.args.trees.header c.args.trees.nodes.now c.args.trees.classes.now c.args.trees.roots.now).phones
 unfolding book_with
 within c = omega (arith, c.loop-phone-test.true)
 
 pub loop-phone-init : goal.loop-phone-init
 unfolding book_with
 loop-phone-init c =
-    let (fit, clear, working) = c.requires in
-    let r = fit.ranges in (
+    let (clear, working) = c.requires in
+    let r = c.args.trees.fit.ranges in (
       added-start (record {
         none = holding-none _ _ clear.space_clear;
         narrow = r.half_range.high;
@@ -44,8 +44,7 @@ pub choose_phone-requires : goal.choose_phone-requires
 unfolding book_with
 choose_phone-requires c =
     let (added, worked) = c.loop-phone.invariant in
-    let fit = c.requires.0 in
-    (fit, record { low = added.low; high = omega (arith, c.loop-phone-test.true) }, worked.working, added-holding added)
+    (record { low = added.low; high = omega (arith, c.loop-phone-test.true) }, worked.working, added-holding added)
 
 pub shape_of-ends-in_err-count : goal.shape_of-ends-in_err-count
 shape_of-ends-in_err-count c = ends_sized (goal.at.shape_of-ends-in_err-count c).At-loop-phone

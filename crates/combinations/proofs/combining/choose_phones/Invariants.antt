@@ -7,6 +7,6 @@ use Rattle.combinations.proofs.combining.choose_phones.Given as goal
 
 abbrev pub invariant-loop-phone : goal.invariant-loop-phone
 invariant-loop-phone l =
-    PhonesAdded (book_with l.header l.nodes l.classes l.roots) l.initial.space l.phone l.space l.ends l.count
-    × Worked l.header.nodes l.initial.table l.initial.first l.initial.second l.initial.third
+    PhonesAdded (book_with l.trees.header l.trees.nodes.now l.trees.classes.now l.trees.roots.now) l.initial.space l.phone l.space l.ends l.count
+    × Worked l.trees.header.nodes l.initial.table l.initial.first l.initial.second l.initial.third
     l.table l.first l.second l.third

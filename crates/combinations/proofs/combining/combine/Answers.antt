@@ -34,11 +34,15 @@ returns-then-not-tables_known c =
 pub roots_in_force-requires : goal.roots_in_force-requires
 roots_in_force-requires c = known-forceable _ _ _ _ _ (holds (goal.at.roots_in_force-requires c).Else-not-tables_known)
 
+pub invariant_of-trees : goal.invariant_of-trees
+invariant_of-trees c =
+    record {
+      fit = tables-fit _ _ _ _ _ (holds (goal.at.invariant_of-trees c).Else-not-tables_known) _
+          c.roots_in_force.ensures;
+    }
+
 pub choose_all-requires : goal.choose_all-requires
-choose_all-requires c = (
-  tables-fit _ _ _ _ _ (holds (goal.at.choose_all-requires c).Else-not-tables_known) _ c.roots_in_force.ensures,
-  record { space_clear = search rules; ends_clear = refl },
-)
+choose_all-requires c = record { space_clear = search rules; ends_clear = refl }
 
 pub returns-in-Ok : goal.returns-in-Ok
 returns-in-Ok c =

@@ -1,19 +1,18 @@
--- `known::root_table_known` meets its contract. The header's ranges keep the number of roots small.
+-- `known::root_table_known` meets its contract. A product of 32-bit numbers is a number of 64 bits.
 use mathlib.Core.Path.{sym, ◌∙◌}
-use native.Mathlib.Omega.{arith}
+use Prim.Native.Nat.{◌<◌}
 use Rattle.std.proofs.Common.{rules}
 use Rattle.definitions.specs.BookLines.{root_count}
 use Rattle.definitions.specs.ForeignTables.{root_table_known, holds_only}
-use Rattle.definitions.proofs.Laws.Books.Books.{roots_few}
-use Rattle.definitions.proofs.Laws.Books.AcceptedKnown.{header-ranges}
+use Rattle.definitions.proofs.Laws.Lists.Products.{product-fits}
 use Rattle.tables.specs.Laws.TableTests.{holds-taken, root-count}
 use Rattle.tables.proofs.known.root_table_known.Goals as goal
 
 pub overflow_mul-roots : goal.overflow_mul-roots
 overflow_mul-roots c =
-    let count = root-count c.args.header c.wide.ensures c.wide-2.ensures in
-    let few = roots_few c.args.header (header-ranges c.args.header c.requires) in
-    record { fits = omega (arith, count, few) }
+    let phones : c.wide.result < 4294967296 = search rules in
+    let states : c.wide-2.result < 4294967296 = search rules in
+    record { fits = product-fits phones states }
 
 pub roots_known-requires : goal.roots_known-requires
 unfolding holds_only
