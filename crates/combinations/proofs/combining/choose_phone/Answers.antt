@@ -15,8 +15,8 @@ use Rattle.combinations.proofs.combining.choose_phone.Goals.{After-around}
 
 top-is : (c : goal.After-around)
     → c.around.result.columns
-    ≡ matrix_words (root_matrix (book_with c.args.header c.args.nodes.now c.args.classes.now c.args.roots.now).half
-    (book_with c.args.header c.args.nodes.now c.args.classes.now c.args.roots.now).phones c.args.phone)
+    ≡ matrix_words (root_matrix (book_with c.args.trees.header c.args.trees.nodes.now c.args.trees.classes.now c.args.trees.roots.now).half
+    (book_with c.args.trees.header c.args.trees.nodes.now c.args.trees.classes.now c.args.trees.roots.now).phones c.args.phone)
 unfolding book_with
 top-is c =
     let r = c.requires.0.ranges in
@@ -70,8 +70,8 @@ choose-requires c =
     let a = c.args in
     let p = c.requires in
     let r = p.0.ranges in
-    let b : Book = book_with a.header a.nodes.now a.classes.now a.roots.now in
-    let width : width_of a.header.half ≡ width_of b.half = refl in
+    let b : Book = book_with a.trees.header a.trees.nodes.now a.trees.classes.now a.trees.roots.now in
+    let width : width_of a.trees.header.half ≡ width_of b.half = refl in
     let narrow = r.half_range.high in (
       record {
         chosen =
@@ -95,8 +95,8 @@ unfolding book_with
 returns c =
     let a = c.args in
     let r = c.requires.0.ranges in
-    let b : Book = book_with a.header a.nodes.now a.classes.now a.roots.now in
-    let width : width_of a.header.half ≡ width_of b.half = refl in
+    let b : Book = book_with a.trees.header a.trees.nodes.now a.trees.classes.now a.trees.roots.now in
+    let width : width_of a.trees.header.half ≡ width_of b.half = refl in
     let first = c.list_leaves-a.ensures in
     let second = c.list_leaves-b.ensures in
     let third = c.list_leaves-c.ensures in
