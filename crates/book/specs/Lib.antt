@@ -1,4 +1,5 @@
 -- What the reader stores and answers, and the laws about it.
+pub mod Tables
 pub mod Storing
 pub mod Steps
 pub mod Taking

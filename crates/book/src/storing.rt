@@ -5,10 +5,11 @@ ghost use Rattle.definitions.specs.Lists.{◌!◌};
 ghost use Rattle.definitions.specs.PhoneSets.{alone};
 ghost use Rattle.definitions.specs.BookLines.{root_count, no_root};
 ghost use Rattle.lines.specs.Putting.{put_at};
-ghost use Rattle.tables.specs.Lending.{lengths_of};
+ghost use Rattle.book.specs.Tables.{lengths_in, SameLent};
 ghost use Rattle.booklines.specs.Entries.{entry_line};
 ghost use Rattle.book.specs.Storing.{HasRoom, nodes_after, classes_after, roots_after, plains_after, counts_after};
 
+use crate::Tables;
 use booklines::{Entry, Member};
 use definitions::{Header, NO_ROOT, wide};
 use lines::counting::{from_zero, root_place};
@@ -34,43 +35,38 @@ fn put_no_roots(roots: &mut [u32], header: Header)
     roots[..end].fill(NO_ROOT);
 }
 
-// One line more in the tables and counts, where there are so many states.
-#[tactic(auto, unfolding(booklines::specs::Entries::entry_line, crate::specs::Storing::nodes_after, crate::specs::Storing::classes_after, crate::specs::Storing::roots_after, crate::specs::Storing::plains_after, crate::specs::Storing::counts_after, crate::specs::Storing::names_in, tables::specs::Naming::named_all, definitions::specs::BookLines::header_in))]
-pub fn store(
-    states: u32,
-    entry: Entry,
-    nodes: &mut [u32],
-    classes: &mut [u64],
-    roots: &mut [u32],
-    plains: &mut [u32],
-    counts: &mut [u32],
-)
-    requires { HasRoom states (lengths_of nodes.old classes.old roots.old plains.old) (entry_line entry) }
-    ensures nodes { nodes.new ≡ nodes_after (entry_line entry) nodes.old }
-    ensures classes { classes.new ≡ classes_after (entry_line entry) classes.old }
-    ensures roots { roots.new ≡ roots_after states (entry_line entry) roots.old }
-    ensures plains { plains.new ≡ plains_after (entry_line entry) plains.old }
-    ensures counts { counts.new ≡ counts_after (entry_line entry) counts.old }
-{
-    match entry {
-        Entry::H(header) => put_no_roots(roots, header),
-        Entry::Q(member) => put_member(classes, member),
-        Entry::N {
-            node,
-            class,
-            position,
-            yes,
-            no,
-        } => {
-            put_node(nodes, node, question_node(class, position, yes, no));
-            name_node(counts, yes);
-            name_node(counts, no);
-        }
-        Entry::L { node, model } => put_node(nodes, node, leaf_node(model)),
-        Entry::B { boundary, plain } => plains[from_zero(boundary)] = plain,
-        Entry::R { phone, state, root } => {
-            roots[root_place(states, phone, state)] = root;
-            name_node(counts, root);
+impl Tables<'_> {
+    // One line more in the tables and counts, where there are so many states.
+    #[tactic(auto, unfolding(booklines::specs::Entries::entry_line, crate::specs::Storing::nodes_after, crate::specs::Storing::classes_after, crate::specs::Storing::roots_after, crate::specs::Storing::plains_after, crate::specs::Storing::counts_after, crate::specs::Storing::names_in, tables::specs::Naming::named_all, definitions::specs::BookLines::header_in))]
+    pub fn store(&mut self, states: u32, entry: Entry, counts: &mut [u32])
+        requires { HasRoom states (lengths_in self.old) (entry_line entry) }
+        ensures same { SameLent self.new self.old }
+        ensures nodes { self.new.nodes.now ≡ nodes_after (entry_line entry) self.old.nodes.now }
+        ensures classes { self.new.classes.now ≡ classes_after (entry_line entry) self.old.classes.now }
+        ensures roots { self.new.roots.now ≡ roots_after states (entry_line entry) self.old.roots.now }
+        ensures plains { self.new.plains.now ≡ plains_after (entry_line entry) self.old.plains.now }
+        ensures counts { counts.new ≡ counts_after (entry_line entry) counts.old }
+    {
+        match entry {
+            Entry::H(header) => put_no_roots(self.roots, header),
+            Entry::Q(member) => put_member(self.classes, member),
+            Entry::N {
+                node,
+                class,
+                position,
+                yes,
+                no,
+            } => {
+                put_node(self.nodes, node, question_node(class, position, yes, no));
+                name_node(counts, yes);
+                name_node(counts, no);
+            }
+            Entry::L { node, model } => put_node(self.nodes, node, leaf_node(model)),
+            Entry::B { boundary, plain } => self.plains[from_zero(boundary)] = plain,
+            Entry::R { phone, state, root } => {
+                self.roots[root_place(states, phone, state)] = root;
+                name_node(counts, root);
+            }
         }
     }
 }

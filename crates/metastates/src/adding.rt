@@ -46,11 +46,13 @@ fn arc_into(rules: Rules, from: u32, number: usize, place: usize) -> Arc
 {
     let header = rules.header;
     let to = 2 + place * wide(header.states);
+    let model = model_of(header.half, rules.nodes, rules.combinations, number, 0);
+    let phone = phone_of(header.half, rules.combinations, number);
     Arc {
         from,
         to: to as u32,
-        model: model_of(header.half, rules.nodes, rules.combinations, number, 0),
-        phone: phone_of(header.half, rules.combinations, number),
+        model,
+        phone,
     }
 }
 

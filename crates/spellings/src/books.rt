@@ -1,111 +1,103 @@
-// One book: its plain form, and whether that is another book's.
-use crate::spelled::{show_again, show_foreign, show_models, show_short};
-use book::Reading;
+// A book in the program's tables: read, written, and put to use.
+use crate::Book;
 use book::reader::read;
-use definitions::Header;
+use definitions::{NO_ROOT, Refusal};
 use plainform::writer::write;
-use showing::comparing::{same_bytes, used_bytes};
-use showing::printing::{print, print_number, print_refusal};
+use showing::printing::print_numbers;
+use showing::using::used;
 use std::io;
-use writing::Written;
+use transcripts::transcription::transcribe;
 
-// Whether a title begins with '+': then the books after it are compared with its book.
-fn is_other(title: &[u8]) -> bool {
-    if title.len() == 0 {
-        return false;
+impl Book {
+    // Reads a book into tables where something stood before.
+    pub fn read(text: &[u8]) -> Result<Book, Refusal> {
+        let mut nodes = [7u32; 62];
+        let mut classes = [7u64; 9];
+        let mut roots = [7u32; 7];
+        let mut plains = [7u32; 5];
+        let header = read(text, &mut nodes, &mut classes, &mut roots, &mut plains)?;
+        Ok(Book {
+            header,
+            nodes,
+            classes,
+            roots,
+            plains,
+        })
     }
-    title[0] == b'+'
-}
 
-// Says whether the plain form is the other book's.
-fn compare(rt: &impl Print, text: &[u8], other: &[u8]) -> io::Result<()> {
-    if same_bytes(text, other) {
-        return print(rt, b"  the same book\n");
+    // Writes its plain form; answers how many bytes that has.
+    pub fn write(&self, text: &mut [u8]) -> Result<usize, Refusal> {
+        write(
+            self.header,
+            &self.nodes,
+            &self.classes,
+            &self.roots,
+            &self.plains,
+            text,
+        )
     }
-    print(rt, b"  another book\n")
-}
 
-// How many bytes are written, and what follows them.
-fn print_size(rt: &impl Print, count: usize, text: &[u8]) -> io::Result<()> {
-    print(rt, b"  bytes")?;
-    print_number(rt, count as u64)?;
-    print(rt, b", then 0 to the end:")?;
-    print_number(rt, (text.len() - used_bytes(text)) as u64)?;
-    print(rt, b"\n")
-}
-
-// The plain form, in a buffer where something stood before.
-fn show_plain(
-    rt: &impl Print,
-    header: Header,
-    nodes: &[u32],
-    classes: &[u64],
-    roots: &[u32],
-    plains: &[u32],
-    other: &[u8],
-) -> io::Result<()> {
-    let mut text = [7u8; 512];
-    match write(header, nodes, classes, roots, plains, &mut text) {
-        Written::Bytes(count) => {
-            if count <= 512 {
-                print(rt, &text[0..count])?;
-                print_size(rt, count, &text)?;
-                compare(rt, &text, other)?;
-                show_models(rt, header, nodes, classes, roots, plains)?;
-                show_again(rt, &text[0..count])?;
-                show_short(rt, header, nodes, classes, roots, plains, count)?;
+    // The models of four phones, in a buffer for so many of three states.
+    pub fn show_models(&self, rt: &impl Print) -> io::Result<()> {
+        let sequence = [1u32, 2, self.header.phones.max(2), 1];
+        let mut models = [7u32; 12];
+        print!(rt; "  models of")?;
+        print_numbers(rt, &sequence)?;
+        print!(rt; ":")?;
+        match transcribe(
+            self.header,
+            &self.nodes,
+            &self.classes,
+            &self.roots,
+            &self.plains,
+            &sequence,
+            &mut models,
+        ) {
+            Ok(tally) => {
+                if let Some(models) = models.get(..tally.models) {
+                    print_numbers(rt, models)?;
+                    print!(rt; " after {} questions", tally.questions)?;
+                }
             }
-            Ok(())
+            Err(refusal) => print!(rt; " {refusal}")?,
         }
-        Written::Refused(refusal) => print_refusal(rt, refusal),
+        println!(rt)
     }
-}
 
-// The book that others are compared with: its plain form is the other one.
-fn show_other(
-    rt: &impl Print,
-    header: Header,
-    nodes: &[u32],
-    classes: &mut [u64],
-    roots: &mut [u32],
-    plains: &mut [u32],
-    other: &mut [u8],
-) -> io::Result<()> {
-    write(header, nodes, classes, roots, plains, other);
-    show_plain(rt, header, nodes, classes, roots, plains, other)?;
-    show_foreign(rt, header, nodes, classes, roots, plains)
-}
+    // What writing into a buffer answers that is too short.
+    pub fn show_refused(&self, rt: &impl Print, what: &str, text: &mut [u8]) -> io::Result<()> {
+        print!(rt; "  {what}:")?;
+        match self.write(text) {
+            Ok(count) => print!(rt; " {count}")?,
+            Err(refusal) => print!(rt; " {refusal}")?,
+        }
+        if used(text) == 0 {
+            print!(rt; ", text cleared")?;
+        }
+        println!(rt)
+    }
 
-// Reads a book into tables for twelve nodes and two words, nine classes, seven roots and five phones, where something
-// stood before.
-pub fn show_book(rt: &impl Print, title: &[u8], text: &[u8], other: &mut [u8]) -> io::Result<()> {
-    let mut nodes = [7u32; 62];
-    let mut classes = [7u64; 9];
-    let mut roots = [7u32; 7];
-    let mut plains = [7u32; 5];
-    print(rt, b"=")?;
-    print(rt, title)?;
-    print(rt, b":")?;
-    match read(text, &mut nodes, &mut classes, &mut roots, &mut plains) {
-        Reading::Accepted(header) => {
-            print(rt, b" accepted\n")?;
-            if is_other(title) {
-                show_other(
-                    rt,
-                    header,
-                    &nodes,
-                    &mut classes,
-                    &mut roots,
-                    &mut plains,
-                    other,
-                )
-            } else {
-                show_plain(rt, header, &nodes, &classes, &roots, &plains, other)
-            }
-        }
-        Reading::Refused(refusal) => {
-            print_refusal(rt, refusal)?;
-            print(rt, b"\n")
-        }
+    // Too short a buffer for any book: 18 comes before 33.
+    fn show_foreign_case(&self, rt: &impl Print, what: &str) -> io::Result<()> {
+        self.show_refused(rt, what, &mut [7u8; 31])
+    }
+
+    // The book with one number of the header or one word changed: the ninth class, the second root, the plain phone of
+    // silence.
+    pub fn show_foreign(self, rt: &impl Print) -> io::Result<()> {
+        let mut changed = self;
+        changed.header.half = 4;
+        changed.show_foreign_case(rt, "half-width 4")?;
+        changed = self;
+        changed.classes[8] = 1;
+        changed.show_foreign_case(rt, "a ninth class")?;
+        changed = self;
+        changed.roots[1] = 0;
+        changed.show_foreign_case(rt, "the second root 0")?;
+        changed.roots[1] = NO_ROOT;
+        changed.show_foreign_case(rt, "no second root")?;
+        changed = self;
+        changed.plains[0] = 1;
+        changed.show_foreign_case(rt, "a plain phone of silence")
     }
 }

@@ -6,24 +6,35 @@
 mod books;
 mod spelled;
 
-use books::show_book;
+use definitions::Header;
 use showing::reading::{INPUT_SIZE, read_full};
-use showing::titles::{end_of, text_of, title_of};
+use showing::titles::{Texts, Titled};
+use spelled::show_book;
 use std::io;
 
-fn show_all(rt: &impl Print, text: &[u8]) -> io::Result<()> {
-    let mut other = [0u8; 512];
-    let mut at = 1;
-    while at < text.len() {
-        let rest = &text[at..];
-        show_book(rt, title_of(rest), text_of(rest), &mut other)?;
-        at += end_of(rest) + 1;
+// How many bytes there are for a plain form.
+const TEXT_SIZE: usize = 512;
+
+// A book that was read, in tables for twelve nodes and two words, nine classes, seven roots and five phones.
+#[derive(Clone, Copy)]
+struct Book {
+    header: Header,
+    nodes: [u32; 62],
+    classes: [u64; 9],
+    roots: [u32; 7],
+    plains: [u32; 5],
+}
+
+fn show_all(rt: &impl Print, input: &[u8]) -> io::Result<()> {
+    let mut other = [0u8; TEXT_SIZE];
+    for Titled { title, text } in Texts(input.get(1..).unwrap_or(&[])) {
+        show_book(rt, title, text, &mut other)?;
     }
     Ok(())
 }
 
 fn main(rt: HostRuntime) -> io::Result<()> {
-    let mut text = [0u8; INPUT_SIZE];
-    let got = read_full(&mut rt.stdin(), &mut text)?;
-    show_all(&rt, &text[..got])
+    let mut input = [0u8; INPUT_SIZE];
+    let got = read_full(&mut rt.stdin(), &mut input)?;
+    show_all(&rt, &input[..got])
 }

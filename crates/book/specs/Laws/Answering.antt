@@ -8,7 +8,7 @@ use Rattle.definitions.specs.Faults.{Outcome, answered, refused}
 use Rattle.definitions.specs.BookLines.{BookLine, header_of}
 use Rattle.definitions.specs.BookReading.{Lent, read_book}
 use Rattle.definitions.specs.Said.{result_of}
-use Rattle.definitions.specs.Tables.{no_tables, tables_left}
+use Rattle.definitions.specs.Tables.{Tables, no_tables, tables_left}
 use Rattle.tables.specs.Lending.{lengths_of, lent_tables}
 use Rattle.book.specs.Taking.{Cleared, ClearedFrom, Read}
 use Rattle.definitions.proofs.Laws.Lists.Lists.{clear-length, clear-itself}
@@ -77,3 +77,8 @@ module _ {nodes classes roots plains nodes₁ classes₁ roots₁ plains₁ : Li
         by (refused refusal) e =
             rw (d.nodes_clear, d.classes_clear, d.roots_clear, d.plains_clear)
             (ap no_tables (r.lengths ∙ clear-lengths c) ∙ sym (ap (tables_left (lengths_of nodes classes roots plains)) e))
+
+-- what the lent tables hold, by what each slice of them holds
+pub lent-same : {n n' c c' r r' p p' : List ℕ} {left : Tables} → lent_tables n' c' r' p' ≡ left → n ≡ n' → c ≡ c'
+    → r ≡ r' → p ≡ p' → lent_tables n c r p ≡ left
+lent-same e n c r p = rw (n, c, r, p) e

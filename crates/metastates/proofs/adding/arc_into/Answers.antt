@@ -13,18 +13,18 @@ overflow_cast-result c =
     (omega (arith, placed.few)) in
     record { fits = omega (arith, states) }
 
-pub model_of-requires : goal.model_of-requires
-model_of-requires c =
+pub model_of-model-requires : goal.model_of-model-requires
+model_of-model-requires c =
     let a = c.args in
     let placed = c.requires in
     has-leaf a.rules.header a.rules.combinations.now placed.connectable.usable a.number placed.listed
     a.rules.nodes.now placed.connectable.modelled 0 (first-state placed)
 
-pub phone_of-requires : goal.phone_of-requires
-phone_of-requires c =
+pub phone_of-phone-requires : goal.phone_of-phone-requires
+phone_of-phone-requires c =
     let a = c.args in
     let placed = c.requires in
     has-phone a.rules.header a.rules.combinations.now placed.connectable.usable a.number placed.listed
 
 pub returns : goal.returns
-returns c = into-arc c.requires c.args.from c.wide.ensures c.model_of.ensures c.phone_of.ensures
+returns c = into-arc c.requires c.args.from c.wide.ensures c.model_of-model.ensures c.phone_of-phone.ensures

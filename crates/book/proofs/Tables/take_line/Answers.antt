@@ -1,7 +1,7 @@
--- `taking::take_line` meets its contract, by what becomes of the line.
+-- `Tables::take_line` meets its contract, by what becomes of the line.
 use Rattle.std.proofs.Common.{◌≡◌, sym, ap, ◌∙◌, rules, Ok, Err}
 use Rattle.definitions.specs.declared.Fault.TheVariants.{Misprint}
-use Rattle.tables.specs.Lending.{lengths_of}
+use Rattle.book.specs.Tables.{lengths_in}
 use Rattle.booklines.specs.States.{next_state}
 use Rattle.booklines.specs.Entries.{entry_line}
 use Rattle.book.specs.Steps.{book_taken, verdict_in, step_of, where_taken}
@@ -9,12 +9,13 @@ use Rattle.lines.specs.Laws.Rows.{none-parsed, some-parsed, whole_row}
 use Rattle.lines.specs.Laws.Judging.{verdict-full, verdict-misprint, verdict-line}
 use Rattle.book.specs.Laws.Finding.{row-taken}
 use Rattle.book.specs.Laws.Taking.{step-failed, step-passed}
-use Rattle.book.proofs.taking.take_line.Goals as goal
-use Rattle.book.proofs.taking.take_line.Goals.{After-judge}
+use Rattle.book.proofs.Tables.take_line.Goals as goal
+use Rattle.book.proofs.Tables.take_line.Goals.{After-judge}
 
 -- the verdict on the line is what its tests gave
 verdict : (c : goal.After-judge) → let a = c.args in
-    verdict_in (lengths_of a.nodes.now a.classes.now a.roots.now a.plains.now) a.s a.bytes.now ≡ c.judge.result
+    let t = c.args.self.now in
+    verdict_in (lengths_in t) a.s a.bytes.now ≡ c.judge.result
 verdict c =
     verdict-line _ _ _ (sym c.if-full.ensures) (some-parsed _ (sym c.in_ok-row.ensures.ok_part ∙ c.parse.ensures))
     ∙ rw (← c.of-entry.ensures) (sym c.judge.ensures)
@@ -24,7 +25,8 @@ said : (c : goal.After-judge) → entry_line c.of-entry.result ≡ book_taken c.
 said c = c.of-entry.ensures ∙ sym (row-taken _ (sym c.in_ok-row.ensures.ok_part ∙ c.parse.ensures))
 
 taken : (c : goal.After-judge) → c.judge.result ≡ Ok tt → let a = c.args in
-    step_of (lengths_of a.nodes.now a.classes.now a.roots.now a.plains.now) a.s a.bytes.now
+    let t = c.args.self.now in
+    step_of (lengths_in t) a.s a.bytes.now
     ≡ Ok (next_state a.s (book_taken a.bytes.now))
 taken c passed = sym (step-passed _ _ _ (verdict c ∙ passed))
 
@@ -61,6 +63,7 @@ returns c =
     let at = (goal.at.returns c).After-judge in
     let stored = c.store.ensures in
     rw (← said at) (record {
+      same = stored.same;
       step = ap (λ (s : _). Ok s) c.next.ensures ∙ rw (said at) (sym (taken at c.in_ok-judge.was));
       nodes = stored.nodes;
       classes = stored.classes;
