@@ -28,7 +28,7 @@ unfoldable pub step_of : (lent : ℕ) → State → (bytes : List ℕ) → Resul
 step_of lent s bytes = step_after (verdict_in lent s bytes) s (line_taken (network_kind lent) bytes)
 
 -- the lent arcs after a line of these bytes, where this became of it
-unfoldable pub arcs_taken : (lent arcs : ℕ) → Result State Fault → (bytes table : List ℕ) → List ℕ
+abbrev pub arcs_taken : (lent arcs : ℕ) → Result State Fault → (bytes table : List ℕ) → List ℕ
 arcs_taken lent arcs (Ok s) bytes table = arcs_after arcs (line_taken (network_kind lent) bytes) table
 arcs_taken lent arcs (Err fault) bytes table = table
 

@@ -5,7 +5,7 @@ ghost use Rattle.definitions.specs.PlainForm.{sets_in};
 ghost use Rattle.plainform.specs.Collecting.{Collected};
 ghost use Rattle.plainform.specs.LentTrees.{tree_in, uses_in, Listed};
 
-use crate::trees::Trees;
+use crate::trees::LentTrees;
 use definitions::NO_ROOT;
 use tables::classes::set_of;
 use tables::records::node_at;
@@ -23,7 +23,7 @@ fn note_set(classes: &[u64], class: u32, sets: &mut [u64], used: usize) -> usize
     used + 1
 }
 
-impl<'t> Trees<'t> {
+impl<'t> LentTrees<'t> {
     // Notes the sets that the tree at a node asks for. Children are greater than their node, so the node count minus
     // the node falls at each call.
     fn collect(self, node: u32, sets: &mut [u64], used: usize) -> usize

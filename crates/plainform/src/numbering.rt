@@ -6,7 +6,7 @@ ghost use Rattle.plainform.specs.LentTrees.{tree_in, trees_in, there_in, Listed}
 ghost use Rattle.plainform.specs.Numbering.{all_words, start_of, Numberable, Numbered, NumberedTrees};
 
 use crate::sets::class_among;
-use crate::trees::Trees;
+use crate::trees::LentTrees;
 use definitions::NO_ROOT;
 use tables::records::{leaf_node, node_at, put_node, question_node};
 
@@ -17,7 +17,7 @@ fn start_of(root: u32, at: u32) -> u32
     if root == NO_ROOT { NO_ROOT } else { at }
 }
 
-impl<'t> Trees<'t> {
+impl<'t> LentTrees<'t> {
     // Puts the records of the tree at a node into a table, its root as number `at`, where the classes have these sets.
     // Answers the number after the last. Children are greater than their node, so the node count minus the node falls
     // at each call.

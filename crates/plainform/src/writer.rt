@@ -9,7 +9,7 @@ ghost use Rattle.definitions.specs.Tables.{tables_contents};
 ghost use Rattle.tables.specs.Lending.{lent_tables};
 ghost use Rattle.booktext.specs.Putting.{Put};
 
-use crate::trees::Trees;
+use crate::trees::LentTrees;
 use booktext::printing::put_book;
 use definitions::{Fault, Header, MOST_NODES, NODE_SIZE, Refusal, wide};
 use tables::foreign::tables_known;
@@ -39,7 +39,7 @@ fn put_plain(
     let kept = &classes[..held];
     let given = &roots[..many];
     let mut sets = [0u64; MOST_NODES];
-    let trees = Trees {
+    let trees = LentTrees {
         header,
         nodes,
         classes: kept,

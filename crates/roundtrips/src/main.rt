@@ -6,22 +6,22 @@ mod texts;
 mod written;
 
 use showing::reading::{INPUT_SIZE, read_full};
-use showing::titles::{end_of, text_of, title_of};
+use showing::titles::{Texts, Titled};
 use std::io;
 use texts::show_text;
 
-fn show_all(rt: &impl Print, text: &[u8]) -> io::Result<()> {
-    let mut at = 1;
-    while at < text.len() {
-        let rest = &text[at..];
-        show_text(rt, title_of(rest), text_of(rest))?;
-        at += end_of(rest) + 1;
+// How many words there are for the arcs: for twelve of them, and two more.
+const ARC_WORDS: usize = 50;
+
+fn show_all(rt: &impl Print, input: &[u8]) -> io::Result<()> {
+    for Titled { title, text } in Texts(input.get(1..).unwrap_or(&[])) {
+        show_text(rt, title, text)?;
     }
     Ok(())
 }
 
 fn main(rt: HostRuntime) -> io::Result<()> {
-    let mut text = [0u8; INPUT_SIZE];
-    let got = read_full(&mut rt.stdin(), &mut text)?;
-    show_all(&rt, &text[..got])
+    let mut input = [0u8; INPUT_SIZE];
+    let got = read_full(&mut rt.stdin(), &mut input)?;
+    show_all(&rt, &input[..got])
 }

@@ -108,7 +108,7 @@ module _ {lent : ℕ} {text : List ℕ} {i : ℕ} {s : State} {arcs : List ℕ} 
       → bytes ≡ line_bytes text i → i < length text / 32
       → step ≡ step_of (length arcs) s bytes → step ≡ Ok next
       → arcs' ≡ arcs_taken (length arcs) s.arcs step bytes arcs → Turn lent text (i + 1) next arcs'
-  unfolding arcs_taken state_of
+  unfolding state_of
   turn-next bytes step next arcs' b l e k a =
       let line : NetworkLine = line_taken kind (line_bytes text i) in
       let more : before ++ (line ∷ []) ≡ lines_before kind text (i + 1) =
@@ -137,7 +137,7 @@ module _ {lent : ℕ} {text : List ℕ} {i : ℕ} {s : State} {arcs : List ℕ} 
       → arcs' ≡ arcs_taken (length arcs) s.arcs step bytes arcs
       → (Err (record { fault = fault; line = i + 1 }) ≡ result_of counts_of (read_network lent text))
       × Read lent text arcs'
-  unfolding arcs_taken read_network
+  unfolding read_network
   stop-returns bytes step fault arcs' b l e k a =
       let here = step-here bytes step (Err fault) b e k in
       let verdict = step-stop lent (state_of before) (line_bytes text i) fault here in

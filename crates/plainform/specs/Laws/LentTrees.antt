@@ -20,7 +20,7 @@ use Rattle.definitions.proofs.Spelling.TreeShapes.{tree-asks, tree-gives}
 use Rattle.tables.specs.Usable.{tree_nodes}
 use Rattle.tables.specs.Laws.KnownTables.{question-is, leaf-is, question-fits, known-forward}
 use Rattle.plainform.specs.LentTrees.{tree_in, KnownNode, Listed}
-use Rattle.plainform.specs.declared.trees.Trees.{Trees}
+use Rattle.plainform.specs.declared.trees.LentTrees.{LentTrees}
 
 -- ---- roots
 
@@ -73,7 +73,7 @@ module _ (tree : ℕ → Tree) where
 -- ---- a node
 
 -- a node of lent trees
-pub at-node : (trees : Trees) (node : ℕ) → node < trees.header.nodes → KnownNode trees.header trees.nodes.now node
+pub at-node : (trees : LentTrees) (node : ℕ) → node < trees.header.nodes → KnownNode trees.header trees.nodes.now node
 at-node trees node h = record { known = trees.known; listed = h }
 
 -- a node and its record

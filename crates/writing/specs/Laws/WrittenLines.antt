@@ -8,7 +8,7 @@ use Prim.Native.Nat.{ℕ, zero, suc, ◌+◌, ◌-◌, ◌*◌, ◌≤◌, ◌<�
 use Rattle.std.proofs.Math.ListN.{length, take, replicate}
 use Rattle.std.proofs.lemmas.List.{length-replicate, replicate-append-replicate, set_at}
 use Rattle.std.proofs.Math.Seq.{append_snoc}
-use borrow.Rule.Slice.PartMut.{put_mid, same_len_mid}
+use borrow.Rule.Slice.PartMut.{put_mid}
 use Rattle.definitions.specs.Lists.{every, concat_map}
 use Rattle.definitions.specs.Lines.{space, line_feed, field_text, line_text}
 use Rattle.definitions.proofs.Laws.Lists.Tests.{every-at}
@@ -142,7 +142,7 @@ part-put width i text d bytes part h e f =
 -- ---- a line
 
 -- what is lent for the five fields
-pub middle-length : (bytes : List ℕ) (v : ℕ) → 32 ≤ length bytes
+middle-length : (bytes : List ℕ) (v : ℕ) → 32 ≤ length bytes
     → length (take 30 (drop 1 (set bytes 0 v))) ≡ 30
 middle-length bytes v h =
     length-take-le 30 (drop 1 (set bytes 0 v)) (simp (length-drop, length-set) (omega arith))
@@ -155,15 +155,6 @@ feed-put part bytes k h =
     ∙ set_at part (get_or bytes 30 0) (drop 31 bytes) line_feed 30 k
     ∙ sym (append_snoc part line_feed (drop 31 bytes))
 
--- what was lent for them came back as long as it was
-module _ (bytes part : List ℕ) (v : ℕ) (room : 32 ≤ length bytes)
-    (lent : length part ≡ length (take 30 (drop 1 (set bytes 0 v)))) where
-  thirty : length part ≡ 30
-  thirty = lent ∙ middle-length bytes v room
-
-  pub put-length : length (put_mid 1 30 (set bytes 0 v) part) ≡ length bytes
-  put-length = same_len_mid 1 30 (set bytes 0 v) part lent ∙ length-set bytes 0 v
-
 -- the letter, the fields and the line feed are written
 pub line-put : (row : Row) (bytes part : List ℕ) → 32 ≤ length bytes
     → length part ≡ length (take 30 (drop 1 (set bytes 0 row.letter)))
@@ -173,5 +164,5 @@ unfolding written line_text line_in fields_text
 line-put row [] part h k e = absurd (omega arith)
 line-put row (b ∷ bytes) part h k e =
     ap (λ (l : List ℕ). row.letter ∷ l)
-    (feed-put part bytes (thirty (b ∷ bytes) part row.letter h k) (omega arith)
+    (feed-put part bytes (k ∙ middle-length (b ∷ bytes) row.letter h) (omega arith)
     ∙ ap (λ (l : List ℕ). l ++ (line_feed ∷ []) ++ drop 31 bytes) e)

@@ -1,14 +1,8 @@
 -- `classes::put_classes` meets its contract. The loop's invariant: what is left to write, from the next class on.
 use native.Mathlib.Omega.{arith}
-use Rattle.booktext.specs.Parts.{class_lines}
 use Rattle.booktext.specs.Laws.ClassLines.{classes-next, classes-end}
-use Rattle.booktext.specs.Laws.Putting.{left-start, left-countable, left-more, left_end}
+use Rattle.booktext.specs.Laws.Putting.{left-countable, left-more, left_end}
 use Rattle.booktext.proofs.classes.put_classes.Goals as goal
-
-pub loop-i-init : goal.loop-i-init
-loop-i-init c =
-    let a = c.args in
-    left-start (class_lines a.phones 1 a.sets.now) a.text.now a.count
 
 pub put_class-next-requires : goal.put_class-next-requires
 put_class-next-requires c =

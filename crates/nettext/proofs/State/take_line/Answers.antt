@@ -1,5 +1,5 @@
 -- `State::take_line` meets its contract, by what becomes of the line.
-use Rattle.std.proofs.Common.{◌≡◌, refl, sym, ap, ◌∙◌, rules, length, Ok, Err}
+use Rattle.std.proofs.Common.{◌≡◌, sym, ap, ◌∙◌, rules, length, Ok, Err}
 use Rattle.definitions.specs.declared.Fault.TheVariants.{Misprint}
 use Rattle.definitions.specs.NetworkText.{network_kind}
 use Rattle.lines.specs.Judging.{line_taken}
@@ -8,7 +8,7 @@ use Rattle.lines.specs.Laws.Judging.{verdict-full, verdict-misprint, verdict-lin
 use Rattle.nettext.specs.declared.State.{State}
 use Rattle.nettext.specs.Entries.{entry_line}
 use Rattle.nettext.specs.States.{next_state}
-use Rattle.nettext.specs.Taking.{verdict_in, arcs_taken}
+use Rattle.nettext.specs.Taking.{verdict_in}
 use Rattle.nettext.specs.Laws.Taking.{step-failed, step-passed}
 use Rattle.nettext.proofs.State.take_line.Goals as goal
 use Rattle.nettext.proofs.State.take_line.Goals.{After-judge_line}
@@ -27,23 +27,15 @@ said : (c : goal.After-judge_line)
 unfolding line_taken network_kind
 said c = rw (sym c.parse.ensures ∙ c.in_ok-row.ensures.ok_part) c.entry_of-entry.ensures
 
-pub returns-then-complete : goal.returns-then-complete
-unfolding arcs_taken
-returns-then-complete c =
-    let complete = sym c.complete.ensures ∙ c.if-complete.true in
-    record { step = step-failed _ _ _ (verdict-full _ _ _ complete); arcs = refl }
+pub returns-then-complete-clause-step : goal.returns-then-complete-clause-step
+returns-then-complete-clause-step c =
+    step-failed _ _ _ (verdict-full _ _ _ (sym c.complete.ensures ∙ c.if-complete.true))
 
 pub returns-in_err-row-clause-step : goal.returns-in_err-row-clause-step
 returns-in_err-row-clause-step c =
     let unformed = none-parsed _ (sym c.in_err-row.ensures.ok_part ∙ c.parse.ensures) in
     let z : c.from_residual.result ≡ Err Misprint = search rules in
     z ∙ step-failed _ _ _ (verdict-misprint _ _ _ (sym c.complete.ensures ∙ c.if-complete.false) unformed)
-
-pub returns-in_err-row-clause-arcs : goal.returns-in_err-row-clause-arcs
-unfolding arcs_taken
-returns-in_err-row-clause-arcs c =
-    let z : c.from_residual.result ≡ Err Misprint = search rules in
-    rw z refl
 
 pub entry_of-entry-requires : goal.entry_of-entry-requires
 entry_of-entry-requires c = whole_row _ (sym c.in_ok-row.ensures.ok_part ∙ c.parse.ensures)
@@ -52,12 +44,6 @@ pub returns-in_err-judge_line-clause-step : goal.returns-in_err-judge_line-claus
 returns-in_err-judge_line-clause-step c =
     let z : c.from_residual-in_err-judge_line.result ≡ Err c.in_err-judge_line.field-0.0 = search rules in
     z ∙ step-failed _ _ _ (verdict (goal.at.returns-in_err-judge_line-clause-step c).After-judge_line ∙ c.in_err-judge_line.was)
-
-pub returns-in_err-judge_line-clause-arcs : goal.returns-in_err-judge_line-clause-arcs
-unfolding arcs_taken
-returns-in_err-judge_line-clause-arcs c =
-    let z : c.from_residual-in_err-judge_line.result ≡ Err c.in_err-judge_line.field-0.0 = search rules in
-    rw z refl
 
 pub store-requires : goal.store-requires
 store-requires c =
@@ -72,7 +58,6 @@ returns-clause-step c =
     ∙ step-passed _ _ _ (verdict at ∙ c.in_ok-judge_line.was)
 
 pub returns-clause-arcs : goal.returns-clause-arcs
-unfolding arcs_taken
 returns-clause-arcs c =
     let at = (goal.at.returns-clause-arcs c).After-judge_line in
     rw (← said at) c.store.ensures

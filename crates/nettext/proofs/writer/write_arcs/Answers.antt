@@ -9,15 +9,12 @@ use Rattle.std.proofs.Common.{ap}
 use Rattle.definitions.specs.Arcs.{arc_size}
 use Rattle.definitions.specs.NetworkText.{line_of_arc}
 use Rattle.definitions.proofs.Laws.Networks.KnownNetworks.{arcs-length}
-use Rattle.lines.specs.Laws.Filling.{filled-start, filled-end}
+use Rattle.lines.specs.Laws.Filling.{filled-end}
 use Rattle.writing.specs.Laws.WrittenLines.{part-put}
 use Rattle.arcs.specs.Whole.{all_arcs}
 use Rattle.nettext.specs.Laws.Writing.{arcs_text, texts-length, arc-written}
 use borrow.Author.Rules.{rules}
 use Rattle.nettext.proofs.writer.write_arcs.Goals as goal
-
-pub loop-i-init : goal.loop-i-init
-loop-i-init c = filled-start _ _
 
 pub loop-i-preserved : goal.loop-i-preserved
 loop-i-preserved c =

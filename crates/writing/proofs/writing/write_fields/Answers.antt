@@ -6,14 +6,11 @@ use Prim.Native.Nat.{ℕ}
 use native.Mathlib.Omega.{arith}
 use lib.ListN.{length}
 use Rattle.lines.specs.Rows.{line_in}
-use Rattle.lines.specs.Laws.Filling.{filled-start, filled-end}
+use Rattle.lines.specs.Laws.Filling.{filled-end}
 use Rattle.writing.specs.Writing.{fields_text}
 use Rattle.writing.specs.Laws.WrittenLines.{row-length, part-put}
 use borrow.Author.Rules.{rules}
 use Rattle.writing.proofs.writing.write_fields.Goals as goal
-
-pub loop-field-init : goal.loop-field-init
-loop-field-init c = filled-start _ _
 
 pub loop-field-preserved : goal.loop-field-preserved
 loop-field-preserved c =

@@ -1,6 +1,6 @@
 -- The measure is the number of nodes from the node on: a child is a greater node.
 use Prim.Native.Nat.{◌-◌}
-use Rattle.plainform.proofs.trees.Trees.+number.Given as goal
+use Rattle.plainform.proofs.trees.LentTrees.+number.Given as goal
 
 abbrev pub decreases-number : goal.decreases-number
 decreases-number l = l.self.header.nodes - l.node

@@ -1,4 +1,4 @@
--- `Trees::collect` meets its contract. The measure is the number of nodes from the node on: a child is a
+-- `LentTrees::collect` meets its contract. The measure is the number of nodes from the node on: a child is a
 -- greater node. A leaf asks for nothing; a question for its own set, then for those of its sides.
 use Prim.Native.Nat.{ℕ, suc, ◌+◌, ◌≤◌}
 use native.Mathlib.Omega.{arith}
@@ -7,8 +7,8 @@ use Rattle.definitions.specs.PlainForm.{sets_in}
 use Rattle.plainform.specs.LentTrees.{tree_in, KnownNode}
 use Rattle.plainform.specs.Laws.LentTrees.{at-node, yes-known, no-known, yes-later, no-later, sets-here}
 use Rattle.plainform.specs.Laws.Collecting.{collected-leaf, collected-question}
-use Rattle.plainform.proofs.trees.Trees.+collect.Goals as goal
-use Rattle.plainform.proofs.trees.Trees.+collect.Goals.{Else-record-ne1, Start}
+use Rattle.plainform.proofs.trees.LentTrees.+collect.Goals as goal
+use Rattle.plainform.proofs.trees.LentTrees.+collect.Goals.{Else-record-ne1, Start}
 
 here : (t : ℕ) (c : goal.Start t) → let trees = c.args.self in KnownNode trees.header trees.nodes.now c.args.node
 here t c = at-node c.args.self c.args.node c.requires.0

@@ -1,7 +1,7 @@
--- `Trees::number_root` meets its contract: a word of 4096 is no root and has no tree.
+-- `LentTrees::number_root` meets its contract: a word of 4096 is no root and has no tree.
 use Rattle.plainform.specs.Laws.LentTrees.{root-node}
 use Rattle.plainform.specs.Laws.Numbering.{numbered-absent, root-numberable, numbered-root}
-use Rattle.plainform.proofs.trees.Trees.number_root.Goals as goal
+use Rattle.plainform.proofs.trees.LentTrees.number_root.Goals as goal
 
 pub returns-then-root-eq-NO_ROOT : goal.returns-then-root-eq-NO_ROOT
 returns-then-root-eq-NO_ROOT c =

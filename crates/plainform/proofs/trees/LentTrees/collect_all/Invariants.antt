@@ -1,8 +1,8 @@
--- `Trees::collect_all` meets its contract. The loop's invariant: the sets of the first `i` trees are noted, and
+-- `LentTrees::collect_all` meets its contract. The loop's invariant: the sets of the first `i` trees are noted, and
 -- those of the others are left.
 use Rattle.plainform.specs.LentTrees.{tree_in}
 use Rattle.plainform.specs.Laws.Collecting.{Gathered}
-use Rattle.plainform.proofs.trees.Trees.collect_all.Given as goal
+use Rattle.plainform.proofs.trees.LentTrees.collect_all.Given as goal
 
 abbrev pub invariant-loop-root : goal.invariant-loop-root
 invariant-loop-root l =

@@ -1,10 +1,10 @@
--- `Trees::collect_root` meets its contract: a word of 4096 is no root and has no tree.
+-- `LentTrees::collect_root` meets its contract: a word of 4096 is no root and has no tree.
 use mathlib.Core.Path.{ap}
 use native.Mathlib.Omega.{arith}
 use lib.ListN.{length}
 use Rattle.plainform.specs.Laws.LentTrees.{root-node}
 use Rattle.plainform.specs.Laws.Collecting.{collected-absent, root-uses}
-use Rattle.plainform.proofs.trees.Trees.collect_root.Goals as goal
+use Rattle.plainform.proofs.trees.LentTrees.collect_root.Goals as goal
 
 pub returns-then-root-eq-NO_ROOT : goal.returns-then-root-eq-NO_ROOT
 returns-then-root-eq-NO_ROOT c =

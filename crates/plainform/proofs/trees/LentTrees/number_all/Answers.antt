@@ -1,10 +1,10 @@
--- `Trees::number_all` meets its contract. The loop's invariant: what is left to put from root `i` on, put into
+-- `LentTrees::number_all` meets its contract. The loop's invariant: what is left to put from root `i` on, put into
 -- the tables as they are, gives what all trees put into the tables at the start give.
 use native.Mathlib.Omega.{arith}
 use Rattle.plainform.specs.LentTrees.{tree_in}
 use Rattle.plainform.specs.Laws.LentTrees.{root-listed}
 use Rattle.plainform.specs.Laws.Numbering.{all_start, own_room, all_more, all_end}
-use Rattle.plainform.proofs.trees.Trees.number_all.Goals as goal
+use Rattle.plainform.proofs.trees.LentTrees.number_all.Goals as goal
 
 pub loop-i-init : goal.loop-i-init
 loop-i-init c = let a = c.args in

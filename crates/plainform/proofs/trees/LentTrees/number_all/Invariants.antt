@@ -1,8 +1,8 @@
--- `Trees::number_all` meets its contract. The loop's invariant: what is left to put from root `i` on, put into
+-- `LentTrees::number_all` meets its contract. The loop's invariant: what is left to put from root `i` on, put into
 -- the tables as they are, gives what all trees put into the tables at the start give.
 use Rattle.plainform.specs.LentTrees.{tree_in}
 use Rattle.plainform.specs.Laws.Numbering.{AllNumbered}
-use Rattle.plainform.proofs.trees.Trees.number_all.Given as goal
+use Rattle.plainform.proofs.trees.LentTrees.number_all.Given as goal
 
 abbrev pub invariant-loop-i : goal.invariant-loop-i
 invariant-loop-i l =

@@ -1,11 +1,11 @@
--- `Trees::collect_all` meets its contract. The loop's invariant: the sets of the first `i` trees are noted, and
+-- `LentTrees::collect_all` meets its contract. The loop's invariant: the sets of the first `i` trees are noted, and
 -- those of the others are left.
 use native.Mathlib.Omega.{arith}
 use Rattle.plainform.specs.LentTrees.{tree_in}
 use Rattle.plainform.specs.Laws.LentTrees.{root-listed}
 use Rattle.plainform.specs.Laws.Collecting.{gathered-start, gathered-room, gathered-more}
 use Rattle.plainform.specs.Laws.Collecting.{gathered-end}
-use Rattle.plainform.proofs.trees.Trees.collect_all.Goals as goal
+use Rattle.plainform.proofs.trees.LentTrees.collect_all.Goals as goal
 
 pub loop-root-init : goal.loop-root-init
 loop-root-init c = let a = c.args in

@@ -1,4 +1,4 @@
--- `Trees::number` meets its contract. The measure is the number of nodes from the node on: a child is a
+-- `LentTrees::number` meets its contract. The measure is the number of nodes from the node on: a child is a
 -- greater node. A leaf is put as it is; a question's record is put between the records of its sides.
 use mathlib.Core.Path.{◌≡◌}
 use Prim.Native.Nat.{ℕ, suc, ◌+◌, ◌≤◌}
@@ -8,8 +8,8 @@ use Rattle.definitions.proofs.Spelling.TreeShapes.{some-node}
 use Rattle.plainform.specs.LentTrees.{tree_in, KnownNode}
 use Rattle.plainform.specs.Laws.LentTrees.{at-node, yes-known, no-known, yes-later, no-later, size-here}
 use Rattle.plainform.specs.Laws.Numbering.{numbered-leaf, numbered-question}
-use Rattle.plainform.proofs.trees.Trees.+number.Goals as goal
-use Rattle.plainform.proofs.trees.Trees.+number.Goals.{Else-record-ne1, Start}
+use Rattle.plainform.proofs.trees.LentTrees.+number.Goals as goal
+use Rattle.plainform.proofs.trees.LentTrees.+number.Goals.{Else-record-ne1, Start}
 
 here : (t : ℕ) (c : goal.Start t) → let trees = c.args.self in KnownNode trees.header trees.nodes.now c.args.node
 here t c = at-node c.args.self c.args.node c.requires.0
