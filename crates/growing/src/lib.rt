@@ -2,6 +2,7 @@
 #![tactic(auto)]
 
 pub mod adding;
+pub mod finding;
 pub mod linking;
 
 // How many elements and arcs have grown so far.

@@ -1,93 +1,46 @@
 -- Laws about looking for an element along its chain. The idea: every place on the chain has the element's head, and
--- the link from it names the latest before it of the same head, so no place that has the element is passed.
-use Rattle.std.specs.Prelude.{◌≡◌, List, [], map, Option, None, Some, is_some, SomeIff, Bool, true, false, ℕ, suc, ◌+◌, ◌-◌, ◌*◌, ◌≤◌, ◌<◌, T, ltb, length, take, drop, get_or}
-use Rattle.std.proofs.Common.{sym, ap, ◌∙◌, subst, append-nil, mul-suc, mul-le-mul_left, arith, ltb-true, ltb-false}
+-- the link from it names the latest before it of the same head, so a walk over the keys alone passes no place that has
+-- the element; and the words at a place tell whether it stands there.
+use Rattle.std.specs.Prelude.{◌≡◌, List, [], map, Option, Bool, true, false, ℕ, suc, ◌+◌, ◌*◌, ◌≤◌, ◌<◌, T, length, take, drop, get_or}
+use Rattle.std.proofs.Common.{sym, ap, ◌∙◌, subst, append-nil, mul-suc, mul-le-mul_left, arith}
+use Rattle.std.proofs.lemmas.List.{length-map}
 use Rattle.definitions.specs.Lists.{◌!◌, records, same}
-use Rattle.definitions.proofs.Laws.Lists.Tests.{by-test}
 use Rattle.definitions.proofs.Laws.Lists.Lists.{same_lists, same_self, map_at}
 use Rattle.definitions.proofs.Laws.Lists.Members.{in-at, place_of}
 use Rattle.definitions.proofs.Laws.Lists.Records.{record-at, written-length, written-records}
-use Rattle.growing.specs.Chains.{Code, Coded, Flat, head_of, head_at, Latest, Linked, link_of, Found}
-use Rattle.growing.specs.Laws.Heads.{head-below}
+use Rattle.growing.specs.Chains.{Code, Coded, Flat, head_of, heads_in, Latest, Linked, Found}
+use Rattle.growing.specs.Walks.{key_code, Walkable, Walked}
 
--- the element stands nowhere from the next place of its chain on, if there is one, which has its head
-pub record Passed {X : Type 0} (code : Code X) (heads : ℕ) (table : List X) (x : X) (next : Option ℕ) : Type 0 where
-  pub within : link_of next ≤ length table
-  pub own : (i : ℕ) → next ≡ Some i → head_at code heads table i ≡ head_of heads (code.key x)
-  pub none_after : (i : ℕ) → link_of next ≤ i → i < length table → get_or table i code.nothing ≡ x → ⊥
-
--- a place read from a link
-place-read : {link : ℕ} (next : Option ℕ) → SomeIff next (1 ≤ link) (link - 1) → link ≡ link_of next
-place-read None n = omega (arith, n)
-place-read (Some place) (some, e) = omega (arith, some, e)
+-- ---- the chains of the elements' keys are those of the elements
 
 module _ {X : Type 0} {code : Code X} {heads : ℕ} {chains : List ℕ} {table : List X}
-    (linked : Linked code heads chains table) (x : X) where
-  abbrev head-of : X → ℕ
-  head-of y = head_of heads (code.key y)
+    (linked : Linked code heads chains table) where
+  abbrev keys : List ℕ
+  keys = map code.key table
 
-  pub find-start : {head link : ℕ} {next : Option ℕ} → head ≡ head_of heads (code.key x) → link ≡ chains ! head
-      → SomeIff next (1 ≤ link) (link - 1) → Passed code heads table x next
-  find-start {head} {link} {next} e f n =
-      let latest : Latest code heads table (head-of x) (length table) (link_of next) =
-      subst (Latest code heads table (head-of x) (length table))
-      (ap (λ (k : ℕ). chains ! k) (sym e) ∙ sym f ∙ place-read next n)
-      (linked.firsts (head-of x) (head-below (code.key x) (omega (arith, linked.few)))) in
-      record {
-        within = latest.within;
-        own = λ i g. latest.own i (ap link_of g);
-        none_after = λ i h l g. latest.none_after i h l (ap head-of g);
-      }
+  key-at : (i : ℕ) → i < length table → keys ! i ≡ code.key (get_or table i code.nothing)
+  key-at i h = map_at code.key table code.nothing 0 i h
 
-  module _ {next : Option ℕ} (p : Passed code heads table x next) where
-    pub find-end : next ≡ None → Found code table x None
-    find-end e = record {
-      none = λ f member.
-          let (i, l, g) = place_of x table code.nothing member in
-          p.none_after i (omega (arith, ap link_of e)) l g;
-      some = λ place f. absurd (subst T (sym (ap is_some f)) tt);
-    }
+  latest-key : {head end place : ℕ} → end ≤ length table → Latest code heads table head end place
+      → Latest key_code heads keys head end place
+  latest-key most l = record {
+    within = l.within;
+    own = λ i e. ap (head_of heads) (key-at i (omega (arith, e, l.within, most))) ∙ l.own i e;
+    none_after = λ i h k e. l.none_after i h k (ap (head_of heads) (sym (key-at i (omega (arith, k, most)))) ∙ e);
+  }
 
-    module _ {place : ℕ} (is : next ≡ Some place) where
-      listed : place < length table
-      listed = omega (arith, p.within, ap link_of is)
+  many : length keys ≡ length table
+  many = length-map table code.key
 
-      pub find-here : get_or table place code.nothing ≡ x → Found code table x (Some place)
-      find-here e = record {
-        none = λ f. absurd (subst T (ap is_some f) tt);
-        some = λ other f.
-            let here : place ≡ other = cc in
-            subst (λ i. (i < length table) × (get_or table i code.nothing ≡ x)) here (listed, e);
-      }
-
-      -- the link from a place
-      pub link-within : heads + place < length chains
-      link-within = omega (arith, linked.sized, linked.few, listed)
-
-      module _ {link : ℕ} (after : Option ℕ) (e : link ≡ chains ! (heads + place))
-          (n : SomeIff after (1 ≤ link) (link - 1)) where
-        after-latest : Latest code heads table (head-of x) place (link_of after)
-        after-latest =
-            subst (λ k. Latest code heads table k place (link_of after)) (p.own place is)
-            (subst (λ j. Latest code heads table (head_at code heads table place) place j)
-            (sym e ∙ place-read after n) (linked.nexts place listed))
-
-        pub find-less : link_of after < link_of next
-        find-less = omega (arith, after-latest.within, ap link_of is)
-
-        pub find-next : (get_or table place code.nothing ≡ x → ⊥) → Passed code heads table x after
-        find-next other = record {
-          within = omega (arith, after-latest.within, listed);
-          own = λ i g. after-latest.own i (ap link_of g);
-          none_after = λ i h l f.
-              by-test (ltb i place)
-              (λ t. after-latest.none_after i h (ltb-true i place t) (ap head-of f))
-              (λ t. by-test (ltb place i)
-              (λ u. p.none_after i (omega (arith, ltb-true place i u, ap link_of is)) l f)
-              (λ u.
-              let here : i ≡ place = omega (arith, ltb-false i place t, ltb-false place i u) in
-              other (subst (λ j. get_or table j code.nothing ≡ x) here f)));
-        }
+  keys-linked : Linked key_code heads chains keys
+  keys-linked = record {
+    sized = linked.sized;
+    few = rw many linked.few;
+    firsts = λ head h. rw many (latest-key (omega arith) (linked.firsts head h));
+    nexts = λ i h.
+        let l : i < length table = omega (arith, many, h) in
+        rw (key-at i l) (latest-key (omega (arith, l)) (linked.nexts i l));
+  }
 
 -- ---- elements that stand in words
 
@@ -109,33 +62,46 @@ module _ {X : Type 0} {code : Code X} {table : List X} {words : List ℕ} (flat 
       sym (record-at code.size (length table) words i h) ∙ ap (λ (l : List (List ℕ)). get_or l i []) own
       ∙ map_at code.words table code.nothing [] i h
 
--- and whether they are those of an element
+-- ---- the search
+
 module _ {X : Type 0} {code : Code X} {table : List X} {words : List ℕ} (flat : Flat code table words)
-    {x : X} (own : Coded code x) {heads : ℕ} {next : Option ℕ} (p : Passed code heads table x next) {place : ℕ}
-    (is : next ≡ Some place) where
-  abbrev part : List ℕ
-  part = take code.size (drop (code.size * place) words)
+    {chains : List ℕ} (linked : Linked code (heads_in chains) chains table) where
+  -- the words at each place may be looked at
+  pub walkable : {asks : ℕ → Type 0} → ((i : ℕ) → code.size * i + code.size ≤ length words → asks i)
+      → Walkable asks chains (map code.key table)
+  walkable asked = record {
+    linked = keys-linked linked;
+    asked = λ i h. asked i (words-within flat (omega (arith, many linked, h)));
+  }
 
-  abbrev there : X
-  there = get_or table place code.nothing
+  -- where a test tells whether they are the words of an element, the walk finds it
+  pub found : {x : X} (own : Coded code x) {asks : ℕ → Type 0} {tells : ℕ → Bool → Type 0} {key : ℕ}
+      {answer : Option ℕ}
+      → ((keys : List ℕ) → Walkable asks chains keys → Walked tells (heads_in chains) keys key answer)
+      → key ≡ code.key x → ((i : ℕ) → code.size * i + code.size ≤ length words → asks i)
+      → ((i : ℕ) (b : Bool) → tells i b → b ≡ same (take code.size (drop (code.size * i) words)) (code.words x))
+      → Found code table x answer
+  found {x} own {asks} {tells} {key} {answer} walk is asked told = record {
+    none = λ e member.
+        let (i, l, here) = place_of x table code.nothing member in
+        let failed : false ≡ same (part i) (code.words x) =
+        told i false (walked.none e i (omega (arith, many linked, l))
+        (ap (head_of (heads_in chains)) (key-at linked i l ∙ ap code.key here ∙ sym is))) in
+        subst T (ap (same (part i)) (words-at flat l ∙ ap code.words here) ∙ sym failed) (same_self (part i));
+    some = λ place e.
+        let (h, holds) = walked.some place e in
+        let l : place < length table = omega (arith, many linked, h) in
+        let alike : code.words (get_or table place code.nothing) ≡ code.words x =
+        sym (words-at flat l)
+        ∙ same_lists (part place) (code.words x) (subst T (told place true holds) tt) in (
+          l,
+          sym (flat.coded (get_or table place code.nothing) (in-at table place code.nothing l)).back
+              ∙ ap code.read alike ∙ own.back,
+        );
+  }
+    where
+      part : ℕ → List ℕ
+      part i = take code.size (drop (code.size * i) words)
 
-  inside : place < length table
-  inside = omega (arith, p.within, ap link_of is)
-
-  pub part-within : code.size * place + code.size ≤ length words
-  part-within = words-within flat inside
-
-  part-row : part ≡ code.words there
-  part-row = words-at flat inside
-
-  module _ {answer : Bool} (e : answer ≡ same part (code.words x)) where
-    pub part-is : answer ≡ true → there ≡ x
-    part-is h =
-        let alike : code.words there ≡ code.words x =
-        sym part-row ∙ same_lists part (code.words x) (subst T (sym h ∙ e) tt) in
-        sym (flat.coded there (in-at table place code.nothing inside)).back
-        ∙ ap code.read alike ∙ own.back
-
-    pub part-other : answer ≡ false → there ≡ x → ⊥
-    part-other h f =
-        subst T (ap (same part) (part-row ∙ ap code.words f) ∙ sym e ∙ h) (same_self part)
+      walked : Walked tells (heads_in chains) (map code.key table) key answer
+      walked = walk (map code.key table) (walkable asked)

@@ -1,28 +1,18 @@
--- `finding::find` meets its contract. The loop's invariant: the state stands nowhere from the next place on, which has
--- its head.
-use Rattle.growing.specs.Laws.Finding.{find-here, find-end, find-next}
-use Rattle.growing.specs.Laws.Finding.{part-within, part-is, part-other}
-use Rattle.joined.specs.States.{joined_of}
+-- `finding::find` meets its contract: what the walk along the chain of the key finds.
+use Rattle.std.proofs.Common.{rules, map}
+use Rattle.growing.specs.Chains.{elements_in}
+use Rattle.growing.specs.Laws.Finding.{walkable, found}
+use Rattle.joined.specs.States.{joined_of, joined_code}
 use Rattle.joined.specs.Laws.Rows.{joined-coded}
 use Rattle.joined.proofs.finding.find.Goals as goal
 
-pub stands_at-requires : goal.stands_at-requires
-stands_at-requires c =
-    part-within c.requires.flat (joined-coded (joined_of c.args.x)) c.loop-next.invariant c.in-Some.is
-
-pub returns-then-stands_at : goal.returns-then-stands_at
-returns-then-stands_at c =
-    find-here c.requires.linked (joined_of c.args.x) c.loop-next.invariant c.in-Some.is
-    (part-is c.requires.flat (joined-coded (joined_of c.args.x)) c.loop-next.invariant c.in-Some.is c.stands_at.ensures
-    c.if-stands_at.true)
-
-pub loop-next-preserved : goal.loop-next-preserved
-loop-next-preserved c =
-    find-next c.requires.linked (joined_of c.args.x) c.loop-next.invariant c.in-Some.is
-    c.checked_sub-next-in-Some.result c.wide-in-Some.ensures c.checked_sub-next-in-Some.ensures
-    (part-other c.requires.flat (joined-coded (joined_of c.args.x)) c.loop-next.invariant c.in-Some.is
-    c.stands_at.ensures c.if-stands_at.false)
+pub walk-requires : goal.walk-requires
+walk-requires c = (
+  map joined_code.key (elements_in joined_code c.args.states.now),
+  walkable c.requires.flat c.requires.linked (λ i within. search rules),
+)
 
 pub returns : goal.returns
 returns c =
-    find-end c.requires.linked (joined_of c.args.x) c.loop-next.invariant c.in_default.is
+    found c.requires.flat c.requires.linked (joined-coded (joined_of c.args.x)) c.walk.ensures c.key_of.ensures
+    (λ i within. search rules) (λ i b tells. search rules)
