@@ -25,6 +25,11 @@ Left join outcome answer join' =
     StepLeft join.states.now join.arcs.now join.chains.now outcome (stepped answer join'.sizes)
     join'.states.now join'.arcs.now join'.chains.now
 
+-- it still holds the same lent slices, so that whoever lent them finds there what it leaves
+abbrev pub Holding : Join → Join → Type 0
+Holding join join' =
+    (join'.states.ghost_name ≡ join.states.ghost_name) × (join'.arcs.ghost_name ≡ join.arcs.ghost_name)
+
 -- one joined state entered from another
 abbrev pub enters : Join → (from : ℕ) → Move → Outcome (Grown Joined)
 enters join from move = entered join.states.now join.arcs.now join.sizes from move

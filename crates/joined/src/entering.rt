@@ -4,7 +4,7 @@ ghost use Rattle.definitions.specs.Joining.{joined_size, most_joined};
 ghost use Rattle.definitions.specs.Arcs.{arc};
 ghost use Rattle.growing.specs.Steps.{arc_room};
 ghost use Rattle.joined.specs.States.{joined_of, move_to, HasPlace, JoinedAdded};
-ghost use Rattle.joined.specs.Joins.{Grows, Left, enters, JoinArcAdded};
+ghost use Rattle.joined.specs.Joins.{Grows, Left, Holding, enters, JoinArcAdded};
 
 use crate::finding::{find, key_of};
 use crate::rows::put_joined;
@@ -35,7 +35,8 @@ impl Join<'_, '_, '_> {
     // Appends the arc from a joined state into one, which is added first if it is new.
     pub fn enter(&mut self, from: u32, target: Joined, model: u32, label: u32) -> Result<(), Fault>
         requires { Grows self.old }
-        ensures { Left self.old (enters self.old from (move_to (joined_of target) model label)) result self.new }
+        ensures left { Left self.old (enters self.old from (move_to (joined_of target) model label)) result self.new }
+        ensures same { Holding self.old self.new }
     {
         let place = self.sizes.table;
         let states = &mut *self.states;
@@ -56,7 +57,8 @@ impl Join<'_, '_, '_> {
     // Appends an arc into the joined state at a place.
     fn add_arc(&mut self, from: u32, place: usize, model: u32, label: u32) -> Result<(), Fault>
         requires { (self.old.sizes.arcs ≤ arc_room self.old.arcs.now) × (place < most_joined) }
-        ensures { JoinArcAdded (arc from place model label) self.old result self.new }
+        ensures added { JoinArcAdded (arc from place model label) self.old result self.new }
+        ensures same { Holding self.old self.new }
     {
         let arc = Arc {
             from,

@@ -1,8 +1,8 @@
 -- What joining answers, in the documents' numbers, and what it promises.
-use Rattle.std.specs.Prelude.{◌≡◌, List, ℕ, T, length}
+use Rattle.std.specs.Prelude.{◌≡◌, List, ℕ, T, length, Result, Ok}
 use Rattle.definitions.specs.declared.Counts.{Counts}
-use Rattle.definitions.specs.Faults.{Outcome, answered, refused}
-use Rattle.definitions.specs.Said.{Said, answer_said, refusal_said}
+use Rattle.definitions.specs.declared.Refusal.{Refusal}
+use Rattle.definitions.specs.Faults.{answered}
 use Rattle.definitions.specs.BookLines.{BookLine}
 use Rattle.definitions.specs.Arcs.{arcs_in}
 use Rattle.definitions.specs.Paths.{final_last}
@@ -11,8 +11,6 @@ use Rattle.definitions.specs.Growing.{Grown}
 use Rattle.definitions.specs.Joining.{Joined, JoinSpace, join, join_left}
 use Rattle.definitions.specs.Demand.{Demand3}
 use Rattle.definitions.specs.JoinedPaths.{JoinedPaths}
-use Rattle.joining.specs.declared.Answer.{Answer}
-use Rattle.joining.specs.declared.Answer.TheVariants as joining
 use Rattle.joining.specs.declared.JoinedCounts.{JoinedCounts}
 
 -- the lent space
@@ -26,15 +24,6 @@ counts_of net = record { states = length net.table; arcs = length net.arcs }
 abbrev pub no_counts : JoinedCounts
 no_counts = record { states = 0; arcs = 0 }
 
-abbrev pub joining_said : Answer → Said JoinedCounts
-joining_said (joining.Joined counts) = answer_said counts
-joining_said (joining.Refused r) = refusal_said no_counts r
-
--- what the code answers by the outcome
-unfoldable pub joining_of : Outcome (Grown Joined) → Answer
-joining_of (answered net) = joining.Joined (counts_of net)
-joining_of (refused r) = joining.Refused r
-
 -- the space after joining into it: as long as it was, and holding the join where there is an answer
 pub record JoinHeld (counts : Counts) (arcs : List ℕ) (count : ℕ) (words states joined states' joined' : List ℕ)
     : Type 0 where
@@ -46,9 +35,9 @@ pub record JoinHeld (counts : Counts) (arcs : List ℕ) (count : ℕ) (words sta
 
 -- the path statement of document 02, of the words that the join leaves, where it answers: for every book of which
 -- demand 3 holds of the lent arcs, and if no arc leaves FINAL
-abbrev pub KeepsPaths : Counts → (arcs : List ℕ) → (count : ℕ) → (words : List ℕ) → (answer : Answer)
+abbrev pub KeepsPaths : Counts → (arcs : List ℕ) → (count : ℕ) → (words : List ℕ) → (answer : Result JoinedCounts Refusal)
     → (joined : List ℕ) → Type 0
 KeepsPaths counts arcs count words answer joined =
-    (lines : List BookLine) (counted : JoinedCounts) → answer ≡ joining.Joined counted
+    (lines : List BookLine) (counted : JoinedCounts) → answer ≡ Ok counted
     → Demand3 lines counts arcs → T (final_last (arcs_in counts.arcs arcs))
     → JoinedPaths lines (words_in count words) counted.arcs joined

@@ -1,10 +1,11 @@
 -- What a join begins with, and what it leaves.
-use Rattle.std.specs.Prelude.{◌≡◌, List, [], ℕ, ◌≤◌, ◌<◌, length}
+use Rattle.std.specs.Prelude.{◌≡◌, List, [], ℕ, ◌≤◌, ◌<◌, length, Result}
 use Rattle.definitions.specs.Lists.{cleared}
 use Rattle.definitions.specs.Faults.{answered}
 use Rattle.definitions.specs.Growing.{Grown, begun}
 use Rattle.definitions.specs.Joining.{Joined, join_in, join_left}
-use Rattle.growing.specs.declared.Step.{Step}
+use Rattle.growing.specs.declared.Sizes.{Sizes}
+use Rattle.definitions.specs.declared.Fault.{Fault}
 use Rattle.growing.specs.Chains.{heads_in}
 use Rattle.growing.specs.Steps.{step_of}
 use Rattle.marks.specs.Lexicon.{spelled, Lexicon}
@@ -41,7 +42,7 @@ pub record Begun (states chains states' chains' : List ℕ) : Type 0 where
       → held (record { table = 2; arcs = 0 }) states' joined ≡ begun entering
 
 -- what the join of all of it answers, and what the space holds where it answers
-pub record JoinLeft (arcs words states joined : List ℕ) (answer : Step) (states' joined' : List ℕ) : Type 0 where
+pub record JoinLeft (arcs words states joined : List ℕ) (answer : Result Sizes Fault) (states' joined' : List ℕ) : Type 0 where
   pub answers : answer ≡ step_of (join_in (all_arcs arcs) (spelled words) (room_of states joined))
   pub holds : (net : Grown Joined) → join_in (all_arcs arcs) (spelled words) (room_of states joined) ≡ answered net
       → (states' ≡ (join_left (record { states = length states; arcs = length joined }) (answered net)).states)

@@ -1,20 +1,21 @@
 -- Turns of a join by the definition, and what they start from.
-use Rattle.std.specs.Prelude.{◌≡◌, List, ℕ, ◌/◌, ◌≤◌, ◌<◌, T, leb, length}
+use Rattle.std.specs.Prelude.{List, ℕ, ◌/◌, ◌≤◌, ◌<◌, T, leb, length}
 use Rattle.definitions.specs.Lists.{every}
 use Rattle.definitions.specs.Faults.{Outcome, answered, and_then}
 use Rattle.definitions.specs.Arcs.{arc_size}
 use Rattle.definitions.specs.Building.{most_arcs}
 use Rattle.definitions.specs.NetworkText.{never_descending}
 use Rattle.definitions.specs.Growing.{Grown, Machine, Room, grown_in, expand, turns_from}
-use Rattle.definitions.specs.Joining.{◌⊚◌, Joined, Move, moves_along, joining}
+use Rattle.definitions.specs.Joining.{Joined, Move, joining}
 use Rattle.growing.specs.declared.Sizes.{Sizes}
 use Rattle.marks.specs.Lexicon.{spelled, Lexicon}
 use Rattle.marks.specs.Openings.{Opened}
 use Rattle.joined.specs.States.{room_of, held, Underway}
-use Rattle.moves.specs.declared.Hop.{Hop}
-use Rattle.moves.specs.Moving.{hop_arc}
+use Rattle.joined.specs.declared.Join.{Join}
+use Rattle.moves.specs.declared.Vocabulary.{Vocabulary}
+use Rattle.joining.specs.declared.Network.{Network}
 use Rattle.arcs.specs.Below.{Started}
-use Rattle.arcs.specs.Whole.{all_arcs, arc_at}
+use Rattle.arcs.specs.Whole.{all_arcs}
 
 -- the join of arcs and words that fill lent words
 abbrev pub join_machine : (arcs words : List ℕ) → Machine Joined Move
@@ -25,13 +26,6 @@ pub record Followed (arcs : List ℕ) : Type 0 where
   pub few : length arcs / arc_size ≤ most_arcs
   pub ordered : T (never_descending (all_arcs arcs))
   pub phones : T (every (λ a. leb a.phone 64) (all_arcs arcs))
-
--- the arc at a place as one to follow from a joined state
-pub record HopAt (arcs : List ℕ) (at from : ℕ) (hop : Hop) : Type 0 where
-  pub source : hop.from ≡ from
-  pub phone : hop.phone ≡ (arc_at arcs at).phone
-  pub moves : (words : List (List ℕ)) (word mark : ℕ)
-      → moves_along words (word ⊚ mark) (hop_arc hop) ≡ moves_along words (word ⊚ mark) (arc_at arcs at)
 
 -- a network and words to join, and joined states under way
 pub record Turnable (arcs starts words index : List ℕ) (sizes : Sizes) (states joined chains : List ℕ) : Type 0 where
@@ -59,3 +53,22 @@ all_turns m room limit turns net = and_then (turns_from m room limit turns net) 
 abbrev pub turned_all : (arcs words states joined : List ℕ) → Sizes → Outcome (Grown Joined)
 turned_all arcs words states joined sizes =
     all_turns (join_machine arcs words) (room_of states joined) (room_of states joined).table 0 (held sizes states joined)
+
+-- ---- the same of a join in the code
+
+abbrev pub Turns : Network → Vocabulary → Join → Type 0
+Turns network known join =
+    Turnable network.arcs.now network.starts.now known.words.now known.index.now join.sizes join.states.now
+    join.arcs.now join.chains.now
+
+abbrev pub turned : Network → Vocabulary → Join → Outcome (Grown Joined)
+turned network known join = turned_all network.arcs.now known.words.now join.states.now join.arcs.now join.sizes
+
+abbrev pub Expands : Network → Vocabulary → Join → (place : ℕ) → Type 0
+Expands network known join place =
+    Expandable network.arcs.now network.starts.now known.words.now known.index.now join.sizes join.states.now
+    join.arcs.now join.chains.now place
+
+abbrev pub expanded : Network → Vocabulary → Join → (place : ℕ) → Outcome (Grown Joined)
+expanded network known join place =
+    expanded_at network.arcs.now known.words.now join.states.now join.arcs.now join.sizes place

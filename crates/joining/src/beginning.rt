@@ -2,13 +2,15 @@
 ghost use Rattle.std.specs.Prelude.{◌<◌};
 ghost use Rattle.joining.specs.Beginning.{Startable, Chainable, Begun, JoinLeft};
 
+use crate::Network;
 use crate::turning::take_turns;
 use arcs::starting::fill_starts;
-use definitions::{MOST_JOINED, MOST_METASTATES, MOST_WORDS};
-use growing::{Sizes, Step};
-use joined::Joined;
+use definitions::{Fault, MOST_JOINED, MOST_METASTATES, MOST_WORDS};
+use growing::Sizes;
 use joined::entering::{add_joined, state_room};
+use joined::{Join, Joined};
 use marks::indexing::fill_index;
+use moves::Vocabulary;
 
 // Space for fewer joined states than these gets short chains, a head and a link for each of so many, and a short table
 // of where the arcs of network states begin.
@@ -61,7 +63,7 @@ fn join_with(
     joined: &mut [u32],
     chains: &mut [u32],
     starts: &mut [u32],
-) -> Step
+) -> Result<Sizes, Fault>
     requires { Startable arcs.now words.now states.old joined.old × Chainable states.old chains.old }
     ensures { JoinLeft arcs.now words.now states.old joined.old
         result states.new joined.new }
@@ -70,22 +72,32 @@ fn join_with(
     let mut index = [0u32; INDEX_SIZE];
     fill_index(words, &mut index);
     begin(states, chains);
-    let first = Sizes { table: 2, arcs: 0 };
-    take_turns(
-        arcs,
-        &starts[..placed],
-        words,
-        &index,
+    let mut join = Join {
         states,
-        joined,
+        arcs: joined,
         chains,
-        first,
-    )
+        sizes: Sizes { table: 2, arcs: 0 },
+    };
+    let network = Network {
+        arcs,
+        starts: &starts[..placed],
+    };
+    let known = Vocabulary {
+        words,
+        index: &index,
+    };
+    take_turns(&mut join, network, known)?;
+    Ok(join.sizes)
 }
 
 // Joins into cleared space. Space for fewer than 4096 joined states gets short tables, so that a small join clears few
 // words.
-pub fn join_known(arcs: &[u32], words: &[u32], states: &mut [u32], joined: &mut [u32]) -> Step
+pub fn join_known(
+    arcs: &[u32],
+    words: &[u32],
+    states: &mut [u32],
+    joined: &mut [u32],
+) -> Result<Sizes, Fault>
     requires { Startable arcs.now words.now states.old joined.old }
     ensures { JoinLeft arcs.now words.now states.old joined.old
         result states.new joined.new }
@@ -93,9 +105,10 @@ pub fn join_known(arcs: &[u32], words: &[u32], states: &mut [u32], joined: &mut 
     if state_room(states.len()) < FEW {
         let mut chains = [0u32; SHORT_CHAINS];
         let mut starts = [0u32; FEW];
-        return join_with(arcs, words, states, joined, &mut chains, &mut starts);
+        join_with(arcs, words, states, joined, &mut chains, &mut starts)
+    } else {
+        let mut chains = [0u32; LONG_CHAINS];
+        let mut starts = [0u32; LONG_STARTS];
+        join_with(arcs, words, states, joined, &mut chains, &mut starts)
     }
-    let mut chains = [0u32; LONG_CHAINS];
-    let mut starts = [0u32; LONG_STARTS];
-    join_with(arcs, words, states, joined, &mut chains, &mut starts)
 }

@@ -1,75 +1,57 @@
 // One turn: all moves from a joined state, along the arcs of its network state.
-ghost use Rattle.std.specs.Prelude.{◌+◌, ◌*◌, ◌/◌, ◌<◌, length};
-ghost use Rattle.definitions.specs.Arcs.{arc_size};
-ghost use Rattle.joined.specs.States.{StepLeft};
-ghost use Rattle.joining.specs.Turns.{HopAt, Expandable, expanded_at};
+ghost use Rattle.std.specs.Prelude.{◌≡◌, ◌+◌, ◌*◌, ◌≤◌, length};
+ghost use Rattle.definitions.specs.Joining.{joined_size};
+ghost use Rattle.joined.specs.States.{joined_of, joined_in, row_at};
+ghost use Rattle.joined.specs.Joins.{Left, Holding};
+ghost use Rattle.joining.specs.Turns.{Expands, expanded};
 
+use crate::Network;
+use arcs::putting::arc_at;
 use arcs::starting::arcs_before;
-use definitions::{ARC_SIZE, wide};
-use growing::{Sizes, Step};
+use definitions::{ARC_SIZE, Fault, wide};
 use joined::rows::joined_at;
+use joined::{Join, Joined};
 use marks::Mark;
 use marks::wanting::wanted;
-use moves::Hop;
 use moves::following::follow;
 use moves::skipping::next_arc;
+use moves::{Hop, Vocabulary};
 
-// The arc at a place, followed from a joined state.
-fn hop_at(arcs: &[u32], at: usize, from: u32) -> Hop
-    requires { at < length arcs.now / arc_size }
-    ensures { HopAt arcs.now at from result }
+// The joined state at a place.
+fn state_at(join: &Join, place: usize) -> Joined
+    requires { joined_size * place + joined_size ≤ length join.now.states.now }
+    ensures { joined_of result ≡ joined_in (row_at join.now.states.now place) }
 {
-    let first = ARC_SIZE * at;
-    Hop {
-        from,
-        to: arcs[first + 1],
-        model: arcs[first + 2],
-        phone: arcs[first + 3],
-    }
+    joined_at(join.states, place)
 }
 
-// Appends the arcs of all moves from the joined state at a place.
+// Appends the arcs of all moves from the joined state at a place. What leads nowhere is passed over from arc to arc.
 pub fn expand(
-    arcs: &[u32],
-    starts: &[u32],
-    words: &[u32],
-    index: &[u32],
-    states: &mut [u32],
-    joined: &mut [u32],
-    chains: &mut [u32],
-    sizes: Sizes,
+    join: &mut Join,
+    network: Network,
+    known: Vocabulary,
     place: usize,
-) -> Step
-    requires { Expandable arcs.now starts.now words.now index.now sizes states.old joined.old chains.old place }
-    ensures { StepLeft states.old joined.old chains.old
-        (expanded_at arcs.now words.now states.old joined.old sizes place)
-        result states.new joined.new chains.new }
+) -> Result<(), Fault>
+    requires { Expands network known join.old place }
+    ensures left { Left join.old (expanded network.entry known.entry join.old place) result join.new }
+    ensures same { Holding join.old join.new }
 {
-    let x = joined_at(states, place);
+    let x = state_at(join, place);
     let mark = Mark {
         word: x.word,
         mark: x.mark,
     };
-    let wants = wanted(words, x.word, x.mark);
-    let mut now = sizes;
-    let mut at = next_arc(
-        arcs,
-        arcs_before(arcs, starts, wide(x.state)),
-        x.state,
-        wants,
-    );
+    let wants = wanted(known.words, x.word, x.mark);
+    let arcs = network.arcs;
+    let first = arcs_before(arcs, network.starts, wide(x.state));
+    let mut at = next_arc(arcs, first, x.state, wants);
     while at < arcs.len() / ARC_SIZE {
-        let hop = hop_at(arcs, at, place as u32);
-        let step = follow(words, index, states, joined, chains, now, hop, mark, wants);
-        match step {
-            Step::Next(next) => {
-                now = next;
-            }
-            Step::Stop(fault) => {
-                return Step::Stop(fault);
-            }
-        }
+        let hop = Hop {
+            from: place as u32,
+            arc: arc_at(arcs, at),
+        };
+        follow(join, known, hop, mark, wants)?;
         at = next_arc(arcs, at + 1, x.state, wants);
     }
-    Step::Next(now)
+    Ok(())
 }

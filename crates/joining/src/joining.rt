@@ -1,26 +1,17 @@
 // The join of lent arcs and a lent table of words: 18, then 31 or 32 as construction meets them.
 ghost use Rattle.std.specs.Prelude.{◌≡◌};
 ghost use Rattle.definitions.specs.Joining.{join, join_left};
-ghost use Rattle.definitions.specs.Said.{said_of};
-ghost use Rattle.joining.specs.Answers.{space_of, counts_of, no_counts, joining_of, joining_said, JoinHeld};
+ghost use Rattle.definitions.specs.Said.{result_of};
+ghost use Rattle.joining.specs.Answers.{space_of, counts_of, JoinHeld};
 ghost use Rattle.joining.specs.Answers.{KeepsPaths};
 ghost use Rattle.joining.specs.Beginning.{Cleared};
 
+use crate::JoinedCounts;
 use crate::beginning::join_known;
-use crate::{Answer, JoinedCounts};
 use arcs::known::network_known;
 use definitions::{ARC_SIZE, Counts, Fault, Refusal, WORD_SIZE, wide};
-use growing::Step;
 use joined::entering::state_room;
-use lines::clearing::clear_words;
 use words::known::words_known;
-
-// The refusal of a fault.
-fn refuse(fault: Fault) -> Answer
-    ensures { result ≡ Answer.Refused (record { fault = fault; line = 0 }) }
-{
-    Answer::Refused(Refusal { fault, line: 0 })
-}
 
 // Judges what is lent, and joins into cleared space; where it refuses, the space may hold what was joined before.
 fn join_cleared(
@@ -30,32 +21,26 @@ fn join_cleared(
     words: &[u32],
     states: &mut [u32],
     joined: &mut [u32],
-) -> Answer
+) -> Result<JoinedCounts, Refusal>
     requires { Cleared states.old × Cleared joined.old }
-    ensures answer { result ≡ joining_of (join counts arcs.now count words.now
+    ensures answer { result ≡ result_of counts_of (join counts arcs.now count words.now
         (space_of states.old joined.old)) }
     ensures left { JoinHeld counts arcs.now count words.now states.old joined.old
         states.new joined.new }
 {
-    if !network_known(counts, arcs) {
-        return refuse(Fault::Foreign);
-    }
-    if !words_known(count, words) {
-        return refuse(Fault::Foreign);
+    if !network_known(counts, arcs) || !words_known(count, words) {
+        return Err(Fault::Foreign.into());
     }
     if state_room(states.len()) < 2 {
-        return refuse(Fault::Crowd);
+        return Err(Fault::Crowd.into());
     }
     let used = ARC_SIZE * wide(counts.arcs);
     let spelled = WORD_SIZE * count;
-    let step = join_known(&arcs[..used], &words[..spelled], states, joined);
-    match step {
-        Step::Next(sizes) => Answer::Joined(JoinedCounts {
-            states: sizes.table,
-            arcs: sizes.arcs,
-        }),
-        Step::Stop(fault) => refuse(fault),
-    }
+    let sizes = join_known(&arcs[..used], &words[..spelled], states, joined)?;
+    Ok(JoinedCounts {
+        states: sizes.table,
+        arcs: sizes.arcs,
+    })
 }
 
 // Joins a network with the words of a word book.
@@ -66,9 +51,8 @@ pub fn join(
     words: &[u32],
     states: &mut [u32],
     joined: &mut [u32],
-) -> Answer
-    ensures answer { joining_said result
-        ≡ said_of counts_of no_counts (join counts arcs.now count words.now
+) -> Result<JoinedCounts, Refusal>
+    ensures answer { result ≡ result_of counts_of (join counts arcs.now count words.now
         (space_of states.old joined.old)) }
     ensures states { states.new
         ≡ (join_left (space_of states.old joined.old)
@@ -80,17 +64,12 @@ pub fn join(
         (space_of states.old joined.old))).arcs }
     ensures paths { KeepsPaths counts arcs.now count words.now result joined.new }
 {
-    clear_words(states);
-    clear_words(joined);
+    states.fill(0);
+    joined.fill(0);
     let answer = join_cleared(counts, arcs, count, words, states, joined);
-    match answer {
-        Answer::Joined(sizes) => {
-            return Answer::Joined(sizes);
-        }
-        Answer::Refused(refusal) => {
-            clear_words(states);
-            clear_words(joined);
-            return Answer::Refused(refusal);
-        }
+    if answer.is_err() {
+        states.fill(0);
+        joined.fill(0);
     }
+    answer
 }

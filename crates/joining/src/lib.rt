@@ -7,18 +7,16 @@ mod expanding;
 pub mod joining;
 mod turning;
 
-use definitions::Refusal;
-
 // How many joined states and arcs there are.
-#[derive(Clone, Copy)]
+#[derive(Clone, Copy, PartialEq, Eq)]
 pub struct JoinedCounts {
     pub states: usize,
     pub arcs: usize,
 }
 
-// What joining answers.
+// The arcs of a network without the words beyond them, and a table of where those of each source begin.
 #[derive(Clone, Copy)]
-pub enum Answer {
-    Joined(JoinedCounts),
-    Refused(Refusal),
+struct Network<'a> {
+    arcs: &'a [u32],
+    starts: &'a [u32],
 }

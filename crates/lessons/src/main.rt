@@ -11,29 +11,44 @@ mod texts;
 
 use definitions::Counts;
 use showing::reading::{INPUT_SIZE, read_full};
-use showing::titles::{end_of, text_of, title_of};
+use showing::titles::{Texts, Titled};
 use std::io;
 use texts::show_text;
 
-// There is space for twelve arcs and two words. Before the first network no arcs are counted.
-fn show_all(rt: &impl Print, text: &[u8]) -> io::Result<()> {
-    let mut arcs = [0u32; 50];
-    let mut counts = Counts {
-        states: 0,
-        metastates: 0,
-        arcs: 0,
+// The network last read, in space for twelve arcs and two words of 32 bits.
+#[derive(Clone, Copy)]
+struct Network {
+    counts: Counts,
+    arcs: [u32; 50],
+}
+
+// A word book that was read, in a table for four words and three words of 32 bits.
+#[derive(Clone, Copy)]
+struct Book {
+    count: usize,
+    words: [u32; 263],
+}
+
+// The counts before the first network, and where one is refused.
+const NO_COUNTS: Counts = Counts {
+    states: 0,
+    metastates: 0,
+    arcs: 0,
+};
+
+fn show_all(rt: &impl Print, input: &[u8]) -> io::Result<()> {
+    let mut network = Network {
+        counts: NO_COUNTS,
+        arcs: [0; 50],
     };
-    let mut at = 1;
-    while at < text.len() {
-        let rest = &text[at..];
-        counts = show_text(rt, title_of(rest), text_of(rest), counts, &mut arcs)?;
-        at += end_of(rest) + 1;
+    for Titled { title, text } in Texts(input.get(1..).unwrap_or(&[])) {
+        show_text(rt, title, text, &mut network)?;
     }
     Ok(())
 }
 
 fn main(rt: HostRuntime) -> io::Result<()> {
-    let mut text = [0u8; INPUT_SIZE];
-    let got = read_full(&mut rt.stdin(), &mut text)?;
-    show_all(&rt, &text[..got])
+    let mut input = [0u8; INPUT_SIZE];
+    let got = read_full(&mut rt.stdin(), &mut input)?;
+    show_all(&rt, &input[..got])
 }

@@ -2,7 +2,7 @@
 ghost use Rattle.definitions.specs.Joining.{moves_along};
 ghost use Rattle.marks.specs.Lexicon.{spelled};
 ghost use Rattle.marks.specs.Wanting.{mark_of, Leads};
-ghost use Rattle.joined.specs.Joins.{Left};
+ghost use Rattle.joined.specs.Joins.{Left, Holding};
 ghost use Rattle.moves.specs.Moving.{hop_arc, moved, Follows};
 
 use crate::moving::move_into;
@@ -21,9 +21,10 @@ pub fn follow(
     wanted: Wanted,
 ) -> Result<(), Fault>
     requires { Follows hop known join.old × Leads (spelled known.words.now) mark.word mark.mark wanted }
-    ensures { Left join.old
+    ensures left { Left join.old
         (moved join.old hop.from (moves_along (spelled known.entry.words.now) (mark_of mark) (hop_arc hop)))
         result join.new }
+    ensures same { Holding join.old join.new }
 {
     if hop.arc.phone == 0 {
         return move_into(join, hop, mark, 0);

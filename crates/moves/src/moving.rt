@@ -2,7 +2,7 @@
 ghost use Rattle.std.specs.Prelude.{not, [], ◌∷◌, ◌≡◌};
 ghost use Rattle.definitions.specs.Joining.{step, joined, may_enter, move_by};
 ghost use Rattle.marks.specs.Wanting.{mark_of};
-ghost use Rattle.joined.specs.Joins.{Grows, Left};
+ghost use Rattle.joined.specs.Joins.{Grows, Left, Holding};
 ghost use Rattle.moves.specs.Moving.{hop_arc, moved, allowed};
 
 use crate::Hop;
@@ -20,9 +20,10 @@ fn is_barred(to: u32, mark: Mark) -> bool
 // Enters the joined state that an arc and a mark lead to, where it may be entered.
 pub fn move_into(join: &mut Join, hop: Hop, mark: Mark, label: u32) -> Result<(), Fault>
     requires { Grows join.old }
-    ensures { Left join.old
+    ensures left { Left join.old
         (moved join.old hop.from (allowed (move_by (hop_arc hop) (step label (mark_of mark)) ∷ [])))
         result join.new }
+    ensures same { Holding join.old join.new }
 {
     if is_barred(hop.arc.to, mark) {
         return Ok(());

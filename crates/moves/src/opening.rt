@@ -2,7 +2,7 @@
 ghost use Rattle.std.specs.Prelude.{map};
 ghost use Rattle.definitions.specs.Joining.{◌⊚◌, move_by, moves_along};
 ghost use Rattle.marks.specs.Lexicon.{spelled};
-ghost use Rattle.joined.specs.Joins.{Left};
+ghost use Rattle.joined.specs.Joins.{Left, Holding};
 ghost use Rattle.moves.specs.Moving.{hop_arc, moved, allowed, openings, Follows, Opens};
 
 use crate::moving::move_into;
@@ -15,10 +15,11 @@ use marks::{BETWEEN, CLOSED};
 // The words that begin with the phone of an arc, along the index, in whose lent words 0 ends a chain.
 fn open_words(join: &mut Join, known: Vocabulary, hop: Hop) -> Result<(), Fault>
     requires { Opens hop known join.old }
-    ensures { Left join.old
+    ensures left { Left join.old
         (moved join.old hop.from
         (allowed (map (move_by (hop_arc hop)) (openings (spelled known.entry.words.now) hop.arc.phone 1))))
         result join.new }
+    ensures same { Holding join.old join.new }
 {
     let index = known.index;
     let mut word = index[wide(hop.arc.phone) - 1];
@@ -32,9 +33,10 @@ fn open_words(join: &mut Join, known: Vocabulary, hop: Hop) -> Result<(), Fault>
 // All moves along an arc from between words.
 pub fn follow_between(join: &mut Join, known: Vocabulary, hop: Hop) -> Result<(), Fault>
     requires { Follows hop known join.old }
-    ensures { Left join.old
+    ensures left { Left join.old
         (moved join.old hop.from (moves_along (spelled known.entry.words.now) (0 ⊚ 1) (hop_arc hop)))
         result join.new }
+    ensures same { Holding join.old join.new }
 {
     if hop.arc.phone == 0 {
         return move_into(join, hop, BETWEEN, 0);

@@ -1,25 +1,23 @@
 -- Laws about one turn: the moves from a joined state are those along the arcs of its network state, and each arc that
 -- is followed takes its part of them.
-use Rattle.std.specs.Prelude.{◌≡◌, refl, List, [], ◌∷◌, map, ℕ, ◌+◌, ◌*◌, ◌/◌, ◌≤◌, ◌<◌, T, leb, length}
+use Rattle.std.specs.Prelude.{◌≡◌, refl, List, [], ◌∷◌, map, ℕ, ◌+◌, ◌*◌, ◌/◌, ◌≤◌, ◌<◌, T, leb, length, Result, Ok, Err}
 use Rattle.std.proofs.Math.Path.{sym, ap}
 use Rattle.std.proofs.Common.{◌∙◌, subst, arith, leb→le}
 use Rattle.std.proofs.Math.ListN.{get_or}
 use Rattle.definitions.specs.declared.Fault.{Fault}
 use Rattle.definitions.specs.Faults.{Outcome, and_then}
 use Rattle.definitions.specs.Lists.{◌!◌, concat_map}
-use Rattle.definitions.specs.Arcs.{Arc, arc, arc_size, arc_of}
+use Rattle.definitions.specs.Arcs.{Arc, arc_size, arc_of}
 use Rattle.definitions.specs.Growing.{Grown, enter, Room, perform, perform_all, expand}
 use Rattle.definitions.specs.Joining.{◌⊚◌, Joined, joined, joined_size, Move, moves_along, moves, joining}
 use Rattle.definitions.proofs.Laws.Lists.Members.{in-at, in-every}
 use Rattle.definitions.proofs.Laws.Lists.Records.{read_at}
 use Rattle.definitions.proofs.Laws.Networks.KnownNetworks.{arcs-length}
 use Rattle.arcs.specs.Whole.{all_arcs, arc_at}
-use Rattle.arcs.specs.Laws.KnownArcs.{arc-at, arc-words-at}
+use Rattle.arcs.specs.Laws.KnownArcs.{arc-at}
 use Rattle.arcs.specs.Below.{below}
 use Rattle.arcs.specs.Laws.Leaving.{below-within, own-after}
 use Rattle.growing.specs.declared.Sizes.{Sizes}
-use Rattle.growing.specs.declared.Step.{Step}
-use Rattle.growing.specs.declared.Step.TheVariants as answer
 use Rattle.growing.specs.Laws.Going.{going_start, going_done, going_more, going-stop}
 use Rattle.marks.specs.Lexicon.{spelled}
 use Rattle.marks.specs.Wanting.{Leads}
@@ -33,7 +31,7 @@ use Rattle.moves.specs.Skipping.{moves_from, AfterSources, Skipped}
 use Rattle.moves.specs.Laws.Opening.{moved_in, moved-parts}
 use Rattle.moves.specs.Laws.Between.{left_by}
 use Rattle.moves.specs.Laws.Skipping.{moves-here, moves-end}
-use Rattle.joining.specs.Turns.{join_machine, HopAt, Expandable, expanded_at}
+use Rattle.joining.specs.Turns.{join_machine, Expandable, expanded_at}
 
 -- ---- the definition's turn
 
@@ -44,22 +42,6 @@ unfolding perform_all perform joining
 entering-any arcs words room from [] net = refl
 entering-any arcs words room from (m ∷ l) net =
     ap (and_then (perform entering room net (enter from m))) (λ i next. entering-any arcs words room from l next i)
-
--- the arc at a place, as one to follow
-pub hop-there : (arcs : List ℕ) (at from : ℕ) {to model phone : ℕ} → to ≡ arcs ! (arc_size * at + 1)
-    → model ≡ arcs ! (arc_size * at + 2) → phone ≡ arcs ! (arc_size * at + 3)
-    → HopAt arcs at from (record { from = from; to = to; model = model; phone = phone })
-unfolding moves_along
-hop-there arcs at from e f g =
-    let source : ℕ = arcs ! (arc_size * at) in
-    let there : arc_at arcs at ≡ arc source _ _ _ = arc-words-at arcs at in
-    let own : arc source _ _ _ ≡ arc_at arcs at =
-    (λ i. arc source (e i) (f i) (g i)) ∙ sym there in
-    record {
-      source = refl;
-      phone = ap (λ (a : Arc). a.phone) own;
-      moves = λ words word mark. ap (moves_along words (word ⊚ mark)) own;
-    }
 
 -- the arcs before one are followed
 pub record Expanding (arcs words : List ℕ) (sizes : Sizes) (states₀ joined₀ chains₀ : List ℕ)
@@ -135,7 +117,7 @@ module _ {arcs starts words index : List ℕ} {sizes : Sizes} {states₀ joined�
           (p : Expanding arcs words sizes states₀ joined₀ chains₀ place state word mark states joined chains now at)
         where
           pub expanding-done : length arcs / arc_size ≤ at
-              → StepLeft states₀ joined₀ chains₀ (expanded_at arcs words states₀ joined₀ sizes place) (answer.Next now)
+              → StepLeft states₀ joined₀ chains₀ (expanded_at arcs words states₀ joined₀ sizes place) (Ok now)
               states joined chains
           unfolding perform_all
           expanding-done h =
@@ -160,17 +142,17 @@ module _ {arcs starts words index : List ℕ} {sizes : Sizes} {states₀ joined�
                 (get_or (all_arcs arcs) at (arc_of [])) (in-at (all_arcs arcs) at (arc_of []) there) in
                 leb→le _ 64 (subst (λ a. T (leb a.phone 64)) (arc-at count arcs at l) small)
 
-            module _ {hop : Hop} (h : HopAt arcs at place hop) where
+            module _ (hop : Hop) (f : hop.from ≡ place) (h : hop_arc hop ≡ arc_at arcs at) where
               pub expanding-asks : Followable hop words index now states joined chains
               expanding-asks =
                   record {
                     lexicon = e.turnable.lexicon;
                     opened = e.turnable.opened;
                     underway = going_on p.going;
-                    phone = omega (arith, h.phone, few-phones);
+                    phone = omega (arith, ap (λ (a : Arc). a.phone) h, few-phones);
                   }
 
-              module _ {r : Step} {states' joined' chains' : List ℕ}
+              module _ {r : Result Sizes Fault} {states' joined' chains' : List ℕ}
                   (left : StepLeft states joined chains
                   (moved_all states joined now hop.from (moves_along (spelled words) (word ⊚ mark) (hop_arc hop))) r
                   states' joined' chains') where
@@ -179,10 +161,10 @@ module _ {arcs starts words index : List ℕ} {sizes : Sizes} {states₀ joined�
 
                 here : StepLeft states joined chains (moved_all states joined now place along) r states' joined' chains'
                 here =
-                    left_by now place (h.moves (spelled words) word mark)
+                    left_by now place (ap (moves_along (spelled words) (word ⊚ mark)) h)
                     (subst (λ (n : ℕ). StepLeft states joined chains
                     (moved_all states joined now n (moves_along (spelled words) (word ⊚ mark) (hop_arc hop))) r
-                    states' joined' chains') h.source left)
+                    states' joined' chains') f left)
 
                 both : moved_in (room_of states₀ joined₀) place (rest at) (held now states joined)
                     ≡ and_then (moved_in (room_of states₀ joined₀) place along (held now states joined))
@@ -192,7 +174,7 @@ module _ {arcs starts words index : List ℕ} {sizes : Sizes} {states₀ joined�
                     (moves-here arcs at l (spelled words) (word ⊚ mark) (p.own l))
                     ∙ moved-parts (room_of states₀ joined₀) place (held now states joined) along (rest (at + 1))
 
-                pub expanding-more : {next : Sizes} → r ≡ answer.Next next → {to : ℕ}
+                pub expanding-more : {next : Sizes} → r ≡ Ok next → {to : ℕ}
                     → Skipped arcs state wanted (at + 1) to
                     → Expanding arcs words sizes states₀ joined₀ chains₀ place state word mark states' joined' chains'
                     next to
@@ -207,9 +189,9 @@ module _ {arcs starts words index : List ℕ} {sizes : Sizes} {states₀ joined�
                       (moved_in (room_of states₀ joined₀) place l)) (skipped.same (spelled words) word mark leads)) a;
                 }
 
-                pub expanding-stop : {fault : Fault} → r ≡ answer.Stop fault
+                pub expanding-stop : {fault : Fault} → r ≡ Err fault
                     → StepLeft states₀ joined₀ chains₀ (expanded_at arcs words states₀ joined₀ sizes place)
-                    (answer.Stop fault) states' joined' chains'
+                    (Err fault) states' joined' chains'
                 expanding-stop a =
                     going-stop p.going (moved_in (room_of states₀ joined₀) place (rest (at + 1)))
                     (step_in p.going (λ room. moved_in room place along (held now states joined)) here) both a

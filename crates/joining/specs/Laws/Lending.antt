@@ -1,6 +1,6 @@
 -- Laws about what is lent to a join: known arcs and words, cut to what their counts say, are what the join is of; and
 -- each refusal is the definition's.
-use Rattle.std.specs.Prelude.{◌≡◌, true, false, ℕ, ◌*◌, ◌/◌, ◌≤◌, ◌<◌, T, leb, length, take}
+use Rattle.std.specs.Prelude.{◌≡◌, true, false, ℕ, ◌*◌, ◌/◌, ◌≤◌, ◌<◌, T, leb, length, take, Result, Ok, Err}
 use Rattle.std.proofs.Math.Path.{sym, ap}
 use Rattle.std.proofs.Common.{ap₂, ◌∙◌, subst, arith, le→leb, length-take-le}
 use mathlib.Core.List.{List, [], ◌∷◌, map}
@@ -14,6 +14,7 @@ use Rattle.definitions.specs.Lists.{every, records}
 use Rattle.definitions.specs.Arcs.{Arc, arc_size, arcs_in}
 use Rattle.definitions.specs.NetworkText.{arc_known, never_descending, network_known}
 use Rattle.definitions.specs.WordBooks.{word_size, word_in, words_in, word_known, words_known}
+use Rattle.definitions.specs.Said.{result_of}
 use Rattle.definitions.specs.Growing.{Grown}
 use Rattle.definitions.specs.Joining.{Joined, join, join_in, join_room}
 use Rattle.definitions.proofs.Laws.Lists.Members.{every-weaker}
@@ -27,16 +28,13 @@ use Rattle.definitions.proofs.Laws.Words.WordTables as words
 use Rattle.arcs.specs.Whole.{all_arcs}
 use Rattle.arcs.specs.Laws.KnownArcs.{known-length, known-arcs}
 use Rattle.growing.specs.declared.Sizes.{Sizes}
-use Rattle.growing.specs.declared.Step.{Step}
-use Rattle.growing.specs.declared.Step.TheVariants as step
 use Rattle.growing.specs.Laws.Steps.{step-next, step-stop}
 use Rattle.marks.specs.Lexicon.{spelled, Lexicon}
 use Rattle.joined.specs.States.{room_of}
 use Rattle.joined.specs.Laws.Entering.{state_room}
-use Rattle.joining.specs.declared.Answer.TheVariants as joining
 use Rattle.joining.specs.Turns.{Followed}
 use Rattle.joining.specs.Beginning.{Cleared, Startable, JoinLeft}
-use Rattle.joining.specs.Answers.{space_of, joining_of, JoinHeld}
+use Rattle.joining.specs.Answers.{space_of, counts_of, JoinHeld}
 
 -- ---- arcs
 
@@ -120,10 +118,10 @@ module _ (counts : Counts) (arcs : List ℕ) (count : ℕ) (words states joined 
       }
 
   pub refusal-answer : {fault : Fault} → join counts arcs count words (space_of states joined) ≡ refuse fault 0
-      → joining.Refused (record { fault = fault; line = 0 })
-      ≡ joining_of (join counts arcs count words (space_of states joined))
-  unfolding joining_of
-  refusal-answer e = ap joining_of (sym e)
+      → Err (record { fault = fault; line = 0 })
+      ≡ result_of counts_of (join counts arcs count words (space_of states joined))
+  unfolding result_of
+  refusal-answer e = ap (result_of counts_of) (sym e)
 
   pub foreign-arcs : network_known counts arcs ≡ false
       → join counts arcs count words (space_of states joined) ≡ refuse Foreign 0
@@ -167,7 +165,7 @@ module _ (counts : Counts) (arcs : List ℕ) (count : ℕ) (words states joined 
             (ap₂ (λ (l : List Arc) (w : List (List ℕ)). join_in l w (room_of states joined))
             (known-arcs counts arcs e h) (words-spelled count words k))
 
-        module _ {r : Step} {states' joined' : List ℕ}
+        module _ {r : Result Sizes Fault} {states' joined' : List ℕ}
             (left : JoinLeft (take (arc_size * n) arcs) (take (word_size * count) words) states joined r states' joined')
           where
             pub join-held : JoinHeld counts arcs count words states joined states' joined'
@@ -178,22 +176,22 @@ module _ (counts : Counts) (arcs : List ℕ) (count : ℕ) (words states joined 
                   holds = λ net f. left.holds net (joins ∙ f);
                 }
 
-            pub join-answered : {sizes : Sizes} → r ≡ step.Next sizes
-                → joining.Joined (record { states = sizes.table; arcs = sizes.arcs })
-                ≡ joining_of (join counts arcs count words (space_of states joined))
-            unfolding joining_of
+            pub join-answered : {sizes : Sizes} → r ≡ Ok sizes
+                → Ok (record { states = sizes.table; arcs = sizes.arcs })
+                ≡ result_of counts_of (join counts arcs count words (space_of states joined))
+            unfolding result_of
             join-answered {sizes} a =
                 let (net, is, same) = step-next _ sizes (sym a ∙ left.answers) in
-                ap (λ (s : Sizes). joining.Joined (record { states = s.table; arcs = s.arcs })) (sym same)
-                ∙ ap joining_of (sym (sym joins ∙ is))
+                ap (λ (s : Sizes). Ok (record { states = s.table; arcs = s.arcs })) (sym same)
+                ∙ ap (result_of counts_of) (sym (sym joins ∙ is))
 
-            pub join-refused : {fault : Fault} → r ≡ step.Stop fault
-                → joining.Refused (record { fault = fault; line = 0 })
-                ≡ joining_of (join counts arcs count words (space_of states joined))
-            unfolding joining_of
+            pub join-refused : {fault : Fault} → r ≡ Err fault
+                → Err (record { fault = fault; line = 0 })
+                ≡ result_of counts_of (join counts arcs count words (space_of states joined))
+            unfolding result_of
             join-refused {fault} a =
                 let (refusal, is, same) = step-stop _ fault (sym a ∙ left.answers) in
                 let none : refusal.line ≡ 0 =
                 join-line (all_arcs cut) (spelled table) (room_of states joined) refusal is in
-                sym (λ i. joining.Refused (record { fault = same i; line = none i }))
-                ∙ ap joining_of (sym (sym joins ∙ is))
+                sym (λ i. Err (record { fault = same i; line = none i }))
+                ∙ ap (result_of counts_of) (sym (sym joins ∙ is))

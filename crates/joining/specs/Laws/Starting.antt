@@ -1,7 +1,7 @@
 -- Laws about a whole join: from the first two states all turns are taken, and what the words hold then is what the
 -- definition leaves.
-use Rattle.std.specs.Prelude.{◌≡◌, List, ℕ, ◌+◌, ◌/◌, ◌≤◌, ◌<◌}
-use Rattle.std.proofs.Common.{sym, ap₂, ◌∙◌, arith, le-leb}
+use Rattle.std.specs.Prelude.{◌≡◌, List, ℕ, ◌+◌, ◌/◌, ◌≤◌, ◌<◌, Result}
+use Rattle.std.proofs.Common.{sym, ap₂, ◌∙◌, arith, le-leb, subst}
 use Rattle.std.proofs.Math.Path.{ap}
 use Rattle.std.proofs.Math.ListN.{length}
 use Rattle.std.proofs.lemmas.List.{length-replicate}
@@ -10,16 +10,14 @@ use Rattle.definitions.specs.Lists.{cleared, concat_map, padded}
 use Rattle.definitions.specs.Arcs.{arc_words}
 use Rattle.definitions.specs.Growing.{begun, perform_all, grow}
 use Rattle.definitions.specs.Joining.{joined_words, joining, join_in, join_room, join_left}
+use Rattle.definitions.specs.declared.Fault.{Fault}
 use Rattle.growing.specs.declared.Sizes.{Sizes}
-use Rattle.growing.specs.declared.Step.{Step}
 use Rattle.growing.specs.Steps.{step_of}
-use Rattle.arcs.specs.Below.{Started}
 use Rattle.arcs.specs.Whole.{all_arcs}
 use Rattle.marks.specs.Lexicon.{spelled}
-use Rattle.marks.specs.Openings.{Opened}
 use Rattle.marks.specs.Laws.Lexicon.{spelled-length}
 use Rattle.joined.specs.States.{room_of, entering, StepLeft}
-use Rattle.joining.specs.Turns.{join_machine, Turnable, all_turns, turned_all}
+use Rattle.joining.specs.Turns.{join_machine, all_turns, turned_all}
 use Rattle.joining.specs.Beginning.{Startable, Chainable, Begun, JoinLeft}
 
 -- cleared chains of a size are enough where there are more heads than room
@@ -45,17 +43,6 @@ module _ {arcs words states joined chains states₁ chains₁ : List ℕ} (s : S
   abbrev two : Sizes
   two = record { table = 2; arcs = 0 }
 
-  pub start-turns : {starts index : List ℕ} → Started arcs starts → Opened (spelled words) index
-      → Turnable arcs starts words index (record { table = 2; arcs = 0 }) states₁ joined chains₁
-  start-turns started opened =
-      record {
-        followed = s.followed;
-        started = started;
-        lexicon = s.lexicon;
-        opened = opened;
-        underway = b.underway joined s.joined_cleared;
-      }
-
   same-room : room_of states joined ≡ room_of states₁ joined
   same-room = ap (λ (n : ℕ). join_room (record { states = n; arcs = length joined })) (sym b.states_sized)
 
@@ -71,7 +58,7 @@ module _ {arcs words states joined chains states₁ chains₁ : List ℕ} (s : S
       ∙ ap₂ (λ room net. all_turns (join_machine arcs words) room room.table 0 net) same-room
       (sym (b.first joined s.joined_cleared))
 
-  pub join-left : {r : Step} {states' joined' chains' : List ℕ}
+  pub join-left : {r : Result Sizes Fault} {states' joined' chains' : List ℕ}
       → StepLeft states₁ joined chains₁
       (turned_all arcs words states₁ joined (record { table = 2; arcs = 0 })) r states' joined' chains'
       → JoinLeft arcs words states joined r states' joined'
@@ -88,3 +75,12 @@ module _ {arcs words states joined chains states₁ chains₁ : List ℕ} (s : S
         states_sized = sized;
         joined_sized = left.arcs-sized;
       }
+
+-- the same of the words as the lender finds them, and of an answer that is the same
+pub join-found : {arcs words states joined states' joined' found also : List ℕ} {r answer : Result Sizes Fault}
+    → JoinLeft arcs words states joined r states' joined' → r ≡ answer → states' ≡ found
+    → joined' ≡ also → JoinLeft arcs words states joined answer found also
+join-found {arcs} {words} {states} {joined} {states'} {joined'} {found} {also} {r} left e s j =
+    subst (λ answer. JoinLeft arcs words states joined answer found also) e
+    (subst (λ k. JoinLeft arcs words states joined r found k) j
+    (subst (λ k. JoinLeft arcs words states joined r k joined') s left))

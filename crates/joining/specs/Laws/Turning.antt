@@ -1,6 +1,6 @@
 -- Laws about the turns of a join: each takes the oldest state that is not expanded, and when none is left all is done.
 -- There is a turn for each state that has room, so the turns suffice.
-use Rattle.std.specs.Prelude.{◌≡◌, List, ℕ, suc, ◌+◌, ◌-◌, ◌≤◌, ◌<◌, length}
+use Rattle.std.specs.Prelude.{◌≡◌, List, ℕ, suc, ◌+◌, ◌-◌, ◌≤◌, ◌<◌, length, Result, Ok, Err}
 use Rattle.std.proofs.Math.Path.{refl, ap}
 use Rattle.std.proofs.Common.{sym, ◌∙◌, add-one, arith}
 use Rattle.definitions.specs.declared.Fault.{Fault}
@@ -8,8 +8,6 @@ use Rattle.definitions.specs.Faults.{Outcome, answered, refused, and_then}
 use Rattle.definitions.specs.Growing.{Grown, Machine, Room, Done, grown_in, expand, turns_from}
 use Rattle.definitions.specs.Joining.{Joined, Move}
 use Rattle.growing.specs.declared.Sizes.{Sizes}
-use Rattle.growing.specs.declared.Step.{Step}
-use Rattle.growing.specs.declared.Step.TheVariants as answer
 use Rattle.growing.specs.Laws.Going.{going_start, going_done, going_more, going-stop}
 use Rattle.growing.specs.Laws.Steps.{held-sizes}
 use Rattle.growing.specs.Laws.Turning.{none_left, one-turn}
@@ -73,7 +71,7 @@ module _ {arcs starts words index : List ℕ} {sizes : Sizes} {states₀ joined�
     counted = ap (λ (s : Sizes). s.table) (held-sizes joined_code now states joined)
 
     pub turning-done : now.table ≤ turns
-        → StepLeft states₀ joined₀ chains₀ (turned_all arcs words states₀ joined₀ sizes) (answer.Next now)
+        → StepLeft states₀ joined₀ chains₀ (turned_all arcs words states₀ joined₀ sizes) (Ok now)
         states joined chains
     turning-done h =
         going_done p.going
@@ -97,7 +95,7 @@ module _ {arcs starts words index : List ℕ} {sizes : Sizes} {states₀ joined�
       pub turning-within : turns < (room_of states₀ joined₀).table
       turning-within = omega (arith, l, counted, p.going.underway.kept.table-room)
 
-      module _ {r : Step} {states' joined' chains' : List ℕ}
+      module _ {r : Result Sizes Fault} {states' joined' chains' : List ℕ}
           (left : StepLeft states joined chains (expanded_at arcs words states joined now turns) r
           states' joined' chains') where
         parts : all_turns machine room (room.table - turns) turns (held now states joined)
@@ -109,7 +107,7 @@ module _ {arcs starts words index : List ℕ} {sizes : Sizes} {states₀ joined�
             ∙ next-turn machine room (room.table - (turns + 1)) turns (held now states joined)
             (omega (arith, l, counted))
 
-        pub turning-more : {next : Sizes} → r ≡ answer.Next next
+        pub turning-more : {next : Sizes} → r ≡ Ok next
             → Turning arcs words sizes states₀ joined₀ chains₀ states' joined' chains' next (turns + 1)
         turning-more a =
             record {
@@ -122,8 +120,8 @@ module _ {arcs starts words index : List ℕ} {sizes : Sizes} {states₀ joined�
                   (all_turns machine room (room.table - (turns + 1)) n)) (sym (add-one turns))) a;
             }
 
-        pub turning-stop : {fault : Fault} → r ≡ answer.Stop fault
-            → StepLeft states₀ joined₀ chains₀ (turned_all arcs words states₀ joined₀ sizes) (answer.Stop fault)
+        pub turning-stop : {fault : Fault} → r ≡ Err fault
+            → StepLeft states₀ joined₀ chains₀ (turned_all arcs words states₀ joined₀ sizes) (Err fault)
             states' joined' chains'
         turning-stop a =
             going-stop p.going (all_turns machine room (room.table - (turns + 1)) (suc turns))

@@ -27,15 +27,15 @@ add_arc-requires c =
     let a = c.args in
     (joined-arcs c.requires, joined-place c.requires a.from (joined_of a.target) a.model a.label c.find.ensures c.in-Some.is)
 
-pub returns-in-Some : goal.returns-in-Some
-returns-in-Some c =
+pub returns-in-Some-clause-left : goal.returns-in-Some-clause-left
+returns-in-Some-clause-left c =
     let a = c.args in
-    let e = c.add_arc.ensures in
+    let e = c.add_arc.ensures.added in
     rw (e.states_stay, e.chains_stay)
     (joined-known c.requires a.from (joined_of a.target) a.model a.label c.find.ensures c.in-Some.is e.added)
 
-pub returns-then-state_room-place : goal.returns-then-state_room-place
-returns-then-state_room-place c =
+pub returns-then-state_room-place-clause-left : goal.returns-then-state_room-place-clause-left
+returns-then-state_room-place-clause-left c =
     let a = c.args in
     let full : state_room a.self.now.states.now ≤ a.self.now.sizes.table =
     omega (arith, c.if-state_room-place.true, c.state_room.ensures) in
@@ -50,10 +50,10 @@ add_arc-requires-in-None c =
     let room = free (goal.at.add_arc-requires-in-None c).Else-state_room-place in
     (joined-arcs c.requires, omega (arith, room))
 
-pub returns-else-state_room-place : goal.returns-else-state_room-place
-returns-else-state_room-place c =
+pub returns-else-state_room-place-clause-left : goal.returns-else-state_room-place-clause-left
+returns-else-state_room-place-clause-left c =
     let a = c.args in
-    let e = c.add_arc-in-None.ensures in
+    let e = c.add_arc-in-None.ensures.added in
     rw (e.states_stay, e.chains_stay)
     (joined-new c.requires a.from (joined_of a.target) a.model a.label c.find.ensures c.in-None.is
-    (free (goal.at.returns-else-state_room-place c).Else-state_room-place) c.add_joined.ensures e.added)
+    (free (goal.at.returns-else-state_room-place-clause-left c).Else-state_room-place) c.add_joined.ensures e.added)

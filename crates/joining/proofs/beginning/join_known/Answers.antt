@@ -10,7 +10,7 @@ unfolding join_room
 join_with-requires c =
     (c.requires, cleared-chains c.requires 8192 (omega (arith, c.if-state_room-lt-FEW.true, c.state_room.ensures)))
 
-pub join_with-requires-2 : goal.join_with-requires-2
+pub join_with-requires-else-state_room-lt-FEW : goal.join_with-requires-else-state_room-lt-FEW
 unfolding join_room
-join_with-requires-2 c =
+join_with-requires-else-state_room-lt-FEW c =
     (c.requires, cleared-chains c.requires 131072 (omega arith))

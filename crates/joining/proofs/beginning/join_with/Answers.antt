@@ -1,25 +1,22 @@
 -- `beginning::join_with` meets its contract.
-use mathlib.Core.Path.{refl, sym}
-use lib.Seq.{length-take-le}
-use Rattle.joining.specs.Laws.Starting.{index-room, start-turns, join-left}
+use Rattle.std.proofs.Common.{refl, ap, rules}
+use Rattle.std.proofs.lemmas.Result.{err_from_is_err_and}
+use Rattle.joined.specs.Joins.{stepped}
+use Rattle.joining.specs.Laws.Starting.{index-room, join-left, join-found}
 use Rattle.joining.proofs.beginning.join_with.Goals as goal
-
-pub fill_starts-placed-requires : goal.fill_starts-placed-requires
-fill_starts-placed-requires c =
-    (c.requires.0.followed.ordered, c.requires.0.followed.few)
 
 pub fill_index-requires : goal.fill_index-requires
 fill_index-requires c =
     (c.requires.0.lexicon, refl, index-room c.requires.0)
 
-pub slice_bounds-take_turns-end-2 : goal.slice_bounds-take_turns-end-2
-slice_bounds-take_turns-end-2 c =
-    sym (length-take-le _ _ c.fill_starts-placed.ensures.0)
-
-pub take_turns-requires : goal.take_turns-requires
-take_turns-requires c =
-    start-turns c.requires.0 c.begin.ensures c.fill_starts-placed.ensures.1 c.fill_index.ensures
+pub returns-in_err-take_turns : goal.returns-in_err-take_turns
+returns-in_err-take_turns c =
+    let p = err_from_is_err_and c.from_residual.result c.from_residual.ensures.1 in
+    let e = ap (λ r. stepped r c.take_turns.new.join.sizes) c.in_err-take_turns.was in
+    rw (p.1, p.2)
+    (join-found (join-left c.requires.0 c.begin.ensures c.take_turns.ensures.left) e (search rules) (search rules))
 
 pub returns : goal.returns
 returns c =
-    join-left c.requires.0 c.begin.ensures c.take_turns.ensures
+    join-found (join-left c.requires.0 c.begin.ensures c.take_turns.ensures.left)
+    (ap (λ r. stepped r c.take_turns.new.join.sizes) c.in_ok-take_turns.was) (search rules) (search rules)

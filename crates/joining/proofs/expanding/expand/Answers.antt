@@ -1,66 +1,67 @@
 -- `expanding::expand` meets its contract. The loop's invariant: the arcs of the state before `at` are followed.
-use mathlib.Core.Path.{◌≡◌, ap, ◌∙◌}
-use Prim.Native.Nat.{ℕ}
-use native.Mathlib.Omega.{arith}
+use Rattle.std.proofs.Common.{◌≡◌, refl, ap, ◌∙◌, arith, rules, ℕ}
+use Rattle.std.proofs.lemmas.Result.{err_from_is_err_and}
 use Rattle.arcs.specs.Whole.{all_arcs}
 use Rattle.arcs.specs.Below.{below}
+use Rattle.joined.specs.Joins.{stepped}
 use Rattle.joined.specs.Laws.Entering.{joined-few}
+use Rattle.moves.specs.declared.Hop.{Hop}
 use Rattle.joining.specs.Laws.Expanding.{expand-row, sources-after, expanding-start, expanding-done}
 use Rattle.joining.specs.Laws.Expanding.{expanding-next, expanding-asks, expanding-more, expanding-stop}
-use borrow.Author.Rules.{rules}
 use Rattle.joining.proofs.expanding.expand.Goals as goal
-use Rattle.joining.proofs.expanding.expand.Goals.{After-arcs_before, In-loop-at, Start}
+use Rattle.joining.proofs.expanding.expand.Goals.{After-arcs_before-first, After-arc_at}
 
 -- the source of the first arc
-first_is : (c : goal.After-arcs_before)
-    → c.arcs_before.result
-    ≡ below c.joined_at-x.result.state
-    (all_arcs c.args.arcs.now)
+first_is : (c : goal.After-arcs_before-first)
+    → c.arcs_before-first.result ≡ below c.state_at-x.result.state (all_arcs c.args.network.arcs.now)
 first_is c =
-    let arcs = c.args.arcs.now in
-    c.arcs_before.ensures ∙ ap (λ (n : ℕ). below n (all_arcs arcs)) c.wide.ensures
+    c.arcs_before-first.ensures ∙ ap (λ (n : ℕ). below n (all_arcs c.args.network.arcs.now)) c.wide.ensures
 
-pub joined_at-x-requires : goal.joined_at-x-requires
-joined_at-x-requires c = expand-row c.requires
+-- the arc that is followed
+abbrev hop : goal.After-arc_at → Hop
+hop c = record { from = c.args.place; arc = c.arc_at.result }
+
+pub state_at-x-requires : goal.state_at-x-requires
+state_at-x-requires c = expand-row c.requires
 
 pub wanted-wants-requires : goal.wanted-wants-requires
 wanted-wants-requires c = c.requires.turnable.lexicon
 
-pub arcs_before-requires : goal.arcs_before-requires
-arcs_before-requires c =
+pub arcs_before-first-requires : goal.arcs_before-first-requires
+arcs_before-first-requires c =
     let pre = c.requires in (pre.turnable.followed.ordered, pre.turnable.started)
 
 pub next_arc-at-requires : goal.next_arc-at-requires
 next_arc-at-requires c =
-    sources-after c.requires c.joined_at-x.ensures (first_is (goal.at.next_arc-at-requires c).After-arcs_before)
+    sources-after c.requires c.state_at-x.ensures (first_is (goal.at.next_arc-at-requires c).After-arcs_before-first)
 
 pub loop-at-init : goal.loop-at-init
-loop-at-init c =
-    expanding-start c.requires c.joined_at-x.ensures c.wanted-wants.ensures
-    (first_is (goal.at.loop-at-init c).After-arcs_before) c.next_arc-at.ensures
+loop-at-init c = (
+  expanding-start c.requires c.state_at-x.ensures c.wanted-wants.ensures
+      (first_is (goal.at.loop-at-init c).After-arcs_before-first) c.next_arc-at.ensures,
+  (refl, refl),
+)
 
-pub overflow_cast-place : goal.overflow_cast-place
-overflow_cast-place c =
+pub overflow_cast-hop : goal.overflow_cast-hop
+overflow_cast-hop c =
     let few = joined-few c.requires.turnable.underway in
     let listed = c.requires.listed in
     search rules
 
-pub hop_at-hop-requires : goal.hop_at-hop-requires
-hop_at-hop-requires c = c.loop-at-test.true
-
-pub follow-step-requires : goal.follow-step-requires
-follow-step-requires c = (
-  expanding-asks c.requires c.joined_at-x.ensures c.wanted-wants.ensures
-      c.loop-at.invariant c.loop-at-test.true
-      c.hop_at-hop.ensures,
+pub follow-requires : goal.follow-requires
+follow-requires c = (
+  expanding-asks c.requires c.state_at-x.ensures c.wanted-wants.ensures
+      c.loop-at.invariant.0 c.loop-at-test.true (hop (goal.at.follow-requires c).After-arc_at) refl c.arc_at.ensures,
   c.wanted-wants.ensures,
 )
 
-pub returns-in-Stop : goal.returns-in-Stop
-returns-in-Stop c =
-    expanding-stop c.requires c.joined_at-x.ensures c.wanted-wants.ensures
-    c.loop-at.invariant c.loop-at-test.true
-    c.hop_at-hop.ensures c.follow-step.ensures c.in-Stop.is
+pub returns-in_err-follow-clause-left : goal.returns-in_err-follow-clause-left
+returns-in_err-follow-clause-left c =
+    let p = err_from_is_err_and c.from_residual.result c.from_residual.ensures.1 in
+    rw (p.1, p.2)
+    (expanding-stop c.requires c.state_at-x.ensures c.wanted-wants.ensures
+    c.loop-at.invariant.0 c.loop-at-test.true (hop (goal.at.returns-in_err-follow-clause-left c).After-arc_at) refl c.arc_at.ensures
+    c.follow.ensures.left (ap (λ r. stepped r c.follow.new.join.sizes) c.in_err-follow.was))
 
 pub overflow_add-at : goal.overflow_add-at
 overflow_add-at c =
@@ -70,8 +71,8 @@ overflow_add-at c =
 
 pub next_arc-at-requires-in-loop-at : goal.next_arc-at-requires-in-loop-at
 next_arc-at-requires-in-loop-at c =
-    expanding-next c.requires c.joined_at-x.ensures c.wanted-wants.ensures
-    c.loop-at.invariant c.loop-at-test.true
+    expanding-next c.requires c.state_at-x.ensures c.wanted-wants.ensures
+    c.loop-at.invariant.0 c.loop-at-test.true
 
 pub loop-at-smaller : goal.loop-at-smaller
 loop-at-smaller c =
@@ -79,12 +80,16 @@ loop-at-smaller c =
 
 pub loop-at-preserved : goal.loop-at-preserved
 loop-at-preserved c =
-    expanding-more c.requires c.joined_at-x.ensures
-    c.wanted-wants.ensures c.loop-at.invariant
-    c.loop-at-test.true c.hop_at-hop.ensures c.follow-step.ensures c.in-Next.is
-    c.next_arc-at-in-loop-at.ensures
+    let same = c.follow.ensures.same in
+    let before = c.loop-at.invariant.1 in (
+      expanding-more c.requires c.state_at-x.ensures c.wanted-wants.ensures
+          c.loop-at.invariant.0 c.loop-at-test.true (hop (goal.at.loop-at-preserved c).After-arc_at) refl
+          c.arc_at.ensures c.follow.ensures.left (ap (λ r. stepped r c.follow.new.join.sizes) c.in_ok-follow.was)
+          c.next_arc-at-in-loop-at.ensures,
+      (same.0 ∙ before.0, same.1 ∙ before.1),
+    )
 
-pub returns : goal.returns
-returns c =
-    expanding-done c.requires c.joined_at-x.ensures c.wanted-wants.ensures
-    c.loop-at.invariant c.loop-at-test.false
+pub returns-clause-left : goal.returns-clause-left
+returns-clause-left c =
+    expanding-done c.requires c.state_at-x.ensures c.wanted-wants.ensures
+    c.loop-at.invariant.0 c.loop-at-test.false

@@ -2,13 +2,15 @@
 use Prim.Native.Nat.{◌-◌, ◌/◌}
 use lib.ListN.{length}
 use Rattle.definitions.specs.Arcs.{arc_size}
+use Rattle.joined.specs.Joins.{Holding}
 use Rattle.joining.specs.Laws.Expanding.{Expanding}
 use Rattle.joining.proofs.expanding.expand.Given as goal
 
 abbrev pub invariant-loop-at : goal.invariant-loop-at
 invariant-loop-at l =
-    Expanding l.arcs l.words l.initial.now l.initial.states l.initial.joined l.initial.chains l.place l.x.state l.x.word l.x.mark l.states l.joined l.chains l.now l.at
+    let first = l.initial.join in
+    Expanding l.arcs l.known.words.now first.sizes first.states.now first.arcs.now first.chains.now l.place l.x.state
+    l.x.word l.x.mark l.join.states.now l.join.arcs.now l.join.chains.now l.join.sizes l.at × Holding first l.join
 
 abbrev pub decreases-loop-at : goal.decreases-loop-at
-decreases-loop-at l =
-    length l.arcs / arc_size - l.at
+decreases-loop-at l = length l.arcs / arc_size - l.at

@@ -1,66 +1,53 @@
 -- `joining::join_cleared` meets its contract, by the first test that fails.
-use mathlib.Core.Path.{◌≡◌, refl, sym, ◌∙◌}
-use mathlib.Core.Bool.{true}
-use native.Mathlib.Omega.{arith}
-use lib.Seq.{length-take-le}
+use Rattle.std.proofs.Common.{◌≡◌, refl, sym, ap, ◌∙◌, true, arith, rules, length-take-le, Err}
+use Rattle.std.proofs.lemmas.Result.{err_from_is_err_and}
+use Rattle.definitions.specs.declared.Fault.TheVariants.{Foreign}
+use Rattle.definitions.specs.declared.Refusal.{Refusal}
+use Rattle.definitions.specs.Faults.{refuse}
+use Rattle.definitions.specs.Joining.{join}
 use Rattle.definitions.specs.NetworkText.{network_known}
 use Rattle.definitions.specs.WordBooks.{words_known}
-use Rattle.definitions.proofs.Laws.Lists.Tests.{held, failed}
+use Rattle.joining.specs.Answers.{space_of}
 use Rattle.joining.specs.Laws.Lending.{arcs-held, words-held, refusal-held, refusal-answer, foreign-arcs}
 use Rattle.joining.specs.Laws.Lending.{foreign-words, too_few, startable, join-held, join-answered, join-refused}
-use Rattle.std.proofs.lemmas.Bool.{not_from_true}
-use Rattle.std.proofs.lemmas.Bool.{not_from_false}
-use borrow.Author.Rules.{rules}
 use Rattle.joining.proofs.joining.join_cleared.Goals as goal
-use Rattle.joining.proofs.joining.join_cleared.Goals.{Else-state_room-lt2}
+use Rattle.joining.proofs.joining.join_cleared.Goals.{Else-state_room-lt2, then-not-network_known-via-then-not-network_known, then-not-network_known-via-else-not-network_known+then-not-words_known}
 
 -- what they say
 network : (c : goal.Else-state_room-lt2) → network_known c.args.counts c.args.arcs.now ≡ true
-network c = held c.network_known.ensures (not_from_true _ c.if-not-network_known.false)
+network c = sym c.if-not-network_known.ensures
 
 book : (c : goal.Else-state_room-lt2) → words_known c.args.count c.args.words.now ≡ true
-book c = held c.words_known.ensures (not_from_true _ c.if-not-words_known.false)
+book c = sym c.if-not-words_known.ensures
 
 pub returns-then-not-network_known : goal.returns-then-not-network_known
 returns-then-not-network_known c =
     let a = c.args in
-    let foreign =
-    foreign-arcs a.counts a.arcs.now a.count a.words.now a.states.now a.joined.now
-    (failed c.network_known.ensures (not_from_false _ c.if-not-network_known.true)) in record {
-      answer = c.refuse.ensures
-          ∙ refusal-answer a.counts a.arcs.now a.count a.words.now a.states.now a.joined.now
-          foreign;
-      left = refusal-held a.counts a.arcs.now a.count a.words.now a.states.now a.joined.now foreign
-          refl refl;
-    }
-
-pub returns-then-not-words_known : goal.returns-then-not-words_known
-returns-then-not-words_known c =
-    let a = c.args in
-    let foreign =
-    foreign-words a.counts a.arcs.now a.count a.words.now a.states.now a.joined.now
-    (held c.network_known.ensures (not_from_true _ c.if-not-network_known.false))
-    (failed c.words_known.ensures (not_from_false _ c.if-not-words_known.true)) in record {
-      answer = c.refuse-then-not-words_known.ensures
-          ∙ refusal-answer a.counts a.arcs.now a.count a.words.now a.states.now a.joined.now
-          foreign;
-      left = refusal-held a.counts a.arcs.now a.count a.words.now a.states.now a.joined.now foreign
-          refl refl;
+    let none : join a.counts a.arcs.now a.count a.words.now (space_of a.states.now a.joined.now) ≡ refuse Foreign 0 =
+    elim c.then-not-network_known.branch [
+      | then-not-network_known-via-then-not-network_known w ↦
+          foreign-arcs a.counts a.arcs.now a.count a.words.now a.states.now a.joined.now
+          (sym w.if-not-network_known.ensures)
+      | then-not-network_known-via-else-not-network_known+then-not-words_known w ↦
+          foreign-words a.counts a.arcs.now a.count a.words.now a.states.now a.joined.now
+          (sym w.if-not-network_known.ensures) (sym w.if-not-words_known.ensures)
+    ] in
+    record {
+      answer = ap (λ (r : Refusal). Err r) c.into.ensures
+          ∙ refusal-answer a.counts a.arcs.now a.count a.words.now a.states.now a.joined.now none;
+      left = refusal-held a.counts a.arcs.now a.count a.words.now a.states.now a.joined.now none refl refl;
     }
 
 pub returns-then-state_room-lt2 : goal.returns-then-state_room-lt2
 returns-then-state_room-lt2 c =
     let a = c.args in
-    let crowded =
-    too_few a.counts a.arcs.now a.count a.words.now a.states.now a.joined.now
-    (held c.network_known.ensures (not_from_true _ c.if-not-network_known.false))
-    (held c.words_known.ensures (not_from_true _ c.if-not-words_known.false))
-    (omega (arith, c.if-state_room-lt2.true, c.state_room.ensures)) in record {
-      answer = c.refuse-then-state_room-lt2.ensures
-          ∙ refusal-answer a.counts a.arcs.now a.count a.words.now a.states.now a.joined.now
-          crowded;
-      left = refusal-held a.counts a.arcs.now a.count a.words.now a.states.now a.joined.now crowded
-          refl refl;
+    let crowded = too_few a.counts a.arcs.now a.count a.words.now a.states.now a.joined.now
+    (sym c.if-not-network_known.ensures) (sym c.if-not-words_known.ensures)
+    (omega (arith, c.if-state_room-lt2.true, c.state_room.ensures)) in
+    record {
+      answer = ap (λ (r : Refusal). Err r) c.into-then-state_room-lt2.ensures
+          ∙ refusal-answer a.counts a.arcs.now a.count a.words.now a.states.now a.joined.now crowded;
+      left = refusal-held a.counts a.arcs.now a.count a.words.now a.states.now a.joined.now crowded refl refl;
     }
 
 pub overflow_mul-spelled : goal.overflow_mul-spelled
@@ -79,31 +66,34 @@ slice_bounds-join_known-end-2 c =
     let a = c.args in
     sym (length-take-le _ a.words.now (words-held a.count a.words.now (book (goal.at.slice_bounds-join_known-end-2 c).Else-state_room-lt2)))
 
-pub join_known-step-requires : goal.join_known-step-requires
-join_known-step-requires c =
+pub join_known-requires : goal.join_known-requires
+join_known-requires c =
     let a = c.args in
-    startable a.counts a.arcs.now a.count a.words.now a.states.now a.joined.now (network (goal.at.join_known-step-requires c).Else-state_room-lt2)
-    (book (goal.at.join_known-step-requires c).Else-state_room-lt2) c.wide-used.ensures c.requires.0 c.requires.1
+    let at = (goal.at.join_known-requires c).Else-state_room-lt2 in
+    startable a.counts a.arcs.now a.count a.words.now a.states.now a.joined.now (network at) (book at)
+    c.wide-used.ensures c.requires.0 c.requires.1
     (omega (arith, c.if-state_room-lt2.false, c.state_room.ensures))
 
-pub returns-in-Next : goal.returns-in-Next
-returns-in-Next c =
+pub returns-in_err-sizes : goal.returns-in_err-sizes
+returns-in_err-sizes c =
     let a = c.args in
+    let at = (goal.at.returns-in_err-sizes c).Else-state_room-lt2 in
+    let p = err_from_is_err_and c.from_residual.result c.from_residual.ensures.1 in
     record {
-      answer = join-answered a.counts a.arcs.now a.count a.words.now a.states.now a.joined.now
-          (network (goal.at.returns-in-Next c).Else-state_room-lt2) (book (goal.at.returns-in-Next c).Else-state_room-lt2) c.wide-used.ensures c.join_known-step.ensures c.in-Next.is;
-      left = join-held a.counts a.arcs.now a.count a.words.now a.states.now a.joined.now
-          (network (goal.at.returns-in-Next c).Else-state_room-lt2) (book (goal.at.returns-in-Next c).Else-state_room-lt2) c.wide-used.ensures c.join_known-step.ensures;
+      answer = p.1 ∙ ap (λ (r : Refusal). Err r) p.2
+          ∙ join-refused a.counts a.arcs.now a.count a.words.now a.states.now a.joined.now (network at) (book at)
+          c.wide-used.ensures c.join_known.ensures c.in_err-sizes.was;
+      left = join-held a.counts a.arcs.now a.count a.words.now a.states.now a.joined.now (network at) (book at)
+          c.wide-used.ensures c.join_known.ensures;
     }
 
-pub returns-in-Stop : goal.returns-in-Stop
-returns-in-Stop c =
+pub returns : goal.returns
+returns c =
     let a = c.args in
+    let at = (goal.at.returns c).Else-state_room-lt2 in
     record {
-      answer = c.refuse-in-Stop.ensures
-          ∙ join-refused a.counts a.arcs.now a.count a.words.now a.states.now a.joined.now
-          (network (goal.at.returns-in-Stop c).Else-state_room-lt2) (book (goal.at.returns-in-Stop c).Else-state_room-lt2) c.wide-used.ensures c.join_known-step.ensures
-          c.in-Stop.is;
-      left = join-held a.counts a.arcs.now a.count a.words.now a.states.now a.joined.now
-          (network (goal.at.returns-in-Stop c).Else-state_room-lt2) (book (goal.at.returns-in-Stop c).Else-state_room-lt2) c.wide-used.ensures c.join_known-step.ensures;
+      answer = join-answered a.counts a.arcs.now a.count a.words.now a.states.now a.joined.now (network at) (book at)
+          c.wide-used.ensures c.join_known.ensures c.in_ok-sizes.was;
+      left = join-held a.counts a.arcs.now a.count a.words.now a.states.now a.joined.now (network at) (book at)
+          c.wide-used.ensures c.join_known.ensures;
     }

@@ -4,23 +4,23 @@ use Rattle.moves.specs.Laws.Between.{left_by}
 use Rattle.moves.specs.Laws.Following.{along-silent, along-wanted, along-other, along-none}
 use Rattle.moves.proofs.following.follow.Goals as goal
 
-pub returns-then-hop-eq0 : goal.returns-then-hop-eq0
-returns-then-hop-eq0 c =
+pub returns-then-hop-eq0-clause-left : goal.returns-then-hop-eq0-clause-left
+returns-then-hop-eq0-clause-left c =
     left_by c.args.join.now.sizes c.args.hop.from (along-silent c.requires.1 c.args.hop c.if-hop-eq0.true)
-    c.move_into.ensures
+    c.move_into.ensures.left
 
-pub returns-then-phone-hop : goal.returns-then-phone-hop
-returns-then-phone-hop c =
+pub returns-then-phone-hop-clause-left : goal.returns-then-phone-hop-clause-left
+returns-then-phone-hop-clause-left c =
     left_by c.args.join.now.sizes c.args.hop.from
     (along-wanted c.requires.1 c.args.hop c.in-Phone.is c.if-hop-eq0.false c.if-phone-hop.true)
-    c.move_into-then-phone-hop.ensures
+    c.move_into-then-phone-hop.ensures.left
 
-pub returns-else-phone-hop : goal.returns-else-phone-hop
-returns-else-phone-hop c =
+pub returns-else-phone-hop-clause-left : goal.returns-else-phone-hop-clause-left
+returns-else-phone-hop-clause-left c =
     none-moved c.requires.0.underway c.args.hop.from
     (along-other c.requires.1 c.args.hop c.in-Phone.is c.if-hop-eq0.false c.if-phone-hop.false)
 
-pub returns-in-Nothing : goal.returns-in-Nothing
-returns-in-Nothing c =
+pub returns-in-Nothing-clause-left : goal.returns-in-Nothing-clause-left
+returns-in-Nothing-clause-left c =
     none-moved c.requires.0.underway c.args.hop.from
     (along-none c.requires.1 c.args.hop c.in-Nothing.is c.if-hop-eq0.false)

@@ -12,13 +12,13 @@ use Rattle.moves.proofs.moving.move_into.Goals.{Start}
 abbrev move : goal.Start → Move
 move c = move_by (hop_arc c.args.hop) (step c.args.label (mark_of c.args.mark))
 
-pub returns-then-is_barred : goal.returns-then-is_barred
-returns-then-is_barred c =
+pub returns-then-is_barred-clause-left : goal.returns-then-is_barred-clause-left
+returns-then-is_barred-clause-left c =
     none-moved c.requires c.args.hop.from
-    (allowed-none (move (goal.at.returns-then-is_barred c).Start) (sym c.is_barred.ensures ∙ ap not c.if-is_barred.true))
+    (allowed-none (move (goal.at.returns-then-is_barred-clause-left c).Start) (sym c.is_barred.ensures ∙ ap not c.if-is_barred.true))
 
-pub returns : goal.returns
-returns c =
-    one-moved c.args.join.now.sizes c.args.hop.from (move (goal.at.returns c).Start)
-    (allowed-one (move (goal.at.returns c).Start) (sym c.is_barred.ensures ∙ ap not c.if-is_barred.false))
-    c.enter.ensures
+pub returns-clause-left : goal.returns-clause-left
+returns-clause-left c =
+    one-moved c.args.join.now.sizes c.args.hop.from (move (goal.at.returns-clause-left c).Start)
+    (allowed-one (move (goal.at.returns-clause-left c).Start) (sym c.is_barred.ensures ∙ ap not c.if-is_barred.false))
+    c.enter.ensures.left
