@@ -4,9 +4,8 @@ ghost use Rattle.definitions.specs.Combinations.{combinations_of, combine, combi
 ghost use Rattle.definitions.specs.Said.{result_of};
 ghost use Rattle.definitions.specs.Tables.{tables_book};
 ghost use Rattle.tables.specs.Lending.{lent_tables};
-ghost use Rattle.tables.specs.Usable.{book_with, Fit};
 ghost use Rattle.leafsets.specs.Leaves.{leaf_size};
-ghost use Rattle.leafsets.specs.Working.{IsPhone, Working, Worked};
+ghost use Rattle.leafsets.specs.Working.{AllFit, book_of, IsPhone, Working, Worked};
 ghost use Rattle.choices.specs.Space.{Holding, Added};
 ghost use Rattle.combinations.specs.Answers.{by_phone, Clear, AllAdded};
 
@@ -14,8 +13,8 @@ use crate::ByPhone;
 use choices::Choice;
 use choices::choosing::choose;
 use definitions::{Fault, Header, MOST_NODES, Refusal, wide};
-use leafsets::LEAF_SIZE;
 use leafsets::collecting::list_leaves;
+use leafsets::{LEAF_SIZE, Trees};
 use matrix::Matrix;
 use matrix::sets::{all_phones, alone};
 use tables::forcing::{MOST_ROOTS, roots_in_force};
@@ -30,10 +29,7 @@ const LONG_LIST: usize = LEAF_SIZE * MOST_NODES;
 
 // Adds the combinations of a phone.
 fn choose_phone(
-    header: Header,
-    nodes: &[u32],
-    classes: &[u64],
-    roots: &[u32],
+    trees: Trees,
     phone: u32,
     table: &mut [u64],
     first: &mut [u64],
@@ -42,19 +38,20 @@ fn choose_phone(
     space: &mut [u64],
     count: usize,
 ) -> Result<usize, Fault>
-    requires { Fit header nodes.now classes.now roots.now × IsPhone header phone
-        × Working header.nodes table.old first.old second.old third.old
-        × Holding header.half space.old count }
-    ensures space { Added header.half space.old count
-        (combinations_of (book_with header nodes.now classes.now roots.now)
+    requires { AllFit trees × IsPhone trees.header phone
+        × Working trees.header.nodes table.old first.old second.old third.old
+        × Holding trees.header.half space.old count }
+    ensures space { Added trees.entry.header.half space.old count
+        (combinations_of (book_of trees.entry)
         phone) result space.new }
-    ensures lists { Worked header.nodes
+    ensures lists { Worked trees.entry.header.nodes
         table.old first.old second.old third.old
         table.new first.new second.new third.new }
 {
-    let a = list_leaves(header, nodes, classes, roots, phone, 1, table, first);
-    let b = list_leaves(header, nodes, classes, roots, phone, 2, table, second);
-    let c = list_leaves(header, nodes, classes, roots, phone, 3, table, third);
+    let a = list_leaves(trees, phone, 1, table, first);
+    let b = list_leaves(trees, phone, 2, table, second);
+    let c = list_leaves(trees, phone, 3, table, third);
+    let header = trees.header;
     let all = all_phones(header.phones);
     let start = Choice {
         phone,
@@ -76,10 +73,7 @@ fn choose_phone(
 
 // Adds the combinations of all phones, and notes how many there are after each. The working lists are lent.
 fn choose_phones(
-    header: Header,
-    nodes: &[u32],
-    classes: &[u64],
-    roots: &[u32],
+    trees: Trees,
     table: &mut [u64],
     first: &mut [u64],
     second: &mut [u64],
@@ -87,16 +81,14 @@ fn choose_phones(
     space: &mut [u64],
     ends: &mut [u32],
 ) -> Result<usize, Fault>
-    requires { Fit header nodes.now classes.now roots.now × Clear space.old ends.old
-        × Working header.nodes table.old first.old second.old third.old }
-    ensures { AllAdded (book_with header nodes.now classes.now roots.now)
+    requires { AllFit trees × Clear space.old ends.old
+        × Working trees.header.nodes table.old first.old second.old third.old }
+    ensures { AllAdded (book_of trees.entry)
         space.old result space.new ends.new }
 {
     let mut count = 0;
-    for phone in 1..header.phones + 1 {
-        count = choose_phone(
-            header, nodes, classes, roots, phone, table, first, second, third, space, count,
-        )?;
+    for phone in 1..trees.header.phones + 1 {
+        count = choose_phone(trees, phone, table, first, second, third, space, count)?;
         ends[wide(phone)] = count as u32;
     }
     Ok(count)
@@ -104,28 +96,22 @@ fn choose_phones(
 
 // Adds the combinations of all phones, in arrays of so many words for the table and the lists.
 fn choose_in<const N: usize>(
-    header: Header,
-    nodes: &[u32],
-    classes: &[u64],
-    roots: &[u32],
+    trees: Trees,
     space: &mut [u64],
     ends: &mut [u32],
 ) -> Result<usize, Fault>
-    requires { Fit header nodes.now classes.now roots.now × Clear space.old ends.old
-        × (leaf_size * header.nodes ≤ N) × (N ≤ 32768) }
-    ensures { AllAdded (book_with header nodes.now classes.now roots.now)
+    requires { AllFit trees × Clear space.old ends.old
+        × (leaf_size * trees.header.nodes ≤ N) × (N ≤ 32768) }
+    ensures { AllAdded (book_of trees.entry)
         space.old result space.new ends.new }
 {
     let mut table = [0u64; N];
     let mut first = [0u64; N];
     let mut second = [0u64; N];
     let mut third = [0u64; N];
-    let size = LEAF_SIZE * wide(header.nodes);
+    let size = LEAF_SIZE * wide(trees.header.nodes);
     choose_phones(
-        header,
-        nodes,
-        classes,
-        roots,
+        trees,
         &mut table[..size],
         &mut first,
         &mut second,
@@ -137,22 +123,15 @@ fn choose_in<const N: usize>(
 
 // Adds the combinations of all phones. A short table of leaves gets short arrays, for itself and for the lists,
 // so that few words are cleared for a small book.
-fn choose_all(
-    header: Header,
-    nodes: &[u32],
-    classes: &[u64],
-    roots: &[u32],
-    space: &mut [u64],
-    ends: &mut [u32],
-) -> Result<usize, Fault>
-    requires { Fit header nodes.now classes.now roots.now × Clear space.old ends.old }
-    ensures { AllAdded (book_with header nodes.now classes.now roots.now)
+fn choose_all(trees: Trees, space: &mut [u64], ends: &mut [u32]) -> Result<usize, Fault>
+    requires { AllFit trees × Clear space.old ends.old }
+    ensures { AllAdded (book_of trees.entry)
         space.old result space.new ends.new }
 {
-    if wide(header.nodes) <= FEW_NODES {
-        choose_in::<SHORT_LIST>(header, nodes, classes, roots, space, ends)
+    if wide(trees.header.nodes) <= FEW_NODES {
+        choose_in::<SHORT_LIST>(trees, space, ends)
     } else {
-        choose_in::<LONG_LIST>(header, nodes, classes, roots, space, ends)
+        choose_in::<LONG_LIST>(trees, space, ends)
     }
 }
 
@@ -182,8 +161,14 @@ pub fn combine(
     }
     let mut forced = [0u32; MOST_ROOTS];
     roots_in_force(header, roots, plains, &mut forced);
+    let trees = Trees {
+        header,
+        nodes,
+        classes,
+        roots: &forced,
+    };
     let mut ends = [0u32; 65];
-    match choose_all(header, nodes, classes, &forced, space, &mut ends) {
+    match choose_all(trees, space, &mut ends) {
         Ok(count) => Ok(ByPhone { count, ends }),
         Err(fault) => {
             space.fill(0);

@@ -1,7 +1,17 @@
 -- What combining works with: a phone of the book, a table of leaves, and lists of the leaves of three trees.
+use Rattle.definitions.specs.Tables.{Book}
+use Rattle.tables.specs.Usable.{book_with, Fit}
+use Rattle.leafsets.specs.declared.Trees.{Trees}
 use Rattle.std.specs.Prelude.{◌≡◌, List, ℕ, ◌*◌, ◌≤◌, length}
 use Rattle.definitions.specs.declared.Header.{Header}
 use Rattle.leafsets.specs.Leaves.{leaf_size, NoneUsed}
+
+-- the book that the tables make, and that they fit it
+abbrev pub book_of : Trees → Book
+book_of trees = book_with trees.header trees.nodes.now trees.classes.now trees.roots.now
+
+abbrev pub AllFit : Trees → Type 0
+AllFit trees = Fit trees.header trees.nodes.now trees.classes.now trees.roots.now
 
 pub record IsPhone (header : Header) (phone : ℕ) : Type 0 where
   pub low : 1 ≤ phone

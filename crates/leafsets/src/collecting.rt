@@ -1,14 +1,13 @@
 // The leaves of a tree with their matrices, ascending by node number.
 ghost use Rattle.std.specs.Prelude.{◌++◌, ◌≡◌, ◌+◌, ◌*◌, ◌≤◌, length, set, take, drop};
 ghost use Rattle.definitions.specs.Lists.{concat_map};
-ghost use Rattle.tables.specs.Usable.{book_with, Fit};
 ghost use Rattle.leafsets.specs.Leaves.{leaf_size, listed, listed_at, UsedWithin, leaf_words, leaves_for};
 ghost use Rattle.leafsets.specs.Leaves.{Listing};
-ghost use Rattle.leafsets.specs.Working.{IsPhone, Unused};
+ghost use Rattle.leafsets.specs.Working.{AllFit, book_of, IsPhone, Unused};
 
-use crate::LEAF_SIZE;
 use crate::walking::walk;
-use definitions::{Header, wide};
+use crate::{LEAF_SIZE, Trees};
+use definitions::wide;
 use matrix::Matrix;
 use matrix::sets::{all_phones, alone};
 use matrix::words::{put_numbered, whole_matrix};
@@ -50,27 +49,25 @@ fn collect(table: &mut [u64], first: usize, last: usize, list: &mut [u64]) -> us
 // Lists the leaves of a phone's tree for a state; answers how many. A state that the book lacks has none. The
 // table has no used record before and after, so it need not be cleared for each tree.
 pub fn list_leaves(
-    header: Header,
-    nodes: &[u32],
-    classes: &[u64],
-    roots: &[u32],
+    trees: Trees,
     phone: u32,
     state: u32,
     table: &mut [u64],
     list: &mut [u64],
 ) -> usize
-    requires { Fit header nodes.now classes.now roots.now × IsPhone header phone × (1 ≤ state)
-        × Unused header.nodes table.old × (length table.old ≤ length list.old) }
+    requires { AllFit trees × IsPhone trees.header phone × (1 ≤ state)
+        × Unused trees.header.nodes table.old × (length table.old ≤ length list.old) }
     ensures { Listing (concat_map leaf_words (leaves_for
-        (book_with header nodes.now classes.now roots.now)
+        (book_of trees.entry)
         phone state)) table.old list.old result table.new list.new }
 {
+    let header = trees.header;
     if header.states < state {
         return 0;
     }
     let all = all_phones(header.phones);
     let top = Matrix::around(header.half, all, alone(phone), all);
-    let root = root_of(header, roots, phone, state);
-    let last = walk(header, nodes, classes, root, top, table);
+    let root = root_of(header, trees.roots, phone, state);
+    let last = walk(header, trees.nodes, trees.classes, root, top, table);
     collect(table, wide(root), wide(last), list)
 }

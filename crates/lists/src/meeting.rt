@@ -1,27 +1,24 @@
 // A list meets another matrix by matrix; what is valid is put into a third list, from the first pair to the last.
-ghost use Rattle.std.specs.Prelude.{map, ◌≡◌, ◌+◌, ◌≤◌, length};
+ghost use Rattle.std.specs.Prelude.{map, ◌≡◌};
 ghost use Rattle.definitions.specs.Matrices.{meet};
 ghost use Rattle.definitions.specs.MatrixLists.{added, gather, meet_lists, holds_some};
-ghost use Rattle.matrix.specs.Shapes.{width_of, matrix_in};
-ghost use Rattle.lists.specs.Held.{columns_at, list_in, HasRoom, Holds, Became};
+ghost use Rattle.matrix.specs.Shapes.{width_of, matrix_in, HasWidth};
+ghost use Rattle.lists.specs.Held.{list_in, HasRoom, Holds, Became};
 ghost use Rattle.lists.specs.Meeting.{meets_some};
 
 use crate::inserting::insert;
-use crate::places::{matrices_in, matrix_from, start_of, width_of};
+use crate::places::{matrices_in, matrix_at, width_of};
 use matrix::Matrix;
 
-// Adds the meet of a matrix and the one in the words from a place on to a list, where it is valid: then its first word
-// is not 0.
-fn add_met(half: u32, m: Matrix, words: &[u64], from: usize, out: &mut [u64]) -> bool
-    requires { (from + width_of half ≤ length words.now) × (Holds half out.old) }
+// Adds the meet of two matrices to a list, where it is valid: then its first word is not 0.
+fn add_met(half: u32, m: Matrix, other: Matrix, out: &mut [u64]) -> bool
+    requires { HasWidth (width_of half) other.columns × Holds half out.old }
     ensures { Became half
         (added (list_in half out.old)
-        (meet (matrix_in half m.columns) (columns_at half words.now from)))
+        (meet (matrix_in half m.columns) (matrix_in half other.columns)))
         result out.old out.new }
 {
-    let met = m
-        .meet(matrix_from(half, words, from), width_of(half))
-        .matrix;
+    let met = m.meet(other, width_of(half)).matrix;
     met.columns[0] == 0 || insert(half, out, met)
 }
 
@@ -34,7 +31,7 @@ fn meet_each(half: u32, m: Matrix, list: &[u64], out: &mut [u64]) -> bool
         result out.old out.new }
 {
     for place in 0..matrices_in(list) {
-        if !add_met(half, m, list, start_of(half, place), out) {
+        if !add_met(half, m, matrix_at(half, list, place), out) {
             return false;
         }
     }
@@ -49,7 +46,7 @@ pub fn meet_lists(half: u32, a: &[u64], b: &[u64], out: &mut [u64]) -> bool
 {
     out[0] = 0;
     for place in 0..matrices_in(a) {
-        if !meet_each(half, matrix_from(half, a, start_of(half, place)), b, out) {
+        if !meet_each(half, matrix_at(half, a, place), b, out) {
             return false;
         }
     }
@@ -62,8 +59,7 @@ fn meets_one(half: u32, m: Matrix, list: &[u64]) -> bool
     ensures { result ≡ meets_some (list_in half list.now) (matrix_in half m.columns) }
 {
     for place in 0..matrices_in(list) {
-        let other = matrix_from(half, list, start_of(half, place));
-        if m.meets(other, width_of(half)) {
+        if m.meets(matrix_at(half, list, place), width_of(half)) {
             return true;
         }
     }
@@ -76,7 +72,7 @@ pub fn lists_meet(half: u32, a: &[u64], b: &[u64]) -> bool
     ensures { result ≡ holds_some (meet_lists (list_in half a.now) (list_in half b.now)) }
 {
     for place in 0..matrices_in(a) {
-        if meets_one(half, matrix_from(half, a, start_of(half, place)), b) {
+        if meets_one(half, matrix_at(half, a, place), b) {
             return true;
         }
     }

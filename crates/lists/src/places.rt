@@ -1,10 +1,10 @@
 // Where the matrices of a list stand, how many there are, and a matrix of a list by value.
-ghost use Rattle.std.specs.Prelude.{◌≡◌, ◌+◌, ◌≤◌, ◌<◌, length};
+ghost use Rattle.std.specs.Prelude.{◌≡◌, [], ◌+◌, ◌≤◌, ◌<◌, length, get_or};
 ghost use Rattle.definitions.specs.Lists.{◌!◌};
 ghost use Rattle.definitions.specs.Matrices.{most_half, most_columns, matrix_words};
 ghost use Rattle.definitions.specs.MatrixLists.{most_matrices};
 ghost use Rattle.matrix.specs.Shapes.{width_of};
-ghost use Rattle.lists.specs.Held.{start_of, columns_at, matrix_at, Holds};
+ghost use Rattle.lists.specs.Held.{start_of, columns_at, matrix_at, list_in, Holds};
 
 use definitions::sizes::matrix_size;
 use definitions::wide;
@@ -53,4 +53,12 @@ pub fn matrix_from(half: u32, words: &[u64], from: usize) -> Matrix
     let mut columns = [0u64; 7];
     columns[..width].copy_from_slice(&words[from..from + width]);
     Matrix { columns }
+}
+
+// The matrix at a place of a list.
+pub(crate) fn matrix_at(half: u32, list: &[u64], place: usize) -> Matrix
+    requires { Holds half list.now × (place < list.now ! 0) }
+    ensures { result.columns ≡ matrix_words (get_or (list_in half list.now) place []) }
+{
+    matrix_from(half, list, start_of(half, place))
 }

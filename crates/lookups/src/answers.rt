@@ -1,9 +1,9 @@
 // What an entry answered, in words.
-use showing::comparing::{used_wide_words, used_words};
-use showing::printing::{print, print_number, print_refusal, print_words};
+use definitions::Refusal;
+use showing::printing::print_numbers;
 use std::io;
-use transcripts::Transcript;
-use trees::Lookup;
+use transcripts::Tally;
+use trees::Walked;
 
 // Whether a refusal left the tables cleared.
 pub fn print_cleared(
@@ -13,56 +13,42 @@ pub fn print_cleared(
     roots: &[u32],
     plains: &[u32],
 ) -> io::Result<()> {
-    if used_words(nodes) == 0 {
-        print(rt, b", nodes")?;
+    if nodes.iter().all(|word| *word == 0) {
+        print!(rt; ", nodes")?;
     }
-    if used_wide_words(classes) == 0 {
-        print(rt, b", classes")?;
+    if classes.iter().all(|set| *set == 0) {
+        print!(rt; ", classes")?;
     }
-    if used_words(roots) == 0 {
-        print(rt, b", roots")?;
+    if roots.iter().all(|word| *word == 0) {
+        print!(rt; ", roots")?;
     }
-    if used_words(plains) == 0 {
-        print(rt, b", plain phones")?;
+    if plains.iter().all(|word| *word == 0) {
+        print!(rt; ", plain phones")?;
     }
-    print(rt, b" cleared\n")
-}
-
-// How many questions were put, after what they led to.
-fn print_questions(rt: &impl Print, questions: u64) -> io::Result<()> {
-    print(rt, b" after")?;
-    print_number(rt, questions)?;
-    print(rt, b" questions")
+    println!(rt; " cleared")
 }
 
 // How many models there are and after how many questions, or the refusal.
-pub fn print_transcript(rt: &impl Print, answer: Transcript) -> io::Result<()> {
+pub fn print_transcript(rt: &impl Print, answer: Result<Tally, Refusal>) -> io::Result<()> {
     match answer {
-        Transcript::Models(tally) => {
-            print_number(rt, tally.models as u64)?;
-            print(rt, b" models")?;
-            print_questions(rt, tally.questions)
+        Ok(Tally { models, questions }) => {
+            print!(rt; " {models} models after {questions} questions")
         }
-        Transcript::Refused(refusal) => print_refusal(rt, refusal),
+        Err(refusal) => print!(rt; " {refusal}"),
     }
 }
 
 // A leaf's node and after how many questions, or the refusal.
-pub fn print_lookup(rt: &impl Print, answer: Lookup) -> io::Result<()> {
+pub fn print_lookup(rt: &impl Print, answer: Result<Walked, Refusal>) -> io::Result<()> {
     match answer {
-        Lookup::Leaf(walked) => {
-            print(rt, b" node")?;
-            print_number(rt, walked.leaf as u64)?;
-            print_questions(rt, walked.questions as u64)
-        }
-        Lookup::Refused(refusal) => print_refusal(rt, refusal),
+        Ok(Walked { leaf, questions }) => print!(rt; " node {leaf} after {questions} questions"),
+        Err(refusal) => print!(rt; " {refusal}"),
     }
 }
 
 // A line's beginning: a word, and phones.
-pub fn print_phones(rt: &impl Print, word: &[u8], phones: &[u32]) -> io::Result<()> {
-    print(rt, b"  ")?;
-    print(rt, word)?;
-    print_words(rt, phones)?;
-    print(rt, b":")
+pub fn print_phones(rt: &impl Print, word: &str, phones: &[u32]) -> io::Result<()> {
+    print!(rt; "  {word}")?;
+    print_numbers(rt, phones)?;
+    print!(rt; ":")
 }

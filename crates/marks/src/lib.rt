@@ -5,18 +5,23 @@
 pub mod indexing;
 pub mod wanting;
 
-// How far words are spoken: 0, 0 before the first silence, 0, 1 between words, 0, 2 after the closing silence, else a
-// word and how many of its phones are spoken.
-#[derive(Clone, Copy)]
+// How far words are spoken, in the words of a joined state, whose numbers are fixed: 0, 0 before the first silence, 0, 1
+// between words, 0, 2 after the closing silence, else a word and how many of its phones are spoken.
+#[derive(Clone, Copy, PartialEq, Eq)]
 pub struct Mark {
     pub word: u32,
     pub mark: u32,
 }
 
-// What leads on from a mark: the words that begin, where it is between words; else one phone, 0 for none, to `next`.
-#[derive(Clone, Copy)]
-pub struct Wanted {
-    pub opens: bool,
-    pub phone: u32,
-    pub next: Mark,
+// Between words, and after the closing silence.
+pub const BETWEEN: Mark = Mark { word: 0, mark: 1 };
+
+pub const CLOSED: Mark = Mark { word: 0, mark: 2 };
+
+// What leads on from a mark: between words the words that begin, else a phone, to the next mark, or nothing.
+#[derive(Clone, Copy, PartialEq, Eq)]
+pub enum Wanted {
+    Words,
+    Phone { phone: u32, next: Mark },
+    Nothing,
 }

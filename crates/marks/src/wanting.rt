@@ -1,10 +1,10 @@
 // The phone that leads on from a mark, and to which mark.
 ghost use Rattle.std.specs.Prelude.{◌≡◌};
 ghost use Rattle.marks.specs.Lexicon.{spelled, Lexicon};
-ghost use Rattle.marks.specs.Wanting.{mark_of, none_wanted, Leads, IsWord};
+ghost use Rattle.marks.specs.Wanting.{mark_of, Leads, IsWord};
 ghost use Rattle.definitions.specs.Joining.{spoken_to};
 
-use crate::{Mark, Wanted};
+use crate::{BETWEEN, Mark, Wanted};
 use definitions::{WORD_SIZE, wide};
 
 // The mark where so many phones of a word are spoken: between words after its last.
@@ -13,9 +13,10 @@ pub fn spoken_to(words: &[u32], word: u32, mark: u32) -> Mark
     ensures { mark_of result ≡ spoken_to (spelled words.now) word mark }
 {
     if words[WORD_SIZE * (wide(word) - 1)] == mark {
-        return Mark { word: 0, mark: 1 };
+        BETWEEN
+    } else {
+        Mark { word, mark }
     }
-    Mark { word, mark }
 }
 
 // What is wanted in a word.
@@ -24,23 +25,11 @@ fn within(words: &[u32], word: u32, mark: u32) -> Wanted
     ensures { Leads (spelled words.now) word mark result }
 {
     if 64 <= mark {
-        return nothing();
+        return Wanted::Nothing;
     }
-    Wanted {
-        opens: false,
+    Wanted::Phone {
         phone: words[WORD_SIZE * (wide(word) - 1) + 1 + wide(mark)],
         next: spoken_to(words, word, mark + 1),
-    }
-}
-
-// Nothing leads on.
-fn nothing() -> Wanted
-    ensures { result ≡ none_wanted }
-{
-    Wanted {
-        opens: false,
-        phone: 0,
-        next: Mark { word: 0, mark: 0 },
     }
 }
 
@@ -49,25 +38,14 @@ pub fn wanted(words: &[u32], word: u32, mark: u32) -> Wanted
     requires { Lexicon words.now }
     ensures { Leads (spelled words.now) word mark result }
 {
-    if word != 0 {
-        if words.len() / WORD_SIZE < wide(word) {
-            return nothing();
-        }
-        return within(words, word, mark);
-    }
-    if mark == 1 {
-        return Wanted {
-            opens: true,
-            phone: 0,
-            next: Mark { word: 0, mark: 1 },
-        };
-    }
-    if mark == 0 {
-        return Wanted {
-            opens: false,
+    match (word, mark) {
+        (0, 1) => Wanted::Words,
+        (0, 0) => Wanted::Phone {
             phone: 1,
-            next: Mark { word: 0, mark: 1 },
-        };
+            next: BETWEEN,
+        },
+        (0, _) => Wanted::Nothing,
+        _ if words.len() / WORD_SIZE < wide(word) => Wanted::Nothing,
+        _ => within(words, word, mark),
     }
-    nothing()
 }

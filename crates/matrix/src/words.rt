@@ -7,13 +7,16 @@ ghost use Rattle.matrix.specs.Words.{overwritten};
 use crate::Matrix;
 use definitions::MOST_COLUMNS;
 
-// The matrix in seven words that are all there.
+// The matrix in seven words that are all there. Word by word: with `copy_from_slice` the search for leaves that meet,
+// where the first empty column ends a meeting, took five times as long.
 pub fn whole_matrix(words: &[u64], from: usize) -> Matrix
     requires { from + most_columns ≤ length words.now }
     ensures { result.columns ≡ take most_columns (padded most_columns (drop from words.now)) }
 {
     let mut columns = [0u64; 7];
-    columns.copy_from_slice(&words[from..from + MOST_COLUMNS]);
+    for c in 0..MOST_COLUMNS {
+        columns[c] = words[from + c];
+    }
     Matrix { columns }
 }
 

@@ -1,5 +1,5 @@
 -- The arcs of a state, and those of them along which nothing leads on.
-use Rattle.std.specs.Prelude.{◌≡◌, List, ℕ, ◌*◌, ◌/◌, ◌≤◌, ◌<◌, T, eqb, length, drop}
+use Rattle.std.specs.Prelude.{◌≡◌, List, Bool, true, ◌||◌, ℕ, ◌*◌, ◌/◌, ◌≤◌, ◌<◌, T, eqb, length, drop}
 use Rattle.definitions.specs.Lists.{◌!◌, select, concat_map}
 use Rattle.definitions.specs.Arcs.{arc_size}
 use Rattle.arcs.specs.Below.{below}
@@ -8,6 +8,13 @@ use Rattle.definitions.specs.NetworkText.{never_descending}
 use Rattle.definitions.specs.Joining.{◌⊚◌, Mark, Move, moves_along}
 use Rattle.marks.specs.Wanting.{Leads}
 use Rattle.marks.specs.declared.Wanted.{Wanted}
+use Rattle.marks.specs.declared.Wanted.TheVariants.{Words, Phone, Nothing}
+
+-- whether something leads on along an arc with a phone
+unfoldable pub leads_along : Wanted → (phone : ℕ) → Bool
+leads_along Words phone = true
+leads_along (Phone own next) phone = eqb phone 0 || eqb phone own
+leads_along Nothing phone = eqb phone 0
 
 -- the moves along the arcs of a state, from an arc on
 abbrev pub moves_from : (words : List (List ℕ)) → Mark → (arcs : List ℕ) → (state at : ℕ) → List Move

@@ -6,11 +6,18 @@ pub mod moving;
 pub mod opening;
 pub mod skipping;
 
+use arcs::Arc;
+
 // An arc of the network, with the number of the joined state that it is followed from.
-#[derive(Clone, Copy)]
+#[derive(Clone, Copy, PartialEq, Eq)]
 pub struct Hop {
     pub from: u32,
-    pub to: u32,
-    pub model: u32,
-    pub phone: u32,
+    pub arc: Arc,
+}
+
+// A lent table of words, with its index of words by their first phone.
+#[derive(Clone, Copy)]
+pub struct Vocabulary<'a> {
+    pub words: &'a [u32],
+    pub index: &'a [u32],
 }

@@ -2,53 +2,35 @@
 ghost use Rattle.std.specs.Prelude.{not, [], ◌∷◌, ◌≡◌};
 ghost use Rattle.definitions.specs.Joining.{step, joined, may_enter, move_by};
 ghost use Rattle.marks.specs.Wanting.{mark_of};
-ghost use Rattle.joined.specs.States.{Underway, StepLeft};
-ghost use Rattle.moves.specs.Moving.{hop_arc, moved_all, allowed};
+ghost use Rattle.joined.specs.Joins.{Grows, Left};
+ghost use Rattle.moves.specs.Moving.{hop_arc, moved, allowed};
 
 use crate::Hop;
-use growing::{Sizes, Step};
-use joined::Joined;
-use joined::entering::enter;
-use marks::Mark;
+use definitions::Fault;
+use joined::{Join, Joined};
+use marks::{CLOSED, Mark};
 
 // Whether FINAL may not be entered with a mark.
 fn is_barred(to: u32, mark: Mark) -> bool
     ensures { not result ≡ may_enter (joined to mark.word mark.mark) }
 {
-    if to != 1 {
-        return false;
-    }
-    if mark.word != 0 {
-        return true;
-    }
-    mark.mark != 2
+    to == 1 && mark != CLOSED
 }
 
 // Enters the joined state that an arc and a mark lead to, where it may be entered.
-pub fn move_into(
-    states: &mut [u32],
-    joined: &mut [u32],
-    chains: &mut [u32],
-    sizes: Sizes,
-    hop: Hop,
-    mark: Mark,
-    label: u32,
-) -> Step
-    requires { Underway sizes states.old joined.old chains.old }
-    ensures { StepLeft states.old joined.old chains.old
-        (moved_all states.old joined.old sizes hop.from
-        (allowed (move_by (hop_arc hop) (step label (mark_of mark)) ∷ [])))
-        result states.new joined.new chains.new }
+pub fn move_into(join: &mut Join, hop: Hop, mark: Mark, label: u32) -> Result<(), Fault>
+    requires { Grows join.old }
+    ensures { Left join.old
+        (moved join.old hop.from (allowed (move_by (hop_arc hop) (step label (mark_of mark)) ∷ [])))
+        result join.new }
 {
-    if is_barred(hop.to, mark) {
-        return Step::Next(sizes);
+    if is_barred(hop.arc.to, mark) {
+        return Ok(());
     }
     let target = Joined {
-        state: hop.to,
+        state: hop.arc.to,
         word: mark.word,
         mark: mark.mark,
     };
-    enter(
-        states, joined, chains, sizes, hop.from, target, hop.model, label,
-    )
+    join.enter(hop.from, target, hop.arc.model, label)
 }

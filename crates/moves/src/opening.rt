@@ -2,95 +2,45 @@
 ghost use Rattle.std.specs.Prelude.{map};
 ghost use Rattle.definitions.specs.Joining.{◌⊚◌, move_by, moves_along};
 ghost use Rattle.marks.specs.Lexicon.{spelled};
-ghost use Rattle.joined.specs.States.{StepLeft};
-ghost use Rattle.moves.specs.Moving.{hop_arc, moved_all, allowed, openings, Followable, Openable};
+ghost use Rattle.joined.specs.Joins.{Left};
+ghost use Rattle.moves.specs.Moving.{hop_arc, moved, allowed, openings, Follows, Opens};
 
-use crate::Hop;
 use crate::moving::move_into;
-use definitions::wide;
-use growing::{Sizes, Step};
-use marks::Mark;
+use crate::{Hop, Vocabulary};
+use definitions::{Fault, wide};
+use joined::Join;
 use marks::wanting::spoken_to;
+use marks::{BETWEEN, CLOSED};
 
-// The words that begin with the phone of an arc.
-fn open_words(
-    words: &[u32],
-    index: &[u32],
-    states: &mut [u32],
-    joined: &mut [u32],
-    chains: &mut [u32],
-    sizes: Sizes,
-    hop: Hop,
-) -> Step
-    requires { Openable hop words.now index.now sizes states.old joined.old chains.old }
-    ensures { StepLeft states.old joined.old chains.old
-        (moved_all states.old joined.old sizes hop.from
-        (allowed (map (move_by (hop_arc hop)) (openings (spelled words.now) hop.phone 1))))
-        result states.new joined.new chains.new }
+// The words that begin with the phone of an arc, along the index, in whose lent words 0 ends a chain.
+fn open_words(join: &mut Join, known: Vocabulary, hop: Hop) -> Result<(), Fault>
+    requires { Opens hop known join.old }
+    ensures { Left join.old
+        (moved join.old hop.from
+        (allowed (map (move_by (hop_arc hop)) (openings (spelled known.entry.words.now) hop.arc.phone 1))))
+        result join.new }
 {
-    let mut now = sizes;
-    let mut word = index[wide(hop.phone) - 1];
+    let index = known.index;
+    let mut word = index[wide(hop.arc.phone) - 1];
     while word != 0 {
-        let mark = spoken_to(words, word, 1);
-        let step = move_into(states, joined, chains, now, hop, mark, word);
-        match step {
-            Step::Next(next) => {
-                now = next;
-            }
-            Step::Stop(fault) => {
-                return Step::Stop(fault);
-            }
-        }
+        move_into(join, hop, spoken_to(known.words, word, 1), word)?;
         word = index[64 + wide(word) - 1];
     }
-    Step::Next(now)
+    Ok(())
 }
 
 // All moves along an arc from between words.
-pub fn follow_between(
-    words: &[u32],
-    index: &[u32],
-    states: &mut [u32],
-    joined: &mut [u32],
-    chains: &mut [u32],
-    sizes: Sizes,
-    hop: Hop,
-) -> Step
-    requires { Followable hop words.now index.now sizes states.old joined.old chains.old }
-    ensures { StepLeft states.old joined.old chains.old
-        (moved_all states.old joined.old sizes hop.from
-        (moves_along (spelled words.now) (0 ⊚ 1) (hop_arc hop)))
-        result states.new joined.new chains.new }
+pub fn follow_between(join: &mut Join, known: Vocabulary, hop: Hop) -> Result<(), Fault>
+    requires { Follows hop known join.old }
+    ensures { Left join.old
+        (moved join.old hop.from (moves_along (spelled known.entry.words.now) (0 ⊚ 1) (hop_arc hop)))
+        result join.new }
 {
-    if hop.phone == 0 {
-        return move_into(
-            states,
-            joined,
-            chains,
-            sizes,
-            hop,
-            Mark { word: 0, mark: 1 },
-            0,
-        );
+    if hop.arc.phone == 0 {
+        return move_into(join, hop, BETWEEN, 0);
     }
-    if hop.phone != 1 {
-        return open_words(words, index, states, joined, chains, sizes, hop);
+    if hop.arc.phone == 1 {
+        move_into(join, hop, CLOSED, 0)?;
     }
-    let step = move_into(
-        states,
-        joined,
-        chains,
-        sizes,
-        hop,
-        Mark { word: 0, mark: 2 },
-        0,
-    );
-    match step {
-        Step::Next(next) => {
-            return open_words(words, index, states, joined, chains, next, hop);
-        }
-        Step::Stop(fault) => {
-            return Step::Stop(fault);
-        }
-    }
+    open_words(join, known, hop)
 }

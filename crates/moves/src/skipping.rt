@@ -1,8 +1,20 @@
 // The next arc of a state along which something leads on.
-ghost use Rattle.moves.specs.Skipping.{AfterSources, Skipped};
+ghost use Rattle.std.specs.Prelude.{◌≡◌};
+ghost use Rattle.moves.specs.Skipping.{leads_along, AfterSources, Skipped};
 
 use definitions::ARC_SIZE;
 use marks::Wanted;
+
+// Whether something leads on along an arc with a phone.
+fn leads_along(wanted: Wanted, phone: u32) -> bool
+    ensures { result ≡ leads_along wanted phone }
+{
+    match wanted {
+        Wanted::Words => true,
+        Wanted::Phone { phone: own, .. } => phone == 0 || phone == own,
+        Wanted::Nothing => phone == 0,
+    }
+}
 
 // From an arc on: the arcs of the state along which nothing leads on are passed over. The number of all arcs where
 // there is none.
@@ -11,22 +23,13 @@ pub fn next_arc(arcs: &[u32], from: usize, state: u32, wanted: Wanted) -> usize
     ensures { Skipped arcs.now state wanted from result }
 {
     let count = arcs.len() / ARC_SIZE;
-    let mut at = from;
-    while at < count {
+    for at in from..count {
         if arcs[ARC_SIZE * at] != state {
             return count;
         }
-        if wanted.opens {
+        if leads_along(wanted, arcs[ARC_SIZE * at + 3]) {
             return at;
         }
-        let phone = arcs[ARC_SIZE * at + 3];
-        if phone == 0 {
-            return at;
-        }
-        if phone == wanted.phone {
-            return at;
-        }
-        at += 1;
     }
     count
 }

@@ -6,7 +6,6 @@ pub mod Keeping
 pub mod Stored
 pub mod Finishing
 pub mod Reading
-pub mod Said
 pub mod Answering
 pub mod Writing
 pub mod RoundTrips

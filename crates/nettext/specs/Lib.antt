@@ -1,5 +1,4 @@
--- What reading and writing network text answer, keep and store, and the laws about it.
-pub mod Answers
+-- What reading and writing network text keep and store, and the laws about it.
 pub mod Entries
 pub mod States
 pub mod Storing

@@ -32,17 +32,17 @@ pub record Countable (s : State) : Type 0 where
   pub arcs : s.arcs < 18446744073709551615
 
 -- 14 for the letter, by the state
-unfoldable pub follows_in : State → NetworkLine → Bool
+abbrev pub follows_in : State → NetworkLine → Bool
 follows_in s (W _ _ _) = eqb s.lines 0
 follows_in s (A _) = ltb 0 s.lines
 
 -- 14 for the numbers, by the state
-unfoldable pub in_order_in : State → NetworkLine → Bool
+abbrev pub in_order_in : State → NetworkLine → Bool
 in_order_in s (W _ _ _) = true
 in_order_in s (A a) = leb s.last a.from
 
 -- the tests of a line and of what it says, in their order
-unfoldable pub tests_in : (lent : ℕ) → State → Line → NetworkLine → List Test
+abbrev pub tests_in : (lent : ℕ) → State → Line → NetworkLine → List Test
 tests_in lent s line said =
     Order unless follows_in s said
     ∷ Range unless in_fixed_ranges network_forms line
@@ -51,11 +51,11 @@ tests_in lent s line said =
     ∷ network_tests lent said
 
 -- not 17: whether these lines are all that the W line promised
-unfoldable pub complete_in : State → Bool
+abbrev pub complete_in : State → Bool
 complete_in s = ltb 0 s.lines && eqb s.arcs s.counts.arcs
 
 -- the state after one more line
-unfoldable pub next_state : State → NetworkLine → State
+abbrev pub next_state : State → NetworkLine → State
 next_state s (W states metastates arcs) =
     record {
       lines = s.lines + 1;

@@ -6,7 +6,7 @@ use Rattle.definitions.specs.NetworkText.{NetworkLine, W, A, arcs_of}
 use Rattle.lines.specs.Putting.{put_at}
 
 -- the arcs after a line, when so many were there
-unfoldable pub arcs_after : (arcs : ℕ) → NetworkLine → List ℕ → List ℕ
+abbrev pub arcs_after : (arcs : ℕ) → NetworkLine → List ℕ → List ℕ
 arcs_after arcs (W _ _ _) table = table
 arcs_after arcs (A a) table = put_at (arc_size * arcs) (arc_words a) table
 

@@ -8,93 +8,99 @@ ghost use Rattle.nettext.specs.Entries.{entry_line};
 ghost use Rattle.nettext.specs.States.{follows_in, in_order_in, tests_in};
 
 use crate::{Entry, State};
+use arcs::Arc;
 use arcs::known::is_state;
 use definitions::{ARC_SIZE, Counts, Fault, wide};
 use lines::ranges::in_fixed_ranges;
-use lines::{Letters, Row, Verdict};
+use lines::{Letters, Row};
 
-// What a row says. A row of another letter than W says what an A line says.
-pub fn entry_of(row: Row) -> Entry
-    requires { row ≡ row_of (line_in row) }
-    ensures { entry_line result ≡ network_line (line_in row) }
-{
-    let letter = row.letter;
-    let n = row.numbers;
-    if letter == b'W' {
-        let counts = Counts {
-            states: n[0],
-            metastates: n[1],
-            arcs: n[2],
-        };
-        return Entry::W(counts);
+impl Entry {
+    // What a row says. A row of another letter than W says what an A line says.
+    pub fn entry_of(row: Row) -> Entry
+        requires { row ≡ row_of (line_in row) }
+        ensures { entry_line result ≡ network_line (line_in row) }
+    {
+        let n = row.numbers;
+        if row.letter == b'W' {
+            Entry::W(Counts {
+                states: n[0],
+                metastates: n[1],
+                arcs: n[2],
+            })
+        } else {
+            Entry::A(Arc {
+                from: n[0],
+                to: n[1],
+                model: n[2],
+                phone: n[3],
+            })
+        }
     }
-    Entry::A(n[0], n[1], n[2], n[3])
-}
 
-// 14 for the letter: whether a line of this letter may stand next.
-fn follows(s: State, entry: Entry) -> bool
-    ensures { result ≡ follows_in s (entry_line entry) }
-{
-    match entry {
-        Entry::W(_) => s.lines == 0,
-        Entry::A(_, _, _, _) => 0 < s.lines,
+    // 13 by the counts of the W line.
+    #[tactic(auto, unfolding(definitions::specs::NetworkText::within_counts))]
+    fn within_counts(self, counts: Counts) -> bool
+        ensures { result ≡ within_counts counts (entry_line self) }
+    {
+        match self {
+            Entry::W(_) => true,
+            Entry::A(arc) => is_state(counts, arc.from) && is_state(counts, arc.to),
+        }
     }
-}
 
-// 13 by the counts of the W line.
-fn within_counts(counts: Counts, entry: Entry) -> bool
-    ensures { result ≡ within_counts counts (entry_line entry) }
-{
-    match entry {
-        Entry::W(_) => true,
-        Entry::A(from, to, _, _) => {
-            if !is_state(counts, from) {
-                return false;
-            }
-            is_state(counts, to)
+    // 20 at the W line: whether so many words have room for its arcs.
+    #[tactic(auto, unfolding(definitions::specs::NetworkText::counts_in_line))]
+    fn table_fits(self, lent: usize) -> bool
+        ensures { result ≡ leb (arc_size * (counts_in_line (entry_line self)).arcs) lent }
+    {
+        match self {
+            Entry::W(counts) => ARC_SIZE * wide(counts.arcs) <= lent,
+            Entry::A(_) => true,
         }
     }
 }
 
-// 14 for the numbers: sources never descend.
-fn in_order(s: State, entry: Entry) -> bool
-    ensures { result ≡ in_order_in s (entry_line entry) }
-{
-    match entry {
-        Entry::W(_) => true,
-        Entry::A(from, _, _, _) => s.last <= from,
+impl State {
+    // 14 for the letter: whether a line of this letter may stand next.
+    fn follows(self, entry: Entry) -> bool
+        ensures { result ≡ follows_in self (entry_line entry) }
+    {
+        match entry {
+            Entry::W(_) => self.lines == 0,
+            Entry::A(_) => 0 < self.lines,
+        }
     }
-}
 
-// 20 at the W line: whether so many words have room for its arcs.
-fn table_fits(lent: usize, entry: Entry) -> bool
-    ensures { result ≡ leb (arc_size * (counts_in_line (entry_line entry)).arcs) lent }
-{
-    match entry {
-        Entry::W(counts) => ARC_SIZE * wide(counts.arcs) <= lent,
-        Entry::A(_, _, _, _) => true,
+    // 14 for the numbers: sources never descend.
+    fn in_order(self, entry: Entry) -> bool
+        ensures { result ≡ in_order_in self (entry_line entry) }
+    {
+        match entry {
+            Entry::W(_) => true,
+            Entry::A(arc) => self.last <= arc.from,
+        }
     }
-}
 
-// The first test of a row and of what it says that fails.
-pub fn judge_line(s: State, lent: usize, row: Row, entry: Entry) -> Verdict
-    ensures { result ≡ verdict_of (tests_in lent s (line_in row) (entry_line entry)) }
-{
-    if !follows(s, entry) {
-        return Verdict::Failed(Fault::Order);
+    // The first test of a row and of what it says that fails.
+    #[tactic(auto, unfolding(definitions::specs::NetworkText::network_tests, lines::specs::Judging::verdict_of))]
+    pub fn judge_line(self, lent: usize, row: Row, entry: Entry) -> Result<(), Fault>
+        ensures { result ≡ verdict_of (tests_in lent self (line_in row) (entry_line entry)) }
+    {
+        if !self.follows(entry) {
+            return Err(Fault::Order);
+        }
+        if !in_fixed_ranges(Letters::Network, row) {
+            return Err(Fault::Range);
+        }
+        if !entry.within_counts(self.counts) {
+            return Err(Fault::Range);
+        }
+        if !self.in_order(entry) {
+            return Err(Fault::Order);
+        }
+        if !entry.table_fits(lent) {
+            return Err(Fault::Narrow);
+        }
+        Ok(())
     }
-    if !in_fixed_ranges(Letters::Network, row) {
-        return Verdict::Failed(Fault::Range);
-    }
-    let counts = s.counts;
-    if !within_counts(counts, entry) {
-        return Verdict::Failed(Fault::Range);
-    }
-    if !in_order(s, entry) {
-        return Verdict::Failed(Fault::Order);
-    }
-    if !table_fits(lent, entry) {
-        return Verdict::Failed(Fault::Narrow);
-    }
-    Verdict::Passed
 }

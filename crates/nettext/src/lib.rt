@@ -8,36 +8,22 @@ mod storing;
 mod taking;
 pub mod writer;
 
-use definitions::{Counts, Fault, Refusal};
-
-// What reading answers.
-#[derive(Clone, Copy)]
-pub enum Reading {
-    Accepted(Counts),
-    Refused(Refusal),
-}
+use arcs::Arc;
+use definitions::Counts;
 
 // What a line says, by its letter.
-#[derive(Clone, Copy)]
+#[derive(Clone, Copy, PartialEq, Eq)]
 enum Entry {
     W(Counts),
-    // From, to, model and phone of an arc.
-    A(u32, u32, u32, u32),
+    A(Arc),
 }
 
 // What is kept of the lines taken so far.
-#[derive(Clone, Copy)]
+#[derive(Clone, Copy, PartialEq, Eq)]
 struct State {
     lines: usize,
     counts: Counts,
     arcs: usize,
     // The source of the last arc, 0 before the first.
     last: u32,
-}
-
-// What taking a line gives: the state after it, or its fault.
-#[derive(Clone, Copy)]
-enum Step {
-    Next(State),
-    Stop(Fault),
 }

@@ -3,16 +3,17 @@ ghost use Rattle.std.specs.Prelude.{◌≡◌, length};
 ghost use Rattle.nettext.specs.Entries.{entry_line};
 ghost use Rattle.nettext.specs.Storing.{HasRoom, arcs_after};
 
-use crate::{Entry, State};
+use crate::Entry;
 use arcs::putting::put_arc;
 
-// One line more in the arcs.
-pub fn store(s: State, entry: Entry, arcs: &mut [u32])
-    requires { HasRoom s.arcs (length arcs.old) (entry_line entry) }
-    ensures { arcs.new ≡ arcs_after s.arcs (entry_line entry) arcs.old }
-{
-    match entry {
-        Entry::W(_) => {}
-        Entry::A(from, to, model, phone) => put_arc(arcs, s.arcs, from, to, model, phone),
+impl Entry {
+    // One line more in the arcs, where so many were there.
+    pub fn store(self, before: usize, arcs: &mut [u32])
+        requires { HasRoom before (length arcs.old) (entry_line self) }
+        ensures { arcs.new ≡ arcs_after before (entry_line self) arcs.old }
+    {
+        if let Entry::A(arc) = self {
+            put_arc(arcs, before, arc);
+        }
     }
 }

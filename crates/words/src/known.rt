@@ -35,13 +35,7 @@ fn word_known(row: &[u32]) -> bool
 fn records_known(words: &[u32]) -> bool
     ensures { result ≡ every word_known (records word_size (length words.now / word_size) words.now) }
 {
-    for i in 0..words.len() / WORD_SIZE {
-        let at = WORD_SIZE * i;
-        if !word_known(&words[at..at + WORD_SIZE]) {
-            return false;
-        }
-    }
-    true
+    words.chunks_exact(WORD_SIZE).all(word_known)
 }
 
 // Whether the reader of word books leaves this table with this count.

@@ -20,7 +20,7 @@ abbrev pub digit_byte : ℕ → ℕ
 digit_byte digit = code "0" + digit
 
 -- the byte of a number's last digit; a space for 0, which has no digit before another one
-unfoldable pub last_byte : ℕ → ℕ
+abbrev pub last_byte : ℕ → ℕ
 last_byte rest = if eqb rest 0 then space else digit_byte (rest % 10)
 
 -- the bytes that stand before another digit: the digits of `rest`, and spaces to their left

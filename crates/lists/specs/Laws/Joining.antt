@@ -9,9 +9,7 @@ use Rattle.definitions.specs.Lists.{◌!◌, cleared, padded}
 use Rattle.definitions.specs.Matrices.{Matrix, most_half, most_columns, matrix_words}
 use Rattle.matrix.specs.Shapes.{width_of, matrix_in}
 use Rattle.matrix.specs.Laws.Widths.{matrix-back}
-use Rattle.lists.specs.Held.{columns_at}
 use Rattle.lists.specs.Joining.{join, hull_from, hull}
-use Rattle.lists.specs.Laws.Held.{columns-at, columns-length}
 
 -- ---- column by column
 
@@ -28,25 +26,24 @@ join-column (x ∷ a) [] c h k = absurd (omega arith)
 join-column (x ∷ a) (y ∷ b) zero h k = refl
 join-column (x ∷ a) (y ∷ b) (suc c) h k = join-column a b c (omega arith) (omega arith)
 
--- a matrix in seven words joined with the one from a place on
-module _ {half : ℕ} (narrow : half ≤ most_half) (columns : List ℕ) (seven : length columns ≡ most_columns)
-    (words : List ℕ) (from : ℕ) (there : from + width_of half ≤ length words)
+-- two matrices in seven words
+module _ {half : ℕ} (narrow : half ≤ most_half) (a : List ℕ) (e : length a ≡ most_columns) (b : List ℕ)
+    (f : length b ≡ most_columns)
   where
-    own : length (matrix_in half columns) ≡ width_of half
-    own = length-take-le (width_of half) columns (omega (arith, seven))
+    own : length (matrix_in half a) ≡ width_of half
+    own = length-take-le (width_of half) a (omega (arith, e))
 
-    other : length (columns_at half words from) ≡ width_of half
-    other = columns-length half words from there
+    other : length (matrix_in half b) ≡ width_of half
+    other = length-take-le (width_of half) b (omega (arith, f))
 
-    pub joined_length : length (join (matrix_in half columns) (columns_at half words from)) ≡ width_of half
-    joined_length = join-length (matrix_in half columns) (columns_at half words from) (own ∙ sym other) ∙ own
+    pub joined_length : length (join (matrix_in half a) (matrix_in half b)) ≡ width_of half
+    joined_length = join-length (matrix_in half a) (matrix_in half b) (own ∙ sym other) ∙ own
 
     pub joined-column : (c : ℕ) → c < width_of half
-        → bit_or (columns ! c) (words ! (from + c)) ≡ join (matrix_in half columns) (columns_at half words from) ! c
+        → bit_or (a ! c) (b ! c) ≡ join (matrix_in half a) (matrix_in half b) ! c
     joined-column c h =
-        sym (join-column (matrix_in half columns) (columns_at half words from) c (omega (arith, own))
-        (omega (arith, other))
-        ∙ ap₂ bit_or (get_or-take (width_of half) columns c 0 h) (columns-at half words from c h))
+        sym (join-column (matrix_in half a) (matrix_in half b) c (omega (arith, own)) (omega (arith, other))
+        ∙ ap₂ bit_or (get_or-take (width_of half) a c 0 h) (get_or-take (width_of half) b c 0 h))
 
 -- ---- matrix by matrix
 

@@ -5,11 +5,11 @@ use Rattle.definitions.specs.Lists.{◌!◌, cleared, padded}
 use Rattle.definitions.specs.Matrices.{Matrix, most_half, most_columns, matrix_words}
 use Rattle.definitions.proofs.Laws.Lists.Lists.{drop-cleared}
 use Rattle.definitions.proofs.Laws.Matrices.SevenWords.{words-column, words-length}
-use Rattle.matrix.specs.Shapes.{width_of, matrix_in}
-use Rattle.matrix.specs.Laws.Widths.{matrix-back}
+use Rattle.matrix.specs.Shapes.{width_of, matrix_in, HasWidth}
+use Rattle.matrix.specs.Laws.Widths.{matrix-back, has_width}
 use Rattle.matrix.specs.Laws.Words.{Columns, columns-more, filled-rest, words-rest}
-use Rattle.lists.specs.Held.{columns_at, list_in}
-use Rattle.lists.specs.Laws.Held.{columns-length, Turn}
+use Rattle.lists.specs.Held.{start_of, list_in, Holds}
+use Rattle.lists.specs.Laws.Held.{columns-length, place-within, list_at}
 
 -- ---- made column by column
 
@@ -32,9 +32,16 @@ over-zeros x h {width} e = ap (λ (l : List ℕ). x ++ l) (drop-cleared width mo
 
 -- ---- read from a list
 
--- the matrix of a turn, read as a value
-pub turn-read : {half : ℕ} {words : List ℕ} {place from : ℕ} → Turn half words place from → {columns : List ℕ}
-    → columns ≡ matrix_words (columns_at half words from)
-    → get_or (list_in half words) place [] ≡ matrix_in half columns
-turn-read {half} {words} {place} {from} t e =
-    t.its ∙ sym (matrix-back (columns_at half words from) (columns-length half words from t.there) e)
+-- the matrix at a place, read as a value
+module _ {half : ℕ} {words : List ℕ} (h : Holds half words) (place : ℕ) (k : place < words ! 0) where
+  pub width-at : length (get_or (list_in half words) place []) ≡ width_of half
+  width-at =
+      ap length (list_at half words place k)
+      ∙ columns-length half words (start_of half place) (place-within h.space place (omega (arith, h.few)))
+
+  module _ {columns : List ℕ} (e : columns ≡ matrix_words (get_or (list_in half words) place [])) where
+    pub matrix-read : get_or (list_in half words) place [] ≡ matrix_in half columns
+    matrix-read = sym (matrix-back (get_or (list_in half words) place []) width-at e)
+
+    pub width-read : HasWidth (width_of half) columns
+    width-read = has_width (get_or (list_in half words) place []) width-at e

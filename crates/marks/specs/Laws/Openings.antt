@@ -109,14 +109,20 @@ module _ {words : List (List ℕ)} {size word : ℕ} {index : List ℕ} (opened 
       (λ e. apart (omega (arith, e, some, from)))
       ∙ opened.nexts next (omega (arith, apart, from)) to)
 
-  pub opened-more : OpenedAfter words size (word - 1)
-      (set (set index (64 + word - 1) (index ! (phone - 1))) (phone - 1) word)
-  opened-more = record {
+  again : OpenedAfter words size (word - 1) filled
+  again = record {
     sized = length-set linked (phone - 1) word ∙ linked-size;
     within = omega (arith, opened.within);
     firsts = λ other from to. rw before (firsts_more other from to);
     nexts = λ next from to. nexts-more next (omega (arith, from)) to;
   }
+
+  pub opened-more : OpenedAfter words size (word - 1)
+      (set (set index (64 + (word - 1)) (index ! (phone - 1))) (phone - 1) (word - 1 + 1))
+  opened-more =
+      let place : 64 + (word - 1) ≡ 64 + word - 1 = omega arith in
+      let number : word - 1 + 1 ≡ word = omega arith in
+      rw (place, number) again
 
 -- all are
 pub opened-all : {words : List (List ℕ)} {size word : ℕ} {index : List ℕ} → OpenedAfter words size word index

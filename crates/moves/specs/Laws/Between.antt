@@ -1,6 +1,6 @@
 -- Laws about all moves along an arc from between words: an arc without phone keeps the mark, on silence the lesson may
 -- close first, and then words begin.
-use Rattle.std.specs.Prelude.{◌≡◌, ℕ, suc, ◌-◌, length}
+use Rattle.std.specs.Prelude.{◌≡◌, ℕ, suc, ◌-◌, length, Result, Ok, Err}
 use Rattle.std.proofs.Common.{sym, ap, ◌∙◌, subst, arith}
 use mathlib.Core.List.{List, [], ◌∷◌, ◌++◌, map}
 use borrow.Author.Tests.{eq-eqb, ne_eqb}
@@ -11,8 +11,6 @@ use Rattle.definitions.specs.Growing.{Grown}
 use Rattle.definitions.specs.Joining.{◌⊚◌, step, opening, between, outside, steps, Joined, Move, move_by}
 use Rattle.definitions.specs.Joining.{moves_along}
 use Rattle.growing.specs.declared.Sizes.{Sizes}
-use Rattle.growing.specs.declared.Step as growing
-use Rattle.growing.specs.declared.Step.TheVariants as answer
 use Rattle.growing.specs.Laws.Going.{going_start, going-last, going_more, going-stop}
 use Rattle.marks.specs.Lexicon.{spelled}
 use Rattle.joined.specs.States.{room_of, held, StepLeft}
@@ -29,34 +27,34 @@ module _ (words : List ℕ) (hop : Hop) where
   abbrev pub closing : Move
   closing = move_by (hop_arc hop) (step 0 (0 ⊚ 2))
 
-  every-word : concat_map (opening (spelled words) hop.phone) (up_from 1 (length (spelled words)))
-      ≡ openings (spelled words) hop.phone 1
+  every-word : concat_map (opening (spelled words) hop.arc.phone) (up_from 1 (length (spelled words)))
+      ≡ openings (spelled words) hop.arc.phone 1
   every-word =
       let many : length (spelled words) ≡ suc (length (spelled words)) - 1 = omega arith in
-      ap (λ (n : ℕ). concat_map (opening (spelled words) hop.phone) (up_from 1 n)) many
+      ap (λ (n : ℕ). concat_map (opening (spelled words) hop.arc.phone) (up_from 1 n)) many
 
-  pub keeps-between : hop.phone ≡ 0
+  pub keeps-between : hop.arc.phone ≡ 0
       → allowed (move_by (hop_arc hop) (step 0 (0 ⊚ 1)) ∷ []) ≡ moves_along (spelled words) (0 ⊚ 1) (hop_arc hop)
   unfolding moves_along steps
-  keeps-between e = rw (eq-eqb hop.phone 0 e)
+  keeps-between e = rw (eq-eqb hop.arc.phone 0 e)
 
-  pub opens-only : (hop.phone ≡ 0 → ⊥) → (hop.phone ≡ 1 → ⊥)
+  pub opens-only : (hop.arc.phone ≡ 0 → ⊥) → (hop.arc.phone ≡ 1 → ⊥)
       → opened words hop 1 ≡ moves_along (spelled words) (0 ⊚ 1) (hop_arc hop)
   unfolding moves_along steps outside between
   opens-only n m =
-      rw (ne_eqb hop.phone 0 n, ne_eqb hop.phone 1 m)
+      rw (ne_eqb hop.arc.phone 0 n, ne_eqb hop.arc.phone 1 m)
       (ap (λ l. allowed (map (move_by (hop_arc hop)) l)) (sym every-word))
 
-  closes-and-opens : (hop.phone ≡ 0 → ⊥) → hop.phone ≡ 1
+  closes-and-opens : (hop.arc.phone ≡ 0 → ⊥) → hop.arc.phone ≡ 1
       → moves_along (spelled words) (0 ⊚ 1) (hop_arc hop) ≡ allowed (closing ∷ []) ++ opened words hop 1
   unfolding moves_along steps outside between
   closes-and-opens n e =
-      rw (ne_eqb hop.phone 0 n, eq-eqb hop.phone 1 e)
+      rw (ne_eqb hop.arc.phone 0 n, eq-eqb hop.arc.phone 1 e)
       (ap (λ l. allowed (closing ∷ map (move_by (hop_arc hop)) l)) every-word
-      ∙ allowed-more closing (map (move_by (hop_arc hop)) (openings (spelled words) hop.phone 1)))
+      ∙ allowed-more closing (map (move_by (hop_arc hop)) (openings (spelled words) hop.arc.phone 1)))
 
 -- the same outcome by other words for its moves
-pub left_by : {states joined chains states' joined' chains' : List ℕ} {answer : growing.Step} (sizes : Sizes) (from : ℕ)
+pub left_by : {states joined chains states' joined' chains' : List ℕ} {answer : Result Sizes Fault} (sizes : Sizes) (from : ℕ)
     {k l : List Move} → k ≡ l
     → StepLeft states joined chains (moved_all states joined sizes from k) answer states' joined' chains'
     → StepLeft states joined chains (moved_all states joined sizes from l) answer states' joined' chains'
@@ -66,11 +64,11 @@ left_by {states} {joined} {chains} {states'} {joined'} {chains'} {answer} sizes 
 
 module _ {hop : Hop} {words index : List ℕ} {sizes : Sizes} {states joined chains : List ℕ}
     (f : Followable hop words index sizes states joined chains) where
-  pub openable : (hop.phone ≡ 0 → ⊥) → Openable hop words index sizes states joined chains
+  pub openable : (hop.arc.phone ≡ 0 → ⊥) → Openable hop words index sizes states joined chains
   openable n = record { followable = f; some = omega (arith, n) }
 
   -- the closing silence is entered, then the words
-  module _ (n : hop.phone ≡ 0 → ⊥) (e : hop.phone ≡ 1) {r : growing.Step} {states' joined' chains' : List ℕ}
+  module _ (n : hop.arc.phone ≡ 0 → ⊥) (e : hop.arc.phone ≡ 1) {r : Result Sizes Fault} {states' joined' chains' : List ℕ}
       (left : StepLeft states joined chains
       (moved_all states joined sizes hop.from (allowed (closing words hop ∷ []))) r states' joined' chains') where
     abbrev whole : Outcome (Grown Joined)
@@ -83,7 +81,7 @@ module _ {hop : Hop} {words index : List ℕ} {sizes : Sizes} {states joined cha
         going_start whole _ f.underway
         (ap (moved_all states joined sizes hop.from) (closes-and-opens words hop n e))
 
-    pub closed : {next : Sizes} → r ≡ answer.Next next
+    pub closed : {next : Sizes} → r ≡ Ok next
         → Going states joined chains
         (moved_all states joined sizes hop.from (moves_along (spelled words) (0 ⊚ 1) (hop_arc hop)))
         (moved_in (room_of states joined) hop.from (opened words hop 1)) next states' joined' chains'
@@ -92,7 +90,7 @@ module _ {hop : Hop} {words index : List ℕ} {sizes : Sizes} {states joined cha
         (moved-parts (room_of states joined) hop.from (held sizes states joined) (allowed (closing words hop ∷ []))
         (opened words hop 1)) a
 
-    pub closed-openable : {next : Sizes} → r ≡ answer.Next next
+    pub closed-openable : {next : Sizes} → r ≡ Ok next
         → Openable hop words index next states' joined' chains'
     closed-openable a =
         record {
@@ -106,7 +104,7 @@ module _ {hop : Hop} {words index : List ℕ} {sizes : Sizes} {states joined cha
           some = omega (arith, e);
         }
 
-    pub closed-then : {next : Sizes} → r ≡ answer.Next next → {s : growing.Step} {states'' joined'' chains'' : List ℕ}
+    pub closed-then : {next : Sizes} → r ≡ Ok next → {s : Result Sizes Fault} {states'' joined'' chains'' : List ℕ}
         → StepLeft states' joined' chains' (moved_all states' joined' next hop.from (opened words hop 1)) s
         states'' joined'' chains''
         → StepLeft states joined chains
@@ -116,10 +114,10 @@ module _ {hop : Hop} {words index : List ℕ} {sizes : Sizes} {states joined cha
         going-last (closed a)
         (step_in (closed a) (λ room. moved_in room hop.from (opened words hop 1) (held next states' joined')) last)
 
-    pub closed-stop : {fault : Fault} → r ≡ answer.Stop fault
+    pub closed-stop : {fault : Fault} → r ≡ Err fault
         → StepLeft states joined chains
         (moved_all states joined sizes hop.from (moves_along (spelled words) (0 ⊚ 1) (hop_arc hop)))
-        (answer.Stop fault) states' joined' chains'
+        (Err fault) states' joined' chains'
     closed-stop a =
         going-stop begun (moved_in (room_of states joined) hop.from (opened words hop 1)) left
         (moved-parts (room_of states joined) hop.from (held sizes states joined) (allowed (closing words hop ∷ []))

@@ -1,5 +1,5 @@
 -- Laws about the words that begin on an arc, taken one by one along their index.
-use Rattle.std.specs.Prelude.{if◌then◌else◌, ◌≡◌, refl, List, [], ◌∷◌, ◌++◌, map, ℕ, suc, ◌+◌, ◌-◌, ◌/◌, ◌≤◌, ◌<◌, eqb, leb, length}
+use Rattle.std.specs.Prelude.{if◌then◌else◌, ◌≡◌, List, [], ◌∷◌, ◌++◌, map, ℕ, suc, ◌+◌, ◌-◌, ◌/◌, ◌≤◌, ◌<◌, eqb, leb, length, Result, Ok, Err}
 use Rattle.std.proofs.Math.Path.{sym, ap}
 use Rattle.std.proofs.Common.{◌∙◌, subst, arith, ne_eqb}
 use Rattle.std.proofs.lemmas.List.{map-append}
@@ -12,17 +12,15 @@ use Rattle.definitions.specs.Growing.{Grown, Room, enter, perform_all}
 use Rattle.definitions.specs.Joining.{Mark, step, is_word, spoken_to, Joined, Move, move_by, may_enter}
 use Rattle.definitions.proofs.Laws.Lists.Tests.{T_and, by-test}
 use Rattle.growing.specs.declared.Sizes.{Sizes}
-use Rattle.growing.specs.declared.Step.{Step}
-use Rattle.growing.specs.declared.Step.TheVariants as answer
 use Rattle.growing.specs.Laws.Performing.{performed-parts}
-use Rattle.growing.specs.Laws.Going.{going_start, going_done, going_more, going-stop}
+use Rattle.growing.specs.Laws.Going.{going_done, going_more, going-stop}
 use Rattle.marks.specs.Lexicon.{spelled}
 use Rattle.marks.specs.Openings.{opening_from}
 use Rattle.marks.specs.Wanting.{IsWord}
 use Rattle.marks.specs.Laws.Lexicon.{spelled-length}
 use Rattle.marks.specs.Laws.Walking.{opening-end, opening-next}
-use Rattle.joined.specs.States.{room_of, entering, held, Underway, StepLeft}
-use Rattle.joined.specs.Laws.Going.{Going, going_on, step_in}
+use Rattle.joined.specs.States.{room_of, entering, held, StepLeft}
+use Rattle.joined.specs.Laws.Going.{Going, step_in}
 use Rattle.moves.specs.declared.Hop.{Hop}
 use Rattle.moves.specs.Moving.{hop_arc, moved_all, allowed, openings, Openable}
 
@@ -44,14 +42,14 @@ allowed-more m l = by-test (may_enter m.target) (λ e. rw e) (λ e. rw e)
 
 -- the moves by the words from one on
 abbrev pub opened : (words : List ℕ) → Hop → (word : ℕ) → List Move
-opened words hop word = allowed (map (move_by (hop_arc hop)) (openings (spelled words) hop.phone word))
+opened words hop word = allowed (map (move_by (hop_arc hop)) (openings (spelled words) hop.arc.phone word))
 
 -- the words before a word are entered, and it is the next
 pub record Opening (words : List ℕ) (hop : Hop) (states₀ joined₀ chains₀ : List ℕ) (sizes : Sizes)
     (states joined chains : List ℕ) (now : Sizes) (word : ℕ) : Type 0 where
   pub from : ℕ
   pub low : 1 ≤ from
-  pub first : opening_from (spelled words) hop.phone from ≡ word
+  pub first : opening_from (spelled words) hop.arc.phone from ≡ word
   pub going : Going states₀ joined₀ chains₀
       (moved_all states₀ joined₀ sizes hop.from (opened words hop 1))
       (moved_in (room_of states₀ joined₀) hop.from (opened words hop from)) now states joined chains
@@ -65,26 +63,14 @@ module _ {hop : Hop} {words index : List ℕ} {sizes : Sizes} {states₀ joined�
   count : length (spelled words) ≡ length words / 65
   count = spelled-length words
 
-  pub opening-start : {word : ℕ} → word ≡ index ! (hop.phone - 1)
-      → Opening words hop states₀ joined₀ chains₀ sizes states₀ joined₀ chains₀ sizes word
-  opening-start e = record {
-    from = 1;
-    low = omega arith;
-    first = sym (e ∙ o.followable.opened.firsts hop.phone o.some o.followable.phone);
-    going = going_start _ _ o.followable.underway refl;
-  }
-
   module _ {states joined chains : List ℕ} {now : Sizes} {word : ℕ}
       (p : Opening words hop states₀ joined₀ chains₀ sizes states joined chains now word) where
-    pub opening-asks : Underway now states joined chains
-    opening-asks = going_on p.going
-
     pub opening-done : word ≡ 0
         → StepLeft states₀ joined₀ chains₀ (moved_all states₀ joined₀ sizes hop.from (opened words hop 1))
-        (answer.Next now) states joined chains
+        (Ok now) states joined chains
     unfolding perform_all select
     opening-done e =
-        let none = opening-end (spelled words) hop.phone p.from p.low (p.first ∙ e) in
+        let none = opening-end (spelled words) hop.arc.phone p.from p.low (p.first ∙ e) in
         going_done p.going
         (ap (λ steps. moved_in (room_of states₀ joined₀) hop.from (allowed (map (move_by (hop_arc hop)) steps))
         (held now states joined)) none)
@@ -95,7 +81,7 @@ module _ {hop : Hop} {words index : List ℕ} {sizes : Sizes} {states₀ joined�
 
       pub opening-word : IsWord words word
       opening-word =
-          let (up, within, begins, those) = opening-next (spelled words) hop.phone p.from word p.first n in
+          let (up, within, begins, those) = opening-next (spelled words) hop.arc.phone p.from word p.first n in
           record { low = omega (arith, up, p.low); high = omega (arith, within, count) }
 
       -- the place of its link
@@ -104,15 +90,15 @@ module _ {hop : Hop} {words index : List ℕ} {sizes : Sizes} {states₀ joined�
 
       parts : opened words hop p.from ≡ allowed (move ∷ []) ++ opened words hop (suc word)
       parts =
-          let (up, within, begins, those) = opening-next (spelled words) hop.phone p.from word p.first n in
+          let (up, within, begins, those) = opening-next (spelled words) hop.arc.phone p.from word p.first n in
           ap (λ steps. allowed (map (move_by (hop_arc hop)) steps)) those
-          ∙ allowed-more move (map (move_by (hop_arc hop)) (openings (spelled words) hop.phone (suc word)))
+          ∙ allowed-more move (map (move_by (hop_arc hop)) (openings (spelled words) hop.arc.phone (suc word)))
 
       following : {next : ℕ} → next ≡ index ! (64 + word - 1)
-          → opening_from (spelled words) hop.phone (suc word) ≡ next
+          → opening_from (spelled words) hop.arc.phone (suc word) ≡ next
       unfolding is_word
       following e =
-          let (up, within, begins, those) = opening-next (spelled words) hop.phone p.from word p.first n in
+          let (up, within, begins, those) = opening-next (spelled words) hop.arc.phone p.from word p.first n in
           let is : T (is_word (spelled words) word) =
           (T_and (leb 1 word) (leb word (length (spelled words)))).1
           (le→leb 1 word opening-word.low, le→leb word (length (spelled words)) within) in
@@ -127,10 +113,10 @@ module _ {hop : Hop} {words index : List ℕ} {sizes : Sizes} {states₀ joined�
           (λ t.
           let other : (next ≡ 0 → ⊥) = eqb-false next 0 t in
           let (up, within, begins, those) =
-          opening-next (spelled words) hop.phone (suc word) next (following e) other in
+          opening-next (spelled words) hop.arc.phone (suc word) next (following e) other in
           rw (t, ne_eqb word 0 n) (omega (arith, up, within, count)))
 
-      module _ {mark : Mark} (f : mark ≡ spoken_to (spelled words) word 1) {r : Step}
+      module _ {mark : Mark} (f : mark ≡ spoken_to (spelled words) word 1) {r : Result Sizes Fault}
           {states' joined' chains' : List ℕ}
           (left : StepLeft states joined chains
           (moved_all states joined now hop.from (allowed (move_by (hop_arc hop) (step word mark) ∷ []))) r
@@ -151,7 +137,7 @@ module _ {hop : Hop} {words index : List ℕ} {sizes : Sizes} {states₀ joined�
             ∙ moved-parts (room_of states₀ joined₀) hop.from (held now states joined) (allowed (move ∷ []))
             (opened words hop (suc word))
 
-        pub opening-more : {next : Sizes} → r ≡ answer.Next next → {link : ℕ} → link ≡ index ! (64 + word - 1)
+        pub opening-more : {next : Sizes} → r ≡ Ok next → {link : ℕ} → link ≡ index ! (64 + word - 1)
             → Opening words hop states₀ joined₀ chains₀ sizes states' joined' chains' next link
         opening-more a e = record {
           from = suc word;
@@ -163,9 +149,9 @@ module _ {hop : Hop} {words index : List ℕ} {sizes : Sizes} {states₀ joined�
               here) both a;
         }
 
-        pub opening-stop : {fault : Fault} → r ≡ answer.Stop fault
+        pub opening-stop : {fault : Fault} → r ≡ Err fault
             → StepLeft states₀ joined₀ chains₀ (moved_all states₀ joined₀ sizes hop.from (opened words hop 1))
-            (answer.Stop fault) states' joined' chains'
+            (Err fault) states' joined' chains'
         opening-stop a =
             going-stop p.going (moved_in (room_of states₀ joined₀) hop.from (opened words hop (suc word)))
             (step_in p.going (λ room. moved_in room hop.from (allowed (move ∷ [])) (held now states joined)) here)

@@ -1,24 +1,28 @@
 -- Laws about the arcs of a state that are passed over: nothing leads along them.
-use Rattle.std.specs.Prelude.{◌≡◌, refl, false, ℕ, ◌+◌, ◌*◌, ◌/◌, ◌≤◌, ◌<◌, drop}
-use Rattle.std.proofs.Common.{sym, ◌∙◌, arith, drop_of_length-le, ne_eqb, eq-eqb}
+use Rattle.std.specs.Prelude.{◌≡◌, false, ℕ, ◌+◌, ◌*◌, ◌/◌, ◌≤◌, ◌<◌, eqb, drop}
+use Rattle.std.proofs.Common.{sym, ◌∙◌, arith, drop_of_length-le, eq-eqb, true≢false}
 use Rattle.std.proofs.Math.Path.{ap}
 use mathlib.Core.List.{List, [], ◌++◌}
 use Rattle.std.proofs.Math.ListN.{length, get_or}
 use Rattle.definitions.specs.Lists.{◌!◌, select, concat_map}
 use Rattle.definitions.specs.Arcs.{Arc, arc_size, arc_of}
-use Rattle.definitions.specs.Joining.{◌⊚◌, Mark, steps, Move, moves_along}
+use Rattle.definitions.specs.Joining as joining
+use Rattle.definitions.specs.Joining.{◌⊚◌, steps, Move, moves_along}
 use Rattle.definitions.proofs.Laws.Lists.Selected.{select-here}
 use Rattle.definitions.proofs.Laws.Networks.KnownNetworks.{arcs-length}
 use Rattle.arcs.specs.Laws.KnownArcs.{arc-at, source-at, arc-words-at, arcs-next}
 use Rattle.arcs.specs.Whole.{all_arcs, arc_at}
 use Rattle.arcs.specs.Laws.Leaving.{leaves, own-past}
 use Rattle.marks.specs.Wanting.{steps_by, Leads}
+use Rattle.std.proofs.lemmas.Bool.{or_parts}
+use Rattle.marks.specs.declared.Mark.{Mark}
 use Rattle.marks.specs.declared.Wanted.{Wanted}
-use Rattle.moves.specs.Skipping.{moves_from, AfterSources, Skipped}
+use Rattle.marks.specs.declared.Wanted.TheVariants.{Words, Phone, Nothing}
+use Rattle.moves.specs.Skipping.{leads_along, moves_from, AfterSources, Skipped}
 
 module _ (arcs : List ℕ) (at : ℕ) (l : at < length arcs / arc_size) where
   -- the moves along an arc of the state, and then those from the next on
-  module _ (words : List (List ℕ)) (p : Mark) {state : ℕ} (e : arcs ! (arc_size * at) ≡ state) where
+  module _ (words : List (List ℕ)) (p : joining.Mark) {state : ℕ} (e : arcs ! (arc_size * at) ≡ state) where
     pub moves-here : moves_from words p arcs state at
         ≡ moves_along words p (arc_at arcs at) ++ moves_from words p arcs state (at + 1)
     unfolding concat_map
@@ -30,7 +34,7 @@ module _ (arcs : List ℕ) (at : ℕ) (l : at < length arcs / arc_size) where
         (select-here (leaves state) (arc_at arcs at) (drop (at + 1) (all_arcs arcs)) (eq-eqb _ _ own))
 
   -- none from an arc of another state on
-  moves-past : (words : List (List ℕ)) (p : Mark) {state from : ℕ} → AfterSources arcs state from → from ≤ at
+  moves-past : (words : List (List ℕ)) (p : joining.Mark) {state from : ℕ} → AfterSources arcs state from → from ≤ at
       → (arcs ! (arc_size * at) ≡ state → ⊥) → moves_from words p arcs state at ≡ []
   unfolding concat_map
   moves-past words p {state} after up other =
@@ -41,22 +45,29 @@ module _ (arcs : List ℕ) (at : ℕ) (l : at < length arcs / arc_size) where
       (λ e. other (sym (source-at arcs at) ∙ ap (λ (a : Arc). a.from) (sym there) ∙ e)))
 
 -- none at the end
-pub moves-end : (words : List (List ℕ)) (p : Mark) (arcs : List ℕ) (state : ℕ) {at : ℕ} → length arcs / arc_size ≤ at
+pub moves-end : (words : List (List ℕ)) (p : joining.Mark) (arcs : List ℕ) (state : ℕ) {at : ℕ} → length arcs / arc_size ≤ at
     → moves_from words p arcs state at ≡ []
 unfolding concat_map select
 moves-end words p arcs state {at} h =
     ap (λ (k : List Arc). concat_map (moves_along words p) (select (leaves state) k))
     (drop_of_length-le (all_arcs arcs) {i = at} (omega (arith, h, arcs-length (length arcs / arc_size) arcs)))
 
+-- one phone that leads on is not the words that begin, nor is nothing
+pub phone-only : {own : ℕ} {next : Mark} → Phone own next ≡ Words → ⊥
+phone-only e = let z : ◌≡◌ {A = ℕ} 0 1 = cc in absurd (omega arith)
+
+pub nothing-only : Nothing ≡ Words → ⊥
+nothing-only e = let z : ◌≡◌ {A = ℕ} 0 1 = cc in absurd (omega arith)
+
 -- nothing leads along an arc whose phone is not wanted
-pub nothing-along : {words : List (List ℕ)} {word mark : ℕ} {wanted : Wanted} → Leads words word mark wanted
-    → wanted.opens ≡ false → (a : Arc) → (a.phone ≡ 0 → ⊥) → (a.phone ≡ wanted.phone → ⊥)
-    → moves_along words (word ⊚ mark) a ≡ []
-unfolding moves_along steps_by select
-nothing-along {words} {word} {mark} {wanted} leads shut a n m =
-    let none : steps words (word ⊚ mark) a.phone ≡ [] =
-    leads.shut shut a.phone ∙ rw (ne_eqb a.phone 0 n, ne_eqb a.phone wanted.phone m) in
-    rw none
+pub nothing-along : {words : List (List ℕ)} {word mark : ℕ} (wanted : Wanted) → Leads words word mark wanted
+    → (a : Arc) → leads_along wanted a.phone ≡ false → moves_along words (word ⊚ mark) a ≡ []
+unfolding moves_along steps_by select leads_along
+nothing-along Words leads a bars = absurd (true≢false bars)
+nothing-along (Phone own next) leads a bars =
+    let (silent, other) = or_parts (eqb a.phone 0) (eqb a.phone own) bars in
+    rw (leads.shut phone-only a.phone, silent, other)
+nothing-along Nothing leads a bars = rw (leads.shut nothing-only a.phone, bars)
 
 -- ---- the loop
 
@@ -68,16 +79,9 @@ pub record Passing (arcs : List ℕ) (state : ℕ) (wanted : Wanted) (from at : 
       → moves_from words (word ⊚ mark) arcs state from ≡ moves_from words (word ⊚ mark) arcs state at
 
 module _ {arcs : List ℕ} {state from : ℕ} (after : AfterSources arcs state from) (wanted : Wanted) where
-  pub passing-start : Passing arcs state wanted from from
-  passing-start = record { up = omega arith; within = after.within; same = λ words word mark leads. refl }
-
   module _ {at : ℕ} (p : Passing arcs state wanted from at) where
-    -- an arc along which something leads on
-    pub skipped-to : arcs ! (arc_size * at) ≡ state → Skipped arcs state wanted from at
-    skipped-to e = record { up = p.up; within = p.within; own = λ h. e; same = p.same }
-
     -- no further arc of the state
-    skipped-all : ((words : List (List ℕ)) (q : Mark) → moves_from words q arcs state at ≡ [])
+    skipped-all : ((words : List (List ℕ)) (q : joining.Mark) → moves_from words q arcs state at ≡ [])
         → Skipped arcs state wanted from (length arcs / arc_size)
     skipped-all none = record {
       up = omega (arith, p.up, p.within);
@@ -92,18 +96,14 @@ module _ {arcs : List ℕ} {state from : ℕ} (after : AfterSources arcs state f
         → Skipped arcs state wanted from (length arcs / arc_size)
     skipped-past l other = skipped-all (λ words q. moves-past arcs at l words q after p.up other)
 
-    pub skipped-end : length arcs / arc_size ≤ at → Skipped arcs state wanted from (length arcs / arc_size)
-    skipped-end h = skipped-all (λ words q. moves-end words q arcs state h)
-
-    pub passing-more : at < length arcs / arc_size → arcs ! (arc_size * at) ≡ state → wanted.opens ≡ false
-        → (arcs ! (arc_size * at + 3) ≡ 0 → ⊥) → (arcs ! (arc_size * at + 3) ≡ wanted.phone → ⊥)
-        → Passing arcs state wanted from (at + 1)
-    passing-more l e shut n m = record {
+    pub passing-more : at < length arcs / arc_size → arcs ! (arc_size * at) ≡ state
+        → leads_along wanted (arcs ! (arc_size * at + 3)) ≡ false → Passing arcs state wanted from (at + 1)
+    passing-more l e bars = record {
       up = omega (arith, p.up);
       within = omega (arith, l);
       same = λ words word mark leads.
           let none =
-          nothing-along leads shut (arc_at arcs at) (λ f. n (sym phone-here ∙ f)) (λ f. m (sym phone-here ∙ f)) in
+          nothing-along wanted leads (arc_at arcs at) (ap (leads_along wanted) phone-here ∙ bars) in
           p.same words word mark leads ∙ moves-here arcs at l words (word ⊚ mark) e
           ∙ ap (λ (k : List Move). k ++ moves_from words (word ⊚ mark) arcs state (at + 1)) none;
     }

@@ -5,16 +5,16 @@ use Rattle.std.proofs.Common.{sym, add-one}
 use Rattle.definitions.specs.declared.Fault.TheVariants.{Count}
 use Rattle.definitions.specs.Faults.{answered, judge}
 use Rattle.definitions.specs.Reading.{read_from}
-use Rattle.definitions.specs.NetworkText.{NetworkLine, network_complete, network_kind}
+use Rattle.definitions.specs.Said.{result_of}
+use Rattle.definitions.specs.NetworkText.{NetworkLine, counts_of, network_complete, network_kind}
 use Rattle.definitions.proofs.Laws.Lists.Tests.{by-test}
 use Rattle.definitions.proofs.Laws.Text.Judging.{test-answered}
-use Rattle.nettext.specs.Answers.{reading_of}
-use Rattle.nettext.specs.States.{state_of, complete_in}
+use Rattle.nettext.specs.States.{state_of}
 use Rattle.nettext.specs.Taking.{finish_of}
 
 pub finish-state : (lent : ℕ) (before : List NetworkLine)
-    → finish_of (state_of before) ≡ reading_of (read_from (network_kind lent) (suc (length before)) before [])
-unfolding finish_of state_of complete_in read_from judge network_kind network_complete reading_of
+    → finish_of (state_of before) ≡ result_of counts_of (read_from (network_kind lent) (suc (length before)) before [])
+unfolding state_of read_from judge network_kind network_complete result_of
 finish-state lent before = by-test (network_complete before) (λ e. rw e) (λ e. rw (e, add-one))
 
 pub finish-accepted : (lent : ℕ) (before answer : List NetworkLine) (at : ℕ)

@@ -1,26 +1,24 @@
 -- Laws about the reading loop: what holds after each line that was taken, and what a refusal and the end give.
 -- The idea: the state and the lent arcs are those of the lines before, and reading goes on from there.
-use Rattle.std.specs.Prelude.{◌≡◌, refl, true, false, ℕ, suc, ◌+◌, ◌/◌, ◌≤◌, ◌<◌}
+use Rattle.std.specs.Prelude.{◌≡◌, refl, true, false, ℕ, suc, ◌+◌, ◌/◌, ◌≤◌, ◌<◌, Result, Ok, Err}
 use Rattle.std.proofs.Math.Path.{sym, ap, subst}
 use Rattle.std.proofs.Common.{◌∙◌, add-one, arith}
 use mathlib.Core.List.{List, [], ◌∷◌, ◌++◌}
 use Rattle.std.proofs.Math.ListN.{length}
+use Rattle.definitions.specs.declared.Counts.{Counts}
 use Rattle.definitions.specs.declared.Fault.{Fault}
 use Rattle.definitions.specs.declared.Fault.TheVariants.{Ragged}
+use Rattle.definitions.specs.declared.Refusal.{Refusal}
 use Rattle.definitions.specs.Faults.{refuse}
+use Rattle.definitions.specs.Said.{result_of}
 use Rattle.definitions.specs.Lines.{whole_lines}
 use Rattle.definitions.specs.Reading.{Kind, read_from}
-use Rattle.definitions.specs.NetworkText.{NetworkLine, network_kind, read_network, arcs_left}
+use Rattle.definitions.specs.NetworkText.{NetworkLine, counts_of, network_kind, read_network, arcs_left}
 use Rattle.definitions.proofs.Laws.Text.Judging.{refused-not-answered}
 use Rattle.lines.specs.Judging.{line_taken, lines_before, line_bytes}
 use Rattle.lines.specs.Laws.Judging.{verdict-taken, lines_none, lines_more, lines-counted, GoesOn}
 use Rattle.lines.specs.Laws.Judging.{goes-on-first, text-torn, goes-on-more, goes-on-refused, goes-on-end}
-use Rattle.nettext.specs.declared.Reading.{Reading}
-use Rattle.nettext.specs.declared.Reading.TheVariants.{Refused}
 use Rattle.nettext.specs.declared.State.{State}
-use Rattle.nettext.specs.declared.Step.{Step}
-use Rattle.nettext.specs.declared.Step.TheVariants.{Next, Stop}
-use Rattle.nettext.specs.Answers.{reading_of}
 use Rattle.nettext.specs.States.{state_of}
 use Rattle.nettext.specs.Storing.{arcs_stored}
 use Rattle.nettext.specs.Taking.{step_of, arcs_taken, finish_of, Ready, Cleared, Read}
@@ -58,9 +56,9 @@ first-turn text arcs s whole e c =
 
 refused-returns : (lent : ℕ) (text arcs : List ℕ) (fault : Fault) (line : ℕ)
     → read_network lent text ≡ refuse fault line → length arcs ≡ lent
-    → (Refused (record { fault = fault; line = line }) ≡ reading_of (read_network lent text))
+    → (Err (record { fault = fault; line = line }) ≡ result_of counts_of (read_network lent text))
     × Read lent text arcs
-unfolding reading_of
+unfolding result_of
 refused-returns lent text arcs fault line e l = (
   rw e refl,
   record {
@@ -71,7 +69,7 @@ refused-returns lent text arcs fault line e l = (
 
 -- a text that is not in whole lines
 pub torn-returns : (text arcs : List ℕ) → whole_lines text ≡ false
-    → (Refused (record { fault = Ragged; line = 0 }) ≡ reading_of (read_network (length arcs) text))
+    → (Err (record { fault = Ragged; line = 0 }) ≡ result_of counts_of (read_network (length arcs) text))
     × Read (length arcs) text arcs
 unfolding read_network
 torn-returns text arcs e =
@@ -100,22 +98,22 @@ module _ {lent : ℕ} {text : List ℕ} {i : ℕ} {s : State} {arcs : List ℕ} 
   turn-endable small = rw t.state (omega (arith, t.within, lines-counted kind text i t.within))
 
   -- the step as it was taken, by the lent length and the lines before
-  step-here : (bytes : List ℕ) (step taken : Step) → bytes ≡ line_bytes text i
+  step-here : (bytes : List ℕ) (step taken : Result State Fault) → bytes ≡ line_bytes text i
       → step ≡ step_of (length arcs) s bytes → step ≡ taken
       → step_of lent (state_of before) (line_bytes text i) ≡ taken
   step-here bytes step taken b e k = rw (← t.state, ← b, ← t.sized) (sym e ∙ k)
 
   -- a line that was taken
-  pub turn-next : (bytes : List ℕ) (step : Step) (next : State) (arcs' : List ℕ)
+  pub turn-next : (bytes : List ℕ) (step : Result State Fault) (next : State) (arcs' : List ℕ)
       → bytes ≡ line_bytes text i → i < length text / 32
-      → step ≡ step_of (length arcs) s bytes → step ≡ Next next
+      → step ≡ step_of (length arcs) s bytes → step ≡ Ok next
       → arcs' ≡ arcs_taken (length arcs) s.arcs step bytes arcs → Turn lent text (i + 1) next arcs'
   unfolding arcs_taken state_of
   turn-next bytes step next arcs' b l e k a =
       let line : NetworkLine = line_taken kind (line_bytes text i) in
       let more : before ++ (line ∷ []) ≡ lines_before kind text (i + 1) =
       sym (lines_more kind text i l) ∙ ap (lines_before kind text) (sym (add-one i)) in
-      let here = step-here bytes step (Next next) b e k in
+      let here = step-here bytes step (Ok next) b e k in
       let (verdict, after) = step-next lent (state_of before) (line_bytes text i) next here in
       let passed = verdict-taken kind before (line_bytes text i) (sym (verdict-state lent before _) ∙ verdict) in
       let fits = line-fits lent before (line_bytes text i) passed in
@@ -133,15 +131,15 @@ module _ {lent : ℕ} {text : List ℕ} {i : ℕ} {s : State} {arcs : List ℕ} 
       }
 
   -- a line with a fault: the arcs stay as they were
-  pub stop-returns : (bytes : List ℕ) (step : Step) (fault : Fault) (arcs' : List ℕ)
+  pub stop-returns : (bytes : List ℕ) (step : Result State Fault) (fault : Fault) (arcs' : List ℕ)
       → bytes ≡ line_bytes text i → i < length text / 32
-      → step ≡ step_of (length arcs) s bytes → step ≡ Stop fault
+      → step ≡ step_of (length arcs) s bytes → step ≡ Err fault
       → arcs' ≡ arcs_taken (length arcs) s.arcs step bytes arcs
-      → (Refused (record { fault = fault; line = i + 1 }) ≡ reading_of (read_network lent text))
+      → (Err (record { fault = fault; line = i + 1 }) ≡ result_of counts_of (read_network lent text))
       × Read lent text arcs'
   unfolding arcs_taken read_network
   stop-returns bytes step fault arcs' b l e k a =
-      let here = step-here bytes step (Stop fault) b e k in
+      let here = step-here bytes step (Err fault) b e k in
       let verdict = step-stop lent (state_of before) (line_bytes text i) fault here in
       let refusal : read_network lent text ≡ refuse fault (i + 1) =
       rw (add-one i)
@@ -149,8 +147,8 @@ module _ {lent : ℕ} {text : List ℕ} {i : ℕ} {s : State} {arcs : List ℕ} 
       refused-returns lent text arcs' fault (i + 1) refusal (rw (a, k) t.sized)
 
   -- after the last line
-  pub end_returns : (answer : Reading) → length text / 32 ≤ i → answer ≡ finish_of s
-      → (answer ≡ reading_of (read_network lent text)) × Read lent text arcs
+  pub end_returns : (answer : Result Counts Refusal) → length text / 32 ≤ i → answer ≡ finish_of s
+      → (answer ≡ result_of counts_of (read_network lent text)) × Read lent text arcs
   unfolding read_network arcs_left arcs_stored
   end_returns answer e a =
       let ended : read_network lent text ≡ read_from kind (suc i) before [] =

@@ -20,7 +20,7 @@ use Rattle.nettext.specs.Taking.{verdict_in}
 
 follows-state : (before : List NetworkLine) (line : NetworkLine)
     → follows_in (state_of before) line ≡ network_follows before line
-unfolding follows_in state_of network_follows
+unfolding state_of network_follows
 follows-state before (W states metastates arcs) = refl
 follows-state before (A a) = refl
 
@@ -33,18 +33,18 @@ last-state (a ∷ b ∷ arcs) from = last-state (b ∷ arcs) from
 
 order-state : (before : List NetworkLine) (line : NetworkLine)
     → in_order_in (state_of before) line ≡ network_in_order before line
-unfolding in_order_in state_of network_in_order
+unfolding state_of network_in_order
 order-state before (W states metastates arcs) = refl
 order-state before (A a) = last-state (arcs_of before) a.from
 
 tests-state : (lent : ℕ) (before : List NetworkLine) (line : Line)
     → tests_in lent (state_of before) line (network_line line) ≡ line_tests (network_kind lent) before line
-unfolding tests_in line_tests network_kind state_of
+unfolding line_tests network_kind state_of
 tests-state lent before line =
     rw (follows-state before (network_line line), order-state before (network_line line))
 
 complete-state : (before : List NetworkLine) → complete_in (state_of before) ≡ network_complete before
-unfolding complete_in state_of network_complete
+unfolding state_of network_complete
 complete-state before = refl
 
 pub verdict-state : (lent : ℕ) (before : List NetworkLine) (bytes : List ℕ)
@@ -91,7 +91,7 @@ same-state a b c d = λ i. record { lines = a i; counts = b i; arcs = c i; last 
 
 pub next-state : (before : List NetworkLine) (line : NetworkLine) → T (network_follows before line)
     → next_state (state_of before) line ≡ state_of (before ++ (line ∷ []))
-unfolding next_state state_of network_follows counts_of arcs_of arc_in_line concat_map last_source
+unfolding state_of network_follows counts_of arcs_of arc_in_line concat_map last_source
 next-state [] (W states metastates arcs) f = refl
 next-state (first ∷ before) (W states metastates arcs) f =
     absurd (omega (arith, eqb→eq (suc (length before)) 0 f))

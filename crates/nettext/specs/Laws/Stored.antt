@@ -18,7 +18,7 @@ stored-none lent = padded-zeros lent 0 (omega arith)
 
 pub stored_more : (lent : ℕ) (before : List NetworkLine) (line : NetworkLine)
     → arcs_after (length (arcs_of before)) line (arcs_stored lent before) ≡ arcs_stored lent (before ++ (line ∷ []))
-unfolding arcs_after arcs_stored arc_in_line
+unfolding arcs_stored arc_in_line
 stored_more lent before (W states metastates arcs) = rw (arcs-more, append-nil)
 stored_more lent before (A a) =
     rw (

@@ -1,60 +1,44 @@
--- Laws about taking a line, and about judging after the last: the answer on each way that the code goes, and
--- what a step says of the line.
-use Rattle.std.specs.Prelude.{◌≡◌, refl, List, true, false, ℕ, ◌+◌}
+-- Laws about taking a line: the answer on each way that the code goes, and what a step says of the line.
+use Rattle.std.specs.Prelude.{◌≡◌, refl, List, ℕ, T, Ok, Err}
+use Rattle.std.specs.Result.{is_ok}
+use Rattle.std.proofs.Common.{sym, ap, subst}
 use Rattle.definitions.specs.declared.Fault.{Fault}
-use Rattle.definitions.specs.declared.Fault.TheVariants.{Count}
 use Rattle.definitions.specs.NetworkText.{NetworkLine, network_kind}
-use Rattle.lines.specs.declared.Verdict.{Verdict}
-use Rattle.lines.specs.declared.Verdict.TheVariants.{Passed, Failed}
-use Rattle.lines.specs.Judging.{line_taken}
-use Rattle.nettext.specs.declared.Reading.TheVariants.{Accepted, Refused}
+use Rattle.lines.specs.Judging.{Verdict, line_taken}
 use Rattle.nettext.specs.declared.State.{State}
-use Rattle.nettext.specs.declared.Step.TheVariants.{Next, Stop}
-use Rattle.nettext.specs.States.{complete_in, next_state}
-use Rattle.nettext.specs.Taking.{verdict_in, step_after, step_of, finish_of}
+use Rattle.nettext.specs.States.{next_state}
+use Rattle.nettext.specs.Taking.{verdict_in, step_after, step_of}
 
 -- ---- the step by the verdict, and what it says of the line
 
 module _ (lent : ℕ) (s : State) (bytes : List ℕ) where
-  pub step-failed : {fault : Fault} → verdict_in lent s bytes ≡ Failed fault → Stop fault ≡ step_of lent s bytes
+  pub step-failed : {fault : Fault} → verdict_in lent s bytes ≡ Err fault → Err fault ≡ step_of lent s bytes
   unfolding step_of step_after
   step-failed v = rw v
 
-  pub step-passed : verdict_in lent s bytes ≡ Passed
-      → Next (next_state s (line_taken (network_kind lent) bytes)) ≡ step_of lent s bytes
+  pub step-passed : verdict_in lent s bytes ≡ Ok tt
+      → Ok (next_state s (line_taken (network_kind lent) bytes)) ≡ step_of lent s bytes
   unfolding step_of step_after
   step-passed v = rw v
 
   -- a line that was taken passed its tests
-  pub step-next : (next : State) → step_of lent s bytes ≡ Next next
-      → (verdict_in lent s bytes ≡ Passed) × (next ≡ next_state s (line_taken (network_kind lent) bytes))
+  pub step-next : (next : State) → step_of lent s bytes ≡ Ok next
+      → (verdict_in lent s bytes ≡ Ok tt) × (next ≡ next_state s (line_taken (network_kind lent) bytes))
   unfolding step_of step_after
   step-next next e = by (verdict_in lent s bytes) e
     where
       line : NetworkLine
       line = line_taken (network_kind lent) bytes
 
-      by : (v : Verdict) → step_after v s line ≡ Next next → (v ≡ Passed) × (next ≡ next_state s line)
-      by Passed q = (refl, cc)
-      by (Failed fault) q = (cc, cc)
+      by : (v : Verdict) → step_after v s line ≡ Ok next → (v ≡ Ok tt) × (next ≡ next_state s line)
+      by (Ok done) q = (refl, cc)
+      by (Err fault) q = absurd (subst T (sym (ap is_ok q)) tt)
 
   -- a line that stops failed one
-  pub step-stop : (fault : Fault) → step_of lent s bytes ≡ Stop fault → verdict_in lent s bytes ≡ Failed fault
+  pub step-stop : (fault : Fault) → step_of lent s bytes ≡ Err fault → verdict_in lent s bytes ≡ Err fault
   unfolding step_of step_after
   step-stop fault e = by (verdict_in lent s bytes) e
     where
-      by : (v : Verdict) → step_after v s (line_taken (network_kind lent) bytes) ≡ Stop fault → v ≡ Failed fault
-      by Passed q = cc
-      by (Failed other) q = cc
-
--- ---- after the last line
-
-module _ (s : State) where
-  pub finish-early : complete_in s ≡ false
-      → Refused (record { fault = Count; line = s.lines + 1 }) ≡ finish_of s
-  unfolding finish_of
-  finish-early e = rw e
-
-  pub finish-fine : complete_in s ≡ true → Accepted s.counts ≡ finish_of s
-  unfolding finish_of
-  finish-fine e = rw e
+      by : (v : Verdict) → step_after v s (line_taken (network_kind lent) bytes) ≡ Err fault → v ≡ Err fault
+      by (Ok done) q = absurd (subst T (ap is_ok q) tt)
+      by (Err other) q = let same : other ≡ fault = cc in ap Err same

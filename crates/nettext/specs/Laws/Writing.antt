@@ -1,11 +1,10 @@
 -- Laws about writing network text: each line of known counts and arcs fits its 32 bytes, the A lines stand one
 -- after the other, and the whole is the W line, the A lines and zeros. The proofs of the functions that write
 -- network text use them.
-use Rattle.std.specs.Prelude.{◌≡◌, Bool, true, false, T, leb, take, drop, get_or}
-use Rattle.std.proofs.Common.{sym, ap, ◌∙◌, lit<, lit≤, drop_of_length-le, take_all}
-use mathlib.Core.List.{List, [], ◌∷◌, ◌++◌, map, append_assoc, append-nil}
+use Rattle.std.specs.Prelude.{◌≡◌, Bool, true, false, T, leb, take, drop, get_or, Result, Ok, Err}
+use Rattle.std.proofs.Common.{sym, ap, ◌∙◌, lit≤, drop_of_length-le, take_all}
+use mathlib.Core.List.{List, [], ◌++◌, map, append_assoc, append-nil}
 use Prim.Native.Nat.{ℕ, ◌+◌, ◌-◌, ◌*◌, ◌/◌, ◌≤◌, ◌<◌}
-use Prim.Native.Char.{code}
 use native.Mathlib.Omega.{arith}
 use Rattle.std.proofs.Math.ListN.{length, length-drop}
 use Rattle.std.proofs.lemmas.List.{length-replicate}
@@ -14,14 +13,15 @@ use borrow.Author.Tests.{lt-leb, leb-true, leb-false}
 use borrow.Rule.Slice.PartMut.{put_mid}
 use Rattle.definitions.specs.declared.Counts.{Counts}
 use Rattle.definitions.specs.declared.Fault.TheVariants.{Foreign, Short}
-use Rattle.definitions.specs.Lists.{◌!◌, every, concat_map, records, cleared, padded, IsIn}
+use Rattle.definitions.specs.declared.Refusal.{Refusal}
+use Rattle.definitions.specs.Lists.{every, concat_map, records, cleared, padded, IsIn}
 use Rattle.definitions.specs.Faults.{judge}
 use Rattle.definitions.specs.Lines.{Line, line_text}
 use Rattle.definitions.specs.Arcs.{Arc, arc_size, arc_words, arc_of, arcs_in}
 use Rattle.definitions.specs.NetworkText.{arc_known, network_known, line_of_counts, line_of_arc, network_text}
 use Rattle.definitions.specs.NetworkText.{write_network}
 use Rattle.definitions.proofs.Laws.Lists.Tests.{by-test, if-true, every-at}
-use Rattle.definitions.proofs.Laws.Lists.Lists.{map_at, part_at, drop-cleared}
+use Rattle.definitions.proofs.Laws.Lists.Lists.{map_at, drop-cleared}
 use Rattle.definitions.proofs.Laws.Lists.Members.{in-every, every-weaker}
 use Rattle.definitions.proofs.Laws.Lists.Records.{record-at, written-length, written-records}
 use Rattle.definitions.proofs.Laws.Text.LineFields.{all_fit}
@@ -35,10 +35,8 @@ use Rattle.lines.specs.declared.Row.{Row}
 use Rattle.writing.specs.Writing.{written}
 use Rattle.writing.specs.Answers.{TextLeft}
 use Rattle.writing.specs.Laws.Rows.{LineLeft, line-left}
-use Rattle.writing.specs.Laws.Answering.{refusal, refused-left, answered-left}
-use Rattle.writing.specs.declared.Written.{Written}
-use Rattle.writing.specs.declared.Written.TheVariants.{Bytes}
-use Rattle.arcs.specs.Laws.KnownArcs.{arc-at, source-at, known-arcs, known-taken}
+use Rattle.writing.specs.Laws.Answering.{refused-left, answered-left}
+use Rattle.arcs.specs.Laws.KnownArcs.{arc-at, known-arcs, known-taken}
 use Rattle.arcs.specs.Whole.{all_arcs, arc_at}
 use Rattle.nettext.specs.Writing.{arc_in_range}
 
@@ -78,25 +76,6 @@ unfolding written
 line-written row line bytes after five e f room left =
     line-left row bytes (row-used row five (rw e f.few)) room left
     ∙ rw e (if-true (all_fit line.numbers) _ _ f.room)
-
--- ---- the A line of an arc
-
-pub arc-line : (words : List ℕ) (i : ℕ)
-    → record {
-      letter = code "A";
-      numbers =
-          words ! (arc_size * i) ∷ words ! (arc_size * i + 1) ∷ words ! (arc_size * i + 2)
-          ∷ words ! (arc_size * i + 3) ∷ [];
-    }
-    ≡ line_of_arc (arc_at words i)
-unfolding line_of_arc arc_words arc_of
-arc-line words i =
-    rw (
-      source-at words i,
-      part_at arc_size (arc_size * i) words 1 0 (lit< tt),
-      part_at arc_size (arc_size * i) words 2 0 (lit< tt),
-      part_at arc_size (arc_size * i) words 3 0 (lit< tt),
-    )
 
 -- ---- the A lines of arcs
 
@@ -194,18 +173,18 @@ module _ (counts : Counts) (words : List ℕ) (known : network_known counts word
 -- ---- what writing answers and leaves
 
 module _ (counts : Counts) (words : List ℕ) (size : ℕ) where
-  abbrev Left : Written → (after : List ℕ) → Type 0
+  abbrev Left : Result ℕ Refusal → (after : List ℕ) → Type 0
   Left answer after = TextLeft (write_network counts words size) size answer after
 
-  module _ {answer : Written} {after : List ℕ} where
+  module _ {answer : Result ℕ Refusal} {after : List ℕ} where
     pub write-foreign : network_known counts words ≡ false
-        → answer ≡ refusal Foreign → after ≡ cleared size → Left answer after
+        → answer ≡ Err (record { fault = Foreign; line = 0 }) → after ≡ cleared size → Left answer after
     unfolding write_network judge
     write-foreign k = refused-left size Foreign (rw k)
 
     pub write-short : network_known counts words ≡ true
         → {count : ℕ} → count ≡ counts.arcs → size < 32 + 32 * count
-        → answer ≡ refusal Short → after ≡ cleared size → Left answer after
+        → answer ≡ Err (record { fault = Short; line = 0 }) → after ≡ cleared size → Left answer after
     unfolding write_network judge
     write-short k e l =
         let long : size < 32 + 32 * counts.arcs = omega arith in
@@ -215,7 +194,7 @@ module _ (counts : Counts) (words : List ℕ) (size : ℕ) where
       → {count : ℕ} → count ≡ counts.arcs → 32 + 32 * count ≤ size
       → (first part : List ℕ) → first ≡ line_text (line_of_counts counts) ++ cleared (size - 32)
       → part ≡ arcs_text (all_arcs (take (arc_size * count) words))
-      → Left (Bytes (32 + 32 * count)) (put_mid 32 (32 + 32 * count - 32) first part)
+      → Left (Ok (32 + 32 * count)) (put_mid 32 (32 + 32 * count - 32) first part)
   write_done k {count} e l first part f p =
       answered-left size (known_written counts words size (rw k tt) (omega arith))
       (rw e (sym (text-length counts words (rw k tt)))) (arcs-put counts words k e first part l f p)

@@ -1,6 +1,17 @@
 -- Laws about the test for foreign tables of words, one for each answer of the code.
+use Rattle.std.specs.Iterator.Runs.{Run, IsChunksExactRun, AllItemsGive, AnyItemGives, CallKeepsClosure}
+use Rattle.std.specs.Fn.{Called}
+use Rattle.std.specs.Bool.{MatchBool}
+use Rattle.std.specs.List.{IsSubsliceAt}
+use Rattle.std.specs.Option.{option_map}
+use Rattle.std.proofs.lemmas.Option.{none-some}
+use denote.Param.Members.{Mut}
+use denote.Ref.{Bor}
+use Rattle.definitions.proofs.Laws.Lists.Tests.{by-test}
+use Rattle.std.specs.Prelude.{refl, zero, suc, ◌∷◌, Option, Some, None, IsSomeAnd, IfSome, IsTrue}
+use Rattle.std.proofs.Common.{subst}
 use Rattle.std.specs.Prelude.{◌≡◌, List, [], Bool, true, false, ℕ, ◌+◌, ◌-◌, ◌*◌, ◌/◌, ◌≤◌, ◌<◌, take, drop, get_or}
-use Rattle.std.proofs.Common.{sym, ap, ◌∙◌, length-drop}
+use Rattle.std.proofs.Common.{sym, ap, ◌∙◌}
 use Rattle.std.proofs.Math.Numerals.{add-one}
 use native.Mathlib.Omega.{arith}
 use Rattle.std.proofs.Math.ListN.{length}
@@ -54,35 +65,75 @@ module _ (row : List ℕ) {count : ℕ} (e : count ≡ row ! 0) where
             e,
           )
 
--- ---- all records
+-- ---- all records, as the library's chunks
 
--- a record, as the code lends it
-abbrev lent_at : (words : List ℕ) → (i : ℕ) → List ℕ
-lent_at words i = take (word_size * i + word_size - word_size * i) (drop (word_size * i) words)
+every-places : {A : Type 0} (test : A → Bool) (l : List A) (d : A)
+    → ((i : ℕ) → i < length l → test (get_or l i d) ≡ true) → every test l ≡ true
+unfolding every
+every-places test [] d h = refl
+every-places test (x ∷ l) d h = rw (h 0 (omega arith)) (every-places test l d (λ i k. h (suc i) (omega arith)))
 
-lent_is : (words : List ℕ) (i : ℕ) → lent_at words i ≡ take word_size (drop (word_size * i) words)
-lent_is words i = let size : word_size * i + word_size - word_size * i ≡ word_size = omega arith in rw size
+every-fails : {A : Type 0} (test : A → Bool) (l : List A) (d : A) (i : ℕ) → i < length l
+    → test (get_or l i d) ≡ false → every test l ≡ false
+unfolding every
+every-fails test [] d i h e = absurd (omega arith)
+every-fails test (x ∷ l) d zero h e = rw e
+every-fails test (x ∷ l) d (suc i) h e =
+    by-test (test x) (λ t. rw t (every-fails test l d i (omega arith) e)) (λ t. rw t)
 
-module _ (words : List ℕ) (i : ℕ) (h : i < length words / word_size) where
-  abbrev all : List (List ℕ)
-  all = records word_size (length words / word_size) words
+module _ {S F : Type 0} {steps : S → Option (Bor (List ℕ)) → S → Type 0} (test : List ℕ → Bool) (words : List ℕ)
+    {g : Mut F (Bor (List ℕ) × Unit {0}) Bool} (f : F) (r : Bool) (p : Run steps)
+    {size : ℕ} {from : List ℕ} (e₀ : size ≡ word_size) (f₀ : from ≡ words) (cut : IsChunksExactRun p size from)
+    (k : (x : Bor (List ℕ)) (b : Bool) (q : F) → Called g f (x, tt) b q → (q ≡ f) × (b ≡ test x.now))
+  where
+    abbrev count : ℕ
+    count = length words / word_size
 
-  pub row_sized : length (lent_at words i) ≡ word_size
-  row_sized =
-      ap length (lent_is words i)
-      ∙ length-take-le word_size (drop (word_size * i) words) (rw (length-drop (word_size * i) words) (omega arith))
+    chunks : IsChunksExactRun p word_size words
+    chunks = subst (λ l. IsChunksExactRun p word_size l) f₀ (subst (λ n. IsChunksExactRun p n from) e₀ cut)
 
-  pub row_listed : i < length all
-  row_listed = rw (records-length word_size (length words / word_size) words) h
+    keeps : CallKeepsClosure g f
+    keeps a b q called = (k a.0 b q called).0
 
-  -- it is the one that is judged
-  pub row-known : {known : Bool} → word_known (lent_at words i) ≡ known → word_known (get_or all i []) ≡ known
-  row-known k =
-      ap word_known (record-at word_size (length words / word_size) words i h ∙ sym (lent_is words i)) ∙ k
+    -- what a call answered of the item at a place
+    judged : (i : ℕ) (b : Bool) (o : Option (Bor (List ℕ))) → p.at i ≡ o → IsSomeAnd o (λ x. Called g f (x, tt) b f)
+        → (i < count) × (test (get_or (records word_size count words) i []) ≡ b)
+    judged i b None e called = absurd called
+    judged i b (Some x) e called =
+        let found : (length x.now ≡ word_size) × (i * word_size + word_size ≤ length words)
+        × IsSubsliceAt word_size words (i * word_size) x.now =
+        subst (λ o. IfSome o (λ (x : Bor (List ℕ)). (length x.now ≡ word_size) × (i * word_size + word_size ≤ length words)
+        × IsSubsliceAt word_size words (i * word_size) x.now)) e (chunks.2 i) in
+        let inside : i < count = omega (arith, found.1) in
+        let place : word_size * i ≡ i * word_size = omega arith in (
+          inside,
+          ap test (record-at word_size count words i inside ∙ ap (λ (j : ℕ). take word_size (drop j words)) place ∙ sym found.2.0)
+              ∙ sym (k x b f called).1,
+        )
 
-pub rows_end : (words : List ℕ) (i : ℕ) → length words / word_size ≤ i
-    → length (records word_size (length words / word_size) words) ≤ i
-rows_end words i h = rw (records-length word_size (length words / word_size) words) h
+    -- the item at a place
+    there : (i : ℕ) → i < p.len → (o : Option (Bor (List ℕ))) → p.at i ≡ o → IfSome o (λ x. Called g f (x, tt) true f)
+        → IsSomeAnd o (λ x. Called g f (x, tt) true f)
+    there i h None e called =
+        absurd (none-some _ (ap (option_map (λ y. y)) (sym e) ∙ p.reads i (record { ref_ptr = (0, 0); now = [] }) h))
+    there i h (Some x) e called = called
+
+    pub every-by_chunks : MatchBool r (IsTrue p.whole × AllItemsGive p g f true) (AnyItemGives p g f false)
+        → r ≡ every test (records word_size (length words / word_size) words)
+    every-by_chunks m = by r m
+      where
+        by : (b : Bool) → MatchBool b (IsTrue p.whole × AllItemsGive p g f true) (AnyItemGives p g f false)
+            → b ≡ every test (records word_size count words)
+        by true (whole, all) =
+            sym (every-places test (records word_size count words) []
+            (λ i h.
+            let inside : i < p.len = omega (arith, chunks.1 whole, records-length word_size count words) in
+            (judged i true (p.at i) refl (there i inside (p.at i) refl (all keeps i))).1))
+        by false some =
+            let (i, inside, called) = some keeps in
+            let (within, fails) = judged i false (p.at i) refl called in
+            sym (every-fails test (records word_size count words) [] i
+            (omega (arith, records-length word_size count words)) fails)
 
 -- ---- the count, the words beyond the records, and the records
 

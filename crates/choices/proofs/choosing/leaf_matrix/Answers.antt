@@ -6,9 +6,6 @@ use Rattle.matrix.specs.Laws.Words.{seven-there}
 use Rattle.leafsets.specs.Leaves.{leaf_size}
 use Rattle.choices.proofs.choosing.leaf_matrix.Goals as goal
 
-pub whole_matrix-requires : goal.whole_matrix-requires
-whole_matrix-requires c = omega (arith, c.requires)
-
 pub returns : goal.returns
 returns c =
     c.whole_matrix.ensures

@@ -27,9 +27,6 @@ pub leaf_matrix-requires : goal.leaf_matrix-requires
 leaf_matrix-requires c =
     leaf-within (width_of c.args.half) c.args.leaves.now c.loop-place.place (inside (goal.at.leaf_matrix-requires c).In-loop-place)
 
-pub meets-requires : goal.meets-requires
-meets-requires c = omega arith
-
 tested : (c : goal.After-meets)
     → fits_at (take (width_of c.args.half) c.args.m.columns) (leaves_in (width_of c.args.half) c.args.leaves.now)
     c.loop-place.place ≡ c.meets.result

@@ -15,8 +15,8 @@ use Rattle.combinations.proofs.combining.choose_phone.Goals.{After-around}
 
 top-is : (c : goal.After-around)
     → c.around.result.columns
-    ≡ matrix_words (root_matrix (book_with c.args.header c.args.nodes.now c.args.classes.now c.args.roots.now).half
-    (book_with c.args.header c.args.nodes.now c.args.classes.now c.args.roots.now).phones c.args.phone)
+    ≡ matrix_words (root_matrix (book_with c.args.trees.header c.args.trees.nodes.now c.args.trees.classes.now c.args.trees.roots.now).half
+    (book_with c.args.trees.header c.args.trees.nodes.now c.args.trees.classes.now c.args.trees.roots.now).phones c.args.phone)
 unfolding book_with
 top-is c =
     let r = c.requires.0.ranges in
@@ -43,9 +43,6 @@ overflow_mul-a c =
     let list = c.list_leaves-a in
     omega (arith, list.ensures.room, list.ensures.list_sized, c.well_formed)
 
-pub slice_bounds-choose-end : goal.slice_bounds-choose-end
-slice_bounds-choose-end c = c.list_leaves-a.ensures.room
-
 pub slice_bounds-choose-end-2 : goal.slice_bounds-choose-end-2
 slice_bounds-choose-end-2 c = sym (length-take-le _ _ c.list_leaves-a.ensures.room)
 
@@ -53,9 +50,6 @@ pub overflow_mul-b : goal.overflow_mul-b
 overflow_mul-b c =
     let list = c.list_leaves-b in
     omega (arith, list.ensures.room, list.ensures.list_sized, c.well_formed)
-
-pub slice_bounds-choose-end-3 : goal.slice_bounds-choose-end-3
-slice_bounds-choose-end-3 c = c.list_leaves-b.ensures.room
 
 pub slice_bounds-choose-end-4 : goal.slice_bounds-choose-end-4
 slice_bounds-choose-end-4 c =
@@ -65,9 +59,6 @@ pub overflow_mul-c : goal.overflow_mul-c
 overflow_mul-c c =
     let list = c.list_leaves-c in
     omega (arith, list.ensures.room, list.ensures.list_sized, c.well_formed)
-
-pub slice_bounds-choose-end-5 : goal.slice_bounds-choose-end-5
-slice_bounds-choose-end-5 c = c.list_leaves-c.ensures.room
 
 pub slice_bounds-choose-end-6 : goal.slice_bounds-choose-end-6
 slice_bounds-choose-end-6 c =
@@ -79,8 +70,8 @@ choose-requires c =
     let a = c.args in
     let p = c.requires in
     let r = p.0.ranges in
-    let b : Book = book_with a.header a.nodes.now a.classes.now a.roots.now in
-    let width : width_of a.header.half ≡ width_of b.half = refl in
+    let b : Book = book_with a.trees.header a.trees.nodes.now a.trees.classes.now a.trees.roots.now in
+    let width : width_of a.trees.header.half ≡ width_of b.half = refl in
     let narrow = r.half_range.high in (
       record {
         chosen =
@@ -99,17 +90,13 @@ shape_of-table c =
     c.list_leaves-c.ensures.table_sized ∙ c.list_leaves-b.ensures.table_sized
     ∙ c.list_leaves-a.ensures.table_sized
 
-pub shape_of-first : goal.shape_of-first
-shape_of-first c =
-    c.list_leaves-a.ensures.list_sized
-
 pub returns : goal.returns
 unfolding book_with
 returns c =
     let a = c.args in
     let r = c.requires.0.ranges in
-    let b : Book = book_with a.header a.nodes.now a.classes.now a.roots.now in
-    let width : width_of a.header.half ≡ width_of b.half = refl in
+    let b : Book = book_with a.trees.header a.trees.nodes.now a.trees.classes.now a.trees.roots.now in
+    let width : width_of a.trees.header.half ≡ width_of b.half = refl in
     let first = c.list_leaves-a.ensures in
     let second = c.list_leaves-b.ensures in
     let third = c.list_leaves-c.ensures in

@@ -14,7 +14,7 @@ use Rattle.combinations.specs.Laws.Working.{worked-none, worked-more}
 use Rattle.combinations.proofs.combining.choose_phones.Goals as goal
 use Rattle.combinations.proofs.combining.choose_phones.Goals.{At-loop-phone, In-loop-phone, Start}
 
-ranges : (c : goal.Start) → InRange c.args.header
+ranges : (c : goal.Start) → InRange c.args.trees.header
 ranges c = c.requires.0.ranges
 
 ends_sized : (c : goal.At-loop-phone) → length c.loop-phone.ends ≡ length c.args.ends.now
@@ -22,7 +22,7 @@ ends_sized c = noted-length c.loop-phone.invariant.0 ∙ sym (ap length c.requir
 
 -- a phone of the book
 within : (c : goal.In-loop-phone)
-    → c.loop-phone.phone ≤ (book_with c.args.header c.args.nodes.now c.args.classes.now c.args.roots.now).phones
+    → c.loop-phone.phone ≤ (book_with c.args.trees.header c.args.trees.nodes.now c.args.trees.classes.now c.args.trees.roots.now).phones
 unfolding book_with
 within c = omega (arith, c.loop-phone-test.true)
 

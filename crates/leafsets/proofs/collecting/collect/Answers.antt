@@ -16,20 +16,12 @@ pub loop-node-init : goal.loop-node-init
 loop-node-init c =
     collected-start _ _ _ c.args.last c.requires.3 c.requires.0
 
-pub bounds-table-node : goal.bounds-table-node
-bounds-table-node c =
-    omega (arith, node-inside _ _ c.requires.2 _ _ _ _ c.loop-node.invariant (inside (goal.at.bounds-table-node c).In-loop-node))
-
 pub take_leaf-requires : goal.take_leaf-requires
 take_leaf-requires c =
     let head = c.loop-node in (
       node-inside _ _ c.requires.2 _ _ _ _ head.invariant (inside (goal.at.take_leaf-requires c).In-loop-node),
       place_inside _ _ c.requires.2 _ _ _ _ head.invariant (inside (goal.at.take_leaf-requires c).In-loop-node),
     )
-
-pub overflow_add-count : goal.overflow_add-count
-overflow_add-count c =
-    record { fits = omega (arith, c.loop-node.invariant.fewer, inside (goal.at.overflow_add-count c).In-loop-node) }
 
 pub loop-node-preserved : goal.loop-node-preserved
 loop-node-preserved c =
@@ -43,12 +35,6 @@ loop-node-preserved c =
           rw (w.table-is, w.list-is, w.count-is) (collected-past _ _ c.requires.2 _ _ _ _ inv here
           w.if-table-node-ne0.false)
     ]
-
-pub shape_of-table : goal.shape_of-table
-shape_of-table c = c.loop-node.invariant.same
-
-pub shape_of-list : goal.shape_of-list
-shape_of-list c = c.loop-node.invariant.sized
 
 pub returns : goal.returns
 returns c =

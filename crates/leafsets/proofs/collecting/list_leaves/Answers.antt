@@ -10,36 +10,36 @@ use Rattle.leafsets.proofs.collecting.list_leaves.Goals as goal
 use Rattle.leafsets.proofs.collecting.list_leaves.Goals.{After-around-top, After-root_of-root, After-walk-last}
 
 top : (c : goal.After-around-top)
-    → Top c.args.header c.args.phone c.around-top.result.columns
+    → Top c.args.trees.header c.args.phone c.around-top.result.columns
 top c =
-    top-words c.args.header c.requires.0.ranges c.args.phone c.requires.1.high
+    top-words c.args.trees.header c.requires.0.ranges c.args.phone c.requires.1.high
     c.all_phones-all.result c.alone.result c.around-top.result.columns
     c.all_phones-all.ensures c.alone.ensures c.around-top.ensures
 
 -- the root that it starts at
 root : (c : goal.After-root_of-root)
-    → TreeRoot c.args.header c.args.roots.now
+    → TreeRoot c.args.trees.header c.args.trees.roots.now
     c.args.phone c.args.state
     c.root_of-root.result
 root c =
     let p = c.requires in
-    root-fits c.args.header c.args.roots.now c.requires.0.roots-listed
+    root-fits c.args.trees.header c.args.trees.roots.now c.requires.0.roots-listed
     p.1.low p.1.high p.2 c.if-header-state.false c.root_of-root.ensures
 
 -- the table after the walk
 put : (c : goal.After-walk-last)
-    → TreePut c.args.header
-    (leaves_for (book_with c.args.header c.args.nodes.now c.args.classes.now c.args.roots.now) c.args.phone
+    → TreePut c.args.trees.header
+    (leaves_for (book_with c.args.trees.header c.args.trees.nodes.now c.args.trees.classes.now c.args.trees.roots.now) c.args.phone
     c.args.state) c.root_of-root.result c.walk-last.result c.walk-last.new.table
 put c =
     let a = c.args in
     let p = c.requires in
-    let topped = top-words a.header p.0.ranges a.phone p.1.high
+    let topped = top-words a.trees.header p.0.ranges a.phone p.1.high
     c.all_phones-all.result c.alone.result c.around-top.result.columns
     c.all_phones-all.ensures c.alone.ensures c.around-top.ensures in
-    let rooted = root-fits a.header a.roots.now p.0.roots-listed p.1.low p.1.high p.2 c.if-header-state.false
+    let rooted = root-fits a.trees.header a.trees.roots.now p.0.roots-listed p.1.low p.1.high p.2 c.if-header-state.false
     c.root_of-root.ensures in
-    leaves-put a.header a.nodes.now a.classes.now a.roots.now p.0 a.phone a.state
+    leaves-put a.trees.header a.trees.nodes.now a.trees.classes.now a.trees.roots.now p.0 a.phone a.state
     c.if-header-state.false c.root_of-root.result rooted.own rooted.listed
     c.around-top.result.columns topped a.table.now c.walk-last.new.table
     p.3.sized p.3.none c.walk-last.ensures.table c.walk-last.ensures.last

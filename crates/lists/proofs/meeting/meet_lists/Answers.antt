@@ -1,28 +1,28 @@
 -- `meeting::meet_lists` meets its contract. The loop's invariant: the meets of the matrices before `place`
 -- are in.
 use mathlib.Core.Path.{refl, ap, sym, ◌∙◌}
-use mathlib.Core.List.{List}
-use lib.ListN.{length-set}
+use Rattle.std.proofs.Common.{◌≡◌, arith, List, [], ◌<◌, length, get_or, length-set}
+use Rattle.matrix.specs.Shapes.{matrix_in}
 use Rattle.definitions.specs.Matrices.{Matrix}
 use Rattle.definitions.specs.MatrixLists.{gather, pairs_met, meet_lists}
 use Rattle.definitions.proofs.Laws.Lists.Tests.{held, failed}
 use Rattle.lists.specs.Held.{list_in}
-use Rattle.lists.specs.Laws.Held.{Turn, turn-of, turns-end, became-from, emptied-holds, emptied-list}
+use Rattle.lists.specs.Laws.Held.{list_length, became-from, emptied-holds, emptied-list}
 use Rattle.lists.specs.Laws.Meeting.{gathered-start, gathered-more, gathered-stop, gathered-end}
 use Rattle.lists.specs.Laws.Meeting.{met_with}
-use Rattle.lists.specs.Laws.Values.{turn-read}
+use Rattle.lists.specs.Laws.Values.{matrix-read}
 use Rattle.std.proofs.lemmas.Bool.{not_from_true}
 use Rattle.std.proofs.lemmas.Bool.{not_from_false}
 use Rattle.lists.proofs.meeting.meet_lists.Goals as goal
-use Rattle.lists.proofs.meeting.meet_lists.Goals.{After-start_of}
+use Rattle.lists.proofs.meeting.meet_lists.Goals.{After-matrix_at}
 
 -- a turn's matrix
-module _ (c : goal.After-start_of) where
-  turn : Turn c.args.half c.args.a.now c.loop-place.place
-      c.start_of.result
-  turn =
-      turn-of c.requires.0 c.matrices_in-place-end.ensures c.loop-place.place
-      c.loop-place-test.true c.start_of.ensures
+module _ (c : goal.After-matrix_at) where
+  inside : c.loop-place.place < length (list_in c.args.half c.args.a.now)
+  inside = omega (arith, list_length c.args.half c.args.a.now, c.matrices_in-place-end.ensures)
+
+  its : get_or (list_in c.args.half c.args.a.now) c.loop-place.place [] ≡ matrix_in c.args.half c.matrix_at.result.columns
+  its = matrix-read c.requires.0 _ (omega arith) c.matrix_at.ensures
 
 pub loop-place-init : goal.loop-place-init
 unfolding meet_lists
@@ -31,9 +31,6 @@ loop-place-init c =
     let a : List Matrix = list_in c.args.half c.args.a.now in
     gathered-start (met_with b) a (emptied-holds c.requires.2)
     (ap (λ (l : List Matrix). gather l (pairs_met a b)) (sym (emptied-list c.requires.2)))
-
-pub matrix_from-requires : goal.matrix_from-requires
-matrix_from-requires c = (c.requires.0.space.narrow, (turn (goal.at.matrix_from-requires c).After-start_of).there)
 
 pub meet_each-requires : goal.meet_each-requires
 meet_each-requires c =
@@ -46,15 +43,15 @@ shape_of-out-then-not-meet_each c =
 
 pub returns-then-not-meet_each : goal.returns-then-not-meet_each
 returns-then-not-meet_each c =
+    let at = (goal.at.returns-then-not-meet_each c).After-matrix_at in
     became-from (length-set c.args.out.now 0 0)
-    (gathered-stop c.loop-place.invariant (turn (goal.at.returns-then-not-meet_each c).After-start_of).inside _
-    (turn-read (turn (goal.at.returns-then-not-meet_each c).After-start_of) c.matrix_from.ensures)
+    (gathered-stop c.loop-place.invariant (inside at) _ (its at)
     (failed refl (not_from_false _ c.if-not-meet_each.true)) c.meet_each.ensures)
 
 pub loop-place-preserved : goal.loop-place-preserved
 loop-place-preserved c =
-    gathered-more c.loop-place.invariant (turn (goal.at.loop-place-preserved c).After-start_of).inside _
-    (turn-read (turn (goal.at.loop-place-preserved c).After-start_of) c.matrix_from.ensures)
+    let at = (goal.at.loop-place-preserved c).After-matrix_at in
+    gathered-more c.loop-place.invariant (inside at) _ (its at)
     (held refl (not_from_true _ c.if-not-meet_each.false)) c.meet_each.ensures
 
 pub shape_of-out : goal.shape_of-out
@@ -65,4 +62,4 @@ pub returns : goal.returns
 returns c =
     became-from (length-set c.args.out.now 0 0)
     (gathered-end c.loop-place.invariant
-    (turns-end c.requires.0 c.matrices_in-place-end.ensures _ c.loop-place-test.false))
+    (omega (arith, list_length c.args.half c.args.a.now, c.matrices_in-place-end.ensures)))

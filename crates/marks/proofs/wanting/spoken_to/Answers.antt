@@ -1,7 +1,5 @@
 -- `wanting::spoken_to` meets its contract: the word of 32 bits before a word's phones is its length.
-use mathlib.Core.Path.{◌≡◌, sym, ap, ◌∙◌}
-use Prim.Native.Nat.{ℕ, ◌-◌, ◌*◌}
-use lib.ListN.{length}
+use Rattle.std.proofs.Common.{◌≡◌, sym, ap, ◌∙◌, ℕ, ◌-◌, ◌*◌, length}
 use Rattle.definitions.specs.Lists.{◌!◌}
 use Rattle.definitions.specs.WordBooks.{word_size}
 use Rattle.definitions.specs.Joining.{phones_in}
@@ -20,7 +18,11 @@ length-read c =
     ap (λ (w : ℕ). c.args.words.now ! (word_size * (w - 1))) c.wide.ensures ∙ word-length lexicon own
 
 pub returns-then-words-wide : goal.returns-then-words-wide
-returns-then-words-wide c = spoken-out _ _ _ (sym (length-read (goal.at.returns-then-words-wide c).After-wide) ∙ c.if-words-wide.true)
+returns-then-words-wide c =
+    spoken-out _ _ _
+    (sym (length-read (goal.at.returns-then-words-wide c).After-wide) ∙ c.if-words-wide.true)
 
-pub returns : goal.returns
-returns c = spoken-on _ _ _ (λ same. c.if-words-wide.false (length-read (goal.at.returns c).After-wide ∙ same))
+pub returns-else-words-wide : goal.returns-else-words-wide
+returns-else-words-wide c =
+    spoken-on _ _ _
+    (λ same. c.if-words-wide.false (length-read (goal.at.returns-else-words-wide c).After-wide ∙ same))

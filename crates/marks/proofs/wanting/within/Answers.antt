@@ -13,7 +13,7 @@ use Rattle.marks.proofs.wanting.within.Goals as goal
 pub returns-then-mark-ge64 : goal.returns-then-mark-ge64
 returns-then-mark-ge64 c =
     let (lexicon, own) = c.requires in
-    leads-past _ _ _ _ c.nothing.ensures own.low
+    leads-past _ _ _ own.low
     (phone-past lexicon own c.args.mark c.if-mark-ge64.true)
 
 pub returns : goal.returns

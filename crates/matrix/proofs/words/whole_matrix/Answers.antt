@@ -1,10 +1,27 @@
--- `words::whole_matrix` meets its contract: seven words that are there.
-use Rattle.std.proofs.Common.{sym, ◌∙◌, ◌+◌, ◌-◌, ◌≡◌, arith}
-use Rattle.matrix.specs.Laws.Words.{seven-there}
+-- `words::whole_matrix` meets its contract. The loop's invariant: the columns before `c` are read.
+use mathlib.Core.Path.{sym, ◌∙◌}
+use mathlib.Core.List.{List}
+use Prim.Native.Nat.{ℕ}
+use lib.ListN.{drop}
+use lib.Seq.{get_or-drop}
+use Rattle.lines.specs.Laws.Filling.{filled-start}
+use Rattle.matrix.specs.Laws.Words.{columns-more, columns-end, seven-length, seven_at}
 use Rattle.matrix.proofs.words.whole_matrix.Goals as goal
+use Rattle.matrix.proofs.words.whole_matrix.Goals.{Start}
+
+-- the words from the place on
+abbrev rest : goal.Start → List ℕ
+rest c = drop c.args.from c.args.words.now
+
+pub loop-c-init : goal.loop-c-init
+loop-c-init c = filled-start _ _
+
+pub loop-c-preserved : goal.loop-c-preserved
+loop-c-preserved c =
+    columns-more (seven-length (rest (goal.at.loop-c-preserved c).Start)) c.loop-c.invariant c.loop-c-test.true
+    (sym (get_or-drop c.args.from c.args.words.now _ 0)
+    ∙ seven_at (rest (goal.at.loop-c-preserved c).Start) _ c.loop-c-test.true)
 
 pub returns : goal.returns
 returns c =
-    let a = c.args in
-    let seven : a.from + 7 - a.from ≡ 7 = omega arith in
-    c.copy_from_slice.ensures.after ∙ rw seven (sym (seven-there a.words.now a.from c.requires))
+    columns-end (seven-length (rest (goal.at.returns c).Start)) c.loop-c.invariant c.loop-c-test.false

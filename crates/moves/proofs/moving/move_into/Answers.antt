@@ -1,6 +1,6 @@
 -- `moving::move_into` meets its contract: nothing where FINAL is barred, else the one move.
-use mathlib.Core.Path.{sym, ap, ◌∙◌}
-use mathlib.Core.Bool.{not}
+use Rattle.std.proofs.Common.{sym, ap, ◌∙◌}
+use Rattle.std.specs.Prelude.{not}
 use Rattle.definitions.specs.Joining.{step, Move, move_by}
 use Rattle.marks.specs.Wanting.{mark_of}
 use Rattle.moves.specs.Moving.{hop_arc}
@@ -19,6 +19,6 @@ returns-then-is_barred c =
 
 pub returns : goal.returns
 returns c =
-    one-moved c.args.sizes c.args.hop.from (move (goal.at.returns c).Start)
+    one-moved c.args.join.now.sizes c.args.hop.from (move (goal.at.returns c).Start)
     (allowed-one (move (goal.at.returns c).Start) (sym c.is_barred.ensures ∙ ap not c.if-is_barred.false))
     c.enter.ensures

@@ -1,41 +1,24 @@
 -- `opening::open_words` meets its contract. The loop's invariant: the words before `word` are entered, and it is the
 -- next that begins with the phone.
-use mathlib.Core.Path.{ap}
-use Prim.Native.Nat.{ℕ, ◌+◌, ◌-◌}
-use native.Mathlib.Omega.{arith}
+use Rattle.std.proofs.Common.{rules, ap, arith, ℕ, ◌+◌, ◌-◌}
+use Rattle.std.proofs.lemmas.Result.{err_from_is_err_and}
 use Rattle.definitions.specs.Lists.{◌!◌}
-use Rattle.moves.specs.Laws.Opening.{opening-start, opening-asks, opening-done, opening-word}
+use Rattle.joined.specs.Joins.{stepped}
+use Rattle.moves.specs.Laws.Opening.{opening-done, opening-word}
 use Rattle.moves.specs.Laws.Opening.{opening-link, opening-less, opening-more, opening-stop}
-use borrow.Author.Rules.{rules}
 use Rattle.moves.proofs.opening.open_words.Goals as goal
-use Rattle.moves.proofs.opening.open_words.Goals.{After-move_into-step, In-Next, In-loop-word, Start}
 
-pub overflow_sub-word : goal.overflow_sub-word
-overflow_sub-word c =
-    omega (arith, c.requires.some, c.wide.ensures)
-
-pub bounds-index-wide : goal.bounds-index-wide
-bounds-index-wide c =
-    let o = c.requires in omega (arith, o.followable.opened.sized, o.followable.phone, c.wide.ensures)
-
-pub loop-word-init : goal.loop-word-init
-loop-word-init c =
-    let index = c.args.index.now in
-    opening-start c.requires (ap (λ (n : ℕ). index ! (n - 1)) c.wide.ensures)
-
-pub spoken_to-mark-requires : goal.spoken_to-mark-requires
-spoken_to-mark-requires c =
+pub spoken_to-requires : goal.spoken_to-requires
+spoken_to-requires c =
     let o = c.requires in
     (o.followable.lexicon, opening-word o c.loop-word.invariant c.loop-word-test.true)
 
-pub move_into-step-requires : goal.move_into-step-requires
-move_into-step-requires c =
-    opening-asks c.requires c.loop-word.invariant
-
-pub returns-in-Stop : goal.returns-in-Stop
-returns-in-Stop c =
-    opening-stop c.requires c.loop-word.invariant c.loop-word-test.true
-    c.spoken_to-mark.ensures c.move_into-step.ensures c.in-Stop.is
+pub returns-in_err-move_into : goal.returns-in_err-move_into
+returns-in_err-move_into c =
+    let p = err_from_is_err_and c.from_residual.result c.from_residual.ensures.1 in
+    rw (p.1, p.2)
+    (opening-stop c.requires c.loop-word.invariant c.loop-word-test.true c.spoken_to.ensures c.move_into.ensures
+    (ap (λ r. stepped r c.move_into.new.join.sizes) c.in_err-move_into.was))
 
 pub overflow_add-word : goal.overflow_add-word
 overflow_add-word c =
@@ -58,18 +41,17 @@ bounds-index-wide-in-loop-word c =
 
 pub loop-word-smaller : goal.loop-word-smaller
 loop-word-smaller c =
-    let index = c.args.index.now in
+    let index = c.args.known.index.now in
     opening-less c.requires c.loop-word.invariant c.loop-word-test.true
     (ap (λ (n : ℕ). index ! (64 + n - 1)) c.wide-in-loop-word.ensures)
 
 pub loop-word-preserved : goal.loop-word-preserved
 loop-word-preserved c =
-    let index = c.args.index.now in
+    let index = c.args.known.index.now in
     opening-more c.requires c.loop-word.invariant c.loop-word-test.true
-    c.spoken_to-mark.ensures c.move_into-step.ensures
-    c.in-Next.is
+    c.spoken_to.ensures c.move_into.ensures
+    (ap (λ r. stepped r c.move_into.new.join.sizes) c.in_ok-move_into.was)
     (ap (λ (n : ℕ). index ! (64 + n - 1)) c.wide-in-loop-word.ensures)
 
 pub returns : goal.returns
-returns c =
-    opening-done c.requires c.loop-word.invariant c.loop-word-test.false
+returns c = opening-done c.requires c.loop-word.invariant c.loop-word-test.false

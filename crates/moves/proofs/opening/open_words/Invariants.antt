@@ -5,8 +5,8 @@ use Rattle.moves.proofs.opening.open_words.Given as goal
 
 abbrev pub invariant-loop-word : goal.invariant-loop-word
 invariant-loop-word l =
-    Opening l.words l.hop l.initial.states l.initial.joined l.initial.chains l.initial.now l.states l.joined l.chains l.now l.word
+    Opening l.known.words.now l.hop l.initial.join.states.now l.initial.join.arcs.now l.initial.join.chains.now
+    l.initial.join.sizes l.join.states.now l.join.arcs.now l.join.chains.now l.join.sizes l.word
 
 abbrev pub decreases-loop-word : goal.decreases-loop-word
-decreases-loop-word l =
-    words_left l.words l.word
+decreases-loop-word l = words_left l.known.words.now l.word

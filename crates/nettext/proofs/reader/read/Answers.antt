@@ -1,22 +1,18 @@
 -- `reader::read` meets its contract: the arcs are cleared before reading, and again where it refuses.
-use Rattle.definitions.proofs.Laws.Lists.Lists.{clear-itself}
-use Rattle.nettext.specs.Laws.Answering.{accepted-returns, refused-returns}
+use Rattle.std.proofs.Common.{rules, ◌≡◌, sym, length}
+use Rattle.definitions.specs.Lists.{cleared}
+use Rattle.nettext.specs.Laws.Answering.{accepted-left, refused-left}
 use Rattle.nettext.proofs.reader.read.Goals as goal
 
-pub read_lines-answer-requires : goal.read_lines-answer-requires
-read_lines-answer-requires c =
-    clear-itself c.args.arcs.now _ c.clear_words.ensures
+pub returns-then-is_err-clause-arcs : goal.returns-then-is_err-clause-arcs
+returns-then-is_err-clause-arcs c =
+    let first : c.fill.new.self ≡ cleared (length c.args.arcs.now) = search rules in
+    let again : c.fill-then-is_err.new.self ≡ cleared (length c.read_lines-answer.new.arcs) = search rules in
+    refused-left c.args.arcs.now first c.read_lines-answer.ensures.answer c.read_lines-answer.ensures.arcs
+    (sym c.if-is_err.ensures.value) again
 
-pub returns-in-Accepted : goal.returns-in-Accepted
-returns-in-Accepted c =
-    let all =
-    accepted-returns c.args.arcs.now c.clear_words.ensures c.read_lines-answer.ensures.answer
-    c.read_lines-answer.ensures.arcs _ c.in-Accepted.is in
-    record { answer = all.0; arcs = all.1 }
-
-pub returns-in-Refused : goal.returns-in-Refused
-returns-in-Refused c =
-    let all =
-    refused-returns c.args.arcs.now c.clear_words.ensures c.read_lines-answer.ensures.answer
-    c.read_lines-answer.ensures.arcs _ c.in-Refused.is c.clear_words-in-Refused.ensures in
-    record { answer = all.0; arcs = all.1 }
+pub returns-else-is_err-clause-arcs : goal.returns-else-is_err-clause-arcs
+returns-else-is_err-clause-arcs c =
+    let first : c.fill.new.self ≡ cleared (length c.args.arcs.now) = search rules in
+    accepted-left c.args.arcs.now first c.read_lines-answer.ensures.answer c.read_lines-answer.ensures.arcs
+    (sym c.if-is_err.ensures.value)

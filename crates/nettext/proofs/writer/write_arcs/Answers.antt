@@ -5,7 +5,9 @@ use mathlib.Core.List.{List}
 use Prim.Native.Nat.{ℕ, ◌+◌, ◌-◌, ◌*◌, ◌/◌}
 use native.Mathlib.Omega.{arith}
 use lib.ListN.{length, take, drop}
+use Rattle.std.proofs.Common.{ap}
 use Rattle.definitions.specs.Arcs.{arc_size}
+use Rattle.definitions.specs.NetworkText.{line_of_arc}
 use Rattle.definitions.proofs.Laws.Networks.KnownNetworks.{arcs-length}
 use Rattle.lines.specs.Laws.Filling.{filled-start, filled-end}
 use Rattle.writing.specs.Laws.WrittenLines.{part-put}
@@ -31,7 +33,7 @@ loop-i-preserved c =
     let bytes : length lent ≡ 32 = search rules in
     let line =
     arc-written words at.i row.result lent part.new.bytes c.requires.0 (omega arith) five
-    row.ensures bytes (part.ensures.answer, part.ensures.leaves) in
+    (row.ensures ∙ ap line_of_arc c.arc_at.ensures) bytes (part.ensures.answer, part.ensures.leaves) in
     let put =
     part-put 32 at.i (arcs_text (all_arcs words)) c.args.text.now at.text part.new.bytes in
     record {
