@@ -8,5 +8,4 @@ pub mod Stored
 pub mod Finding
 pub mod Finishing
 pub mod Reading
-pub mod Said
 pub mod Answering

@@ -1,6 +1,5 @@
 -- What the reader stores and answers, and the laws about it.
 pub mod Storing
-pub mod Answers
 pub mod Steps
 pub mod Taking
 pub mod Laws

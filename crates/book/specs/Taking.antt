@@ -1,5 +1,5 @@
 -- What the steps of reading can rely on, and what they leave in each table.
-use Rattle.std.specs.Prelude.{◌≡◌, List, ℕ, ◌≤◌, ◌<◌, length}
+use Rattle.std.specs.Prelude.{◌≡◌, List, ℕ, ◌≤◌, ◌<◌, length, Ok}
 use Rattle.definitions.specs.Faults.{answered}
 use Rattle.definitions.specs.Lists.{cleared}
 use Rattle.definitions.specs.BookLines.{BookLine}
@@ -8,10 +8,8 @@ use Rattle.definitions.specs.Tables.{tables_of, contents_of}
 use Rattle.tables.specs.Lending.{lengths_of, lent_tables}
 use Rattle.booklines.specs.declared.State.{State}
 use Rattle.booklines.specs.States.{HasStates, Countable, PhonesFit}
-use Rattle.book.specs.declared.Step.{Step}
-use Rattle.book.specs.declared.Step.TheVariants.{Next}
 use Rattle.book.specs.Storing.{HasRoom, nodes_after, classes_after, roots_after, plains_after, counts_after}
-use Rattle.book.specs.Steps.{book_taken, step_of, where_taken}
+use Rattle.book.specs.Steps.{Step, book_taken, step_of, where_taken}
 
 -- tables after they were cleared
 pub record ClearedFrom (nodes classes roots plains nodes' classes' roots' plains' : List ℕ) : Type 0 where
@@ -34,9 +32,9 @@ pub record Read (lent : Lent) (text nodes classes roots plains : List ℕ) : Typ
 pub record Ready (lent : Lent) (s : State) (bytes : List ℕ) : Type 0 where
   pub states : HasStates s
   pub counts : Countable s
-  pub room : (next : State) → step_of lent s bytes ≡ Next next
+  pub room : (next : State) → step_of lent s bytes ≡ Ok next
       → HasRoom s.header.states lent (book_taken bytes)
-  pub phones : (next : State) → step_of lent s bytes ≡ Next next → PhonesFit (book_taken bytes)
+  pub phones : (next : State) → step_of lent s bytes ≡ Ok next → PhonesFit (book_taken bytes)
 
 -- a state after which can be judged: each node has a count, and the next line's number does not overflow
 pub record Endable (s : State) (counts : List ℕ) : Type 0 where

@@ -9,22 +9,20 @@ ghost use Rattle.tables.specs.Lending.{lengths_of};
 ghost use Rattle.booklines.specs.Entries.{entry_line};
 ghost use Rattle.book.specs.Storing.{HasRoom, nodes_after, classes_after, roots_after, plains_after, counts_after};
 
-use booklines::Entry;
+use booklines::{Entry, Member};
 use definitions::{Header, NO_ROOT, wide};
-use lines::clearing::fill_words;
 use lines::counting::{from_zero, root_place};
+use matrix::sets::alone;
 use tables::naming::name_node;
 use tables::records::{leaf_node, put_node, question_node};
 
 // A phone put into the set of a class.
-fn put_member(sets: &mut [u64], class: u32, phone: u32)
-    requires { (1 ≤ class) × (class ≤ length sets.old) × (1 ≤ phone) × (phone ≤ 64) }
+fn put_member(sets: &mut [u64], member: Member)
+    requires { (1 ≤ member.class) × (member.class ≤ length sets.old) × (1 ≤ member.phone) × (member.phone ≤ 64) }
     ensures { sets.new
-        ≡ set sets.old (class - 1) (bit_or (sets.old ! (class - 1)) (alone phone)) }
+        ≡ set sets.old (member.class - 1) (bit_or (sets.old ! (member.class - 1)) (alone member.phone)) }
 {
-    let at = wide(class) - 1;
-    let one: u64 = 1;
-    sets[at] = sets[at] | one << (phone - 1);
+    sets[from_zero(member.class)] |= alone(member.phone);
 }
 
 // Words for all roots, which no R line has given yet.
@@ -33,10 +31,11 @@ fn put_no_roots(roots: &mut [u32], header: Header)
     ensures { roots.new ≡ put_at 0 (replicate (root_count header) no_root) roots.old }
 {
     let end = wide(header.phones) * wide(header.states);
-    fill_words(&mut roots[0..end], NO_ROOT);
+    roots[..end].fill(NO_ROOT);
 }
 
 // One line more in the tables and counts, where there are so many states.
+#[tactic(auto, unfolding(booklines::specs::Entries::entry_line, crate::specs::Storing::nodes_after, crate::specs::Storing::classes_after, crate::specs::Storing::roots_after, crate::specs::Storing::plains_after, crate::specs::Storing::counts_after, crate::specs::Storing::names_in, tables::specs::Naming::named_all, definitions::specs::BookLines::header_in))]
 pub fn store(
     states: u32,
     entry: Entry,
@@ -55,20 +54,22 @@ pub fn store(
 {
     match entry {
         Entry::H(header) => put_no_roots(roots, header),
-        Entry::Q(class, phone) => put_member(classes, class, phone),
-        Entry::N(node, class, position, yes, no) => {
+        Entry::Q(member) => put_member(classes, member),
+        Entry::N {
+            node,
+            class,
+            position,
+            yes,
+            no,
+        } => {
             put_node(nodes, node, question_node(class, position, yes, no));
             name_node(counts, yes);
             name_node(counts, no);
         }
-        Entry::L(node, model) => put_node(nodes, node, leaf_node(model)),
-        Entry::B(boundary, plain) => {
-            let at = from_zero(boundary);
-            plains[at] = plain;
-        }
-        Entry::R(phone, state, root) => {
-            let at = root_place(states, phone, state);
-            roots[at] = root;
+        Entry::L { node, model } => put_node(nodes, node, leaf_node(model)),
+        Entry::B { boundary, plain } => plains[from_zero(boundary)] = plain,
+        Entry::R { phone, state, root } => {
+            roots[root_place(states, phone, state)] = root;
             name_node(counts, root);
         }
     }

@@ -5,19 +5,16 @@ ghost use Rattle.book.specs.Steps.{finish_of, step_of};
 ghost use Rattle.book.specs.Taking.{Endable, Ready, nodes_taken, classes_taken, roots_taken, plains_taken};
 ghost use Rattle.book.specs.Taking.{counts_taken};
 
-use crate::finding::line_where;
+use crate::finding::{is_line_of, line_where, names_plain_in};
 use crate::storing::store;
-use crate::{Reading, Sought, Step};
-use booklines::entries::entry_of;
-use booklines::judging::judge_line;
-use booklines::states::{chained, enough, full, next_state};
-use booklines::{Lengths, State};
-use definitions::{Fault, Refusal, wide};
+use booklines::{Entry, Lengths, State};
+use definitions::{Fault, Header, Refusal, wide};
+use lines::Letters;
 use lines::parsing::parse;
-use lines::{Letters, Verdict};
 use tables::naming::first_misnamed;
 
 // Takes one more line: its words into the tables, and the state after it; or its fault.
+#[tactic(auto, unfolding(crate::specs::Steps::where_taken))]
 pub fn take_line(
     s: State,
     bytes: &[u8],
@@ -26,7 +23,7 @@ pub fn take_line(
     roots: &mut [u32],
     plains: &mut [u32],
     counts: &mut [u32],
-) -> Step
+) -> Result<State, Fault>
     requires { Ready (lengths_of nodes.old classes.old roots.old plains.old) s bytes.now }
     ensures step { result ≡ step_of
         (lengths_of nodes.old classes.old roots.old plains.old) s
@@ -37,24 +34,18 @@ pub fn take_line(
     ensures plains { plains.new ≡ plains_taken result bytes.now plains.old }
     ensures counts { counts.new ≡ counts_taken result bytes.now counts.old }
 {
-    if full(s) {
-        return Step::Stop(Fault::Count);
+    if s.full() {
+        return Err(Fault::Count);
     }
-    let parsed = parse(Letters::Book, bytes);
-    if !parsed.formed {
-        return Step::Stop(Fault::Misprint);
-    }
-    let row = parsed.row;
-    let entry = entry_of(row);
+    let row = parse(Letters::Book, bytes).ok_or(Fault::Misprint)?;
+    let entry = Entry::of(row);
     let lengths = Lengths {
         nodes: nodes.len(),
         classes: classes.len(),
         roots: roots.len(),
         plains: plains.len(),
     };
-    if let Verdict::Failed(fault) = judge_line(s, lengths, row, entry) {
-        return Step::Stop(fault);
-    }
+    s.judge(lengths, row, entry)?;
     store(
         s.header.states,
         entry,
@@ -64,34 +55,24 @@ pub fn take_line(
         plains,
         counts,
     );
-    Step::Next(next_state(s, entry))
+    Ok(s.next(entry))
 }
 
 // What is judged after the last line of a text: 17 where lines are missing, then 21, then 16.
-pub fn finish(text: &[u8], s: State, counts: &[u32]) -> Reading
+pub fn finish(text: &[u8], s: State, counts: &[u32]) -> Result<Header, Refusal>
     requires { Endable s counts.now }
     ensures { result ≡ finish_of text.now s counts.now }
 {
-    if !enough(s) {
-        return Reading::Refused(Refusal {
-            fault: Fault::Count,
-            line: s.lines + 1,
-        });
+    if !s.enough() {
+        return Err(Fault::Count.at(s.lines + 1));
     }
-    if chained(s) {
-        return Reading::Refused(Refusal {
-            fault: Fault::Chained,
-            line: line_where(text, Sought::PlainIn(s.boundaries)),
-        });
+    if s.chained() {
+        let line = line_where(text, |entry| names_plain_in(entry, s.boundaries));
+        return Err(Fault::Chained.at(line));
     }
-    let nodes = wide(s.nodes);
-    let node = first_misnamed(&counts[..nodes]);
-    if node < nodes {
-        return Reading::Refused(Refusal {
-            fault: Fault::Orphan,
-            line: line_where(text, Sought::Node(node)),
-        });
+    if let Some(node) = first_misnamed(&counts[..wide(s.nodes)]) {
+        let line = line_where(text, |entry| is_line_of(entry, node));
+        return Err(Fault::Orphan.at(line));
     }
-    let header = s.header;
-    Reading::Accepted(header)
+    Ok(s.header)
 }

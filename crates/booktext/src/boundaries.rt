@@ -7,6 +7,7 @@ use crate::putting::put_rows;
 use lines::Row;
 
 // The B line of a phone, where its word names a plain phone.
+#[tactic(auto, unfolding(definitions::specs::BookText::boundaries_from, definitions::specs::BookText::book_line_for, lines::specs::Rows::line_in))]
 fn boundary_row(phone: u32, plain: u32) -> Option<Row>
     ensures { RowFor (boundary_lines phone (plain ∷ [])) result }
 {

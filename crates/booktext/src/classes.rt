@@ -10,6 +10,7 @@ use lines::Row;
 use matrix::sets::has_phone;
 
 // The Q line of a class with a phone, where its set has that phone.
+#[tactic(auto, unfolding(definitions::specs::Lists::select, definitions::specs::BookText::book_line_for, lines::specs::Rows::line_in))]
 fn member_row(class: u32, set: u64, phone: u32) -> Option<Row>
     ensures { RowFor (member_lines class set (phone ∷ [])) result }
 {

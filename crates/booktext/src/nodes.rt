@@ -9,6 +9,7 @@ use lines::Row;
 use tables::records::node_at;
 
 // The N or L line of a node.
+#[tactic(auto, unfolding(definitions::specs::Tables::tree_node, definitions::specs::BookText::book_line_for, lines::specs::Rows::line_in))]
 fn node_row(words: &[u32], node: u32) -> Row
     ensures { RowFor (lines_at words.now node) (Some result) }
 {

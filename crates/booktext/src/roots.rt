@@ -8,6 +8,7 @@ use definitions::{NO_ROOT, wide};
 use lines::Row;
 
 // The R line of the root at a place, where there is one.
+#[tactic(auto, unfolding(definitions::specs::BookText::roots_listed, definitions::specs::BookText::book_line_for, lines::specs::Rows::line_in))]
 fn root_row(states: u32, place: usize, root: u32) -> Option<Row>
     requires { (1 ≤ states) × (place + 1 < 4294967296) }
     ensures { RowFor (root_lines states place (root ∷ [])) result }

@@ -3,16 +3,13 @@
 ghost use Rattle.std.specs.Prelude.{◌≡◌};
 ghost use Rattle.definitions.specs.BookBuilding.{build_book, tables_after, buffers_after};
 ghost use Rattle.definitions.specs.Building.{build};
-ghost use Rattle.definitions.specs.Said.{said_of, no_progress, book_progress};
 ghost use Rattle.tables.specs.Lending.{lengths_of, lent_tables};
-ghost use Rattle.network.specs.Answers.{build_said, lent_space, lent_buffers, build_answer, build_left};
-ghost use Rattle.builder.specs.Answers.{MeetsDemand3, KeepsFinalLast};
+ghost use Rattle.network.specs.Answers.{lent_space, lent_buffers, build_answer, build_left};
+ghost use Rattle.builder.specs.Answers.{book_answer, MeetsDemand3, KeepsFinalLast};
 ghost use Rattle.builder.specs.Tables.{tables_kept};
 
-use book::Reading;
 use book::reader::read;
-use definitions::Header;
-use lines::clearing::{clear_wide_words, clear_words};
+use definitions::{Header, Refusal};
 use network::Build;
 use network::building::build;
 
@@ -27,7 +24,7 @@ fn build_read(
     metastates: &mut [u64],
     arcs: &mut [u32],
     limit: u32,
-) -> Build
+) -> Result<Build, Refusal>
     ensures answer { result ≡ build_answer header
         (lent_tables nodes.old classes.old roots.old plains.old)
         (lent_space combinations.old metastates.old arcs.old) limit }
@@ -42,7 +39,7 @@ fn build_read(
         (lent_tables nodes.old classes.old roots.old plains.old)
         (lent_space combinations.old metastates.old arcs.old) limit }
 {
-    let answer = build(
+    match build(
         header,
         nodes,
         classes,
@@ -52,20 +49,14 @@ fn build_read(
         metastates,
         arcs,
         limit,
-    );
-    match answer {
-        Build::Finished(totals) => {
-            return Build::Finished(totals);
-        }
-        Build::Stopped(totals) => {
-            return Build::Stopped(totals);
-        }
-        Build::Refused(refusal) => {
-            clear_words(nodes);
-            clear_wide_words(classes);
-            clear_words(roots);
-            clear_words(plains);
-            return Build::Refused(refusal);
+    ) {
+        Ok(built) => Ok(built),
+        Err(refusal) => {
+            nodes.fill(0);
+            classes.fill(0);
+            roots.fill(0);
+            plains.fill(0);
+            Err(refusal)
         }
     }
 }
@@ -81,8 +72,8 @@ pub fn build_book(
     metastates: &mut [u64],
     arcs: &mut [u32],
     limit: u32,
-) -> Build
-    ensures answer { build_said result ≡ said_of book_progress no_progress (build_book
+) -> Result<Build, Refusal>
+    ensures answer { result ≡ book_answer (build_book
         (lengths_of nodes.old classes.old roots.old plains.old)
         (lent_space combinations.old metastates.old arcs.old) limit
         text.now) }
@@ -106,26 +97,23 @@ pub fn build_book(
         text.now result arcs.new }
     ensures ending { KeepsFinalLast result arcs.new }
 {
-    let reading = read(text, nodes, classes, roots, plains);
-    match reading {
-        Reading::Accepted(header) => {
-            return build_read(
-                header,
-                nodes,
-                classes,
-                roots,
-                plains,
-                combinations,
-                metastates,
-                arcs,
-                limit,
-            );
-        }
-        Reading::Refused(refusal) => {
-            clear_wide_words(combinations);
-            clear_wide_words(metastates);
-            clear_words(arcs);
-            return Build::Refused(refusal);
+    match read(text, nodes, classes, roots, plains) {
+        Ok(header) => build_read(
+            header,
+            nodes,
+            classes,
+            roots,
+            plains,
+            combinations,
+            metastates,
+            arcs,
+            limit,
+        ),
+        Err(refusal) => {
+            combinations.fill(0);
+            metastates.fill(0);
+            arcs.fill(0);
+            Err(refusal)
         }
     }
 }

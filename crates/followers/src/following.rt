@@ -6,10 +6,8 @@ ghost use Rattle.followers.specs.Turns.{Following};
 use crate::{Search, Source};
 use definitions::{Fault, wide};
 use growing::Sizes;
-use index::Follower;
 use index::records::{count_of, matrix_of};
-use index::rows::rows_for;
-use index::searching::next_follower;
+use index::{Combinations, Follower};
 use matrix::Matrix;
 use metastates::adding::enter;
 
@@ -33,24 +31,22 @@ pub fn follow(
     let rules = search.rules;
     let header = rules.header;
     let combinations = rules.combinations;
-    let rows = rows_for(header, combinations, search.index, shifted);
+    let listed = Combinations {
+        header,
+        words: combinations,
+        index: search.index,
+    };
+    let rows = listed.rows_for(shifted);
     let count = count_of(header.half, combinations);
     let width = 2 * wide(header.half) + 1;
     let mut now = source.sizes;
-    let mut number = next_follower(header, combinations, search.index, rows, 0, shifted);
+    let mut number = listed.next_follower(rows, 0, shifted);
     while number < count {
         let own = matrix_of(header.half, combinations, number);
         let met = shifted.meet(own, width).matrix;
         let follower = Follower { number, met };
         now = enter(rules, metastates, arcs, chains, now, source.state, follower)?;
-        number = next_follower(
-            header,
-            combinations,
-            search.index,
-            rows,
-            number + 1,
-            shifted,
-        );
+        number = listed.next_follower(rows, number + 1, shifted);
     }
     Ok(now)
 }

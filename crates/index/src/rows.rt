@@ -10,8 +10,9 @@ ghost use Rattle.index.specs.Indexing.{IsSet};
 ghost use Rattle.index.specs.Rows.{Admits, Admitting, Near, HasAllSet, AlongRows, NextMarked};
 ghost use Rattle.index.specs.Seeking.{Seeking};
 
+use crate::Combinations;
 use crate::indexing::{BLOCK_SIZE, blocks_in, next_member, row_at};
-use definitions::{Header, wide};
+use definitions::wide;
 use matrix::Matrix;
 use matrix::sets::alone;
 
@@ -23,40 +24,37 @@ pub struct Rows {
     third: usize,
 }
 
-// The row for a column of a matrix.
-fn row_for(
-    header: Header,
-    combinations: &[u64],
-    index: &[u64],
-    column: usize,
-    shifted: Matrix,
-) -> usize
-    requires { Seeking header combinations.now index.now shifted.columns × (column < 3) }
-    ensures { Admits (matrix_in header.half shifted.columns)
-        (combinations_in header combinations.now) index.now result }
-{
-    if wide(header.half) <= column {
-        return index.len();
-    }
-    let set = shifted.columns[column];
-    match next_member(set, 1) {
-        Some(phone) if set == alone(phone) => {
-            row_at(header, blocks_in(header.half, combinations), column, phone)
+impl Combinations<'_> {
+    // The row for a column of a matrix.
+    fn row_for(self, column: usize, shifted: Matrix) -> usize
+        requires { Seeking self.header self.words.now self.index.now shifted.columns × (column < 3) }
+        ensures { Admits (matrix_in self.entry.header.half shifted.columns)
+            (combinations_in self.entry.header self.entry.words.now) self.entry.index.now result }
+    {
+        let header = self.header;
+        if wide(header.half) <= column {
+            return self.index.len();
         }
-        _ => index.len(),
+        let set = shifted.columns[column];
+        match next_member(set, 1) {
+            Some(phone) if set == alone(phone) => {
+                row_at(header, blocks_in(header.half, self.words), column, phone)
+            }
+            _ => self.index.len(),
+        }
     }
-}
 
-// The rows for a matrix.
-pub fn rows_for(header: Header, combinations: &[u64], index: &[u64], shifted: Matrix) -> Rows
-    requires { Seeking header combinations.now index.now shifted.columns }
-    ensures { Admitting (matrix_in header.half shifted.columns)
-        (combinations_in header combinations.now) index.now result }
-{
-    Rows {
-        first: row_for(header, combinations, index, 0, shifted),
-        second: row_for(header, combinations, index, 1, shifted),
-        third: row_for(header, combinations, index, 2, shifted),
+    // The rows for a matrix.
+    pub fn rows_for(self, shifted: Matrix) -> Rows
+        requires { Seeking self.header self.words.now self.index.now shifted.columns }
+        ensures { Admitting (matrix_in self.entry.header.half shifted.columns)
+            (combinations_in self.entry.header self.entry.words.now) self.entry.index.now result }
+    {
+        Rows {
+            first: self.row_for(0, shifted),
+            second: self.row_for(1, shifted),
+            third: self.row_for(2, shifted),
+        }
     }
 }
 

@@ -16,7 +16,8 @@ pub fn key_of(x: Joined) -> usize
     (10007 * wide(x.state) + 67 * wide(x.word) + wide(x.mark)) % 65521
 }
 
-// The place of a joined state in the table, or none where it is new.
+// The place of a joined state in the table, or none where it is new. Written out here and in metastates, since a walk that
+// takes the test as a closure needs a contract about the closure and all keys, which is longer than the loop.
 pub fn find(states: &[u32], chains: &[u32], x: Joined) -> Option<usize>
     requires { Findable joined_code states.now chains.now }
     ensures { Found joined_code (elements_in joined_code states.now) (joined_of x) result }

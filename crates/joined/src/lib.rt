@@ -16,7 +16,8 @@ pub struct Joined {
 }
 
 // A join as far as it has grown: the lent words of its joined states, arcs and chains, and how many there are. Each has
-// a lifetime of its own, since two are lent at once.
+// a lifetime of its own, since two are lent at once. That the words hold so many and nothing else is asked by each method
+// and is no invariant of the type, since after 32 a state stands there without its arc.
 #[derive(Drop)]
 pub struct Join<'s, 'a, 'c> {
     pub states: &'s mut [u32],

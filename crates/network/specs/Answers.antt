@@ -1,12 +1,12 @@
 -- What a build answers, and the lent slices of its contract.
-use Rattle.std.specs.Prelude.{List, Bool, true, false, ℕ, length}
+use Rattle.std.specs.Prelude.{List, Bool, true, false, ℕ, length, Result}
 use Rattle.definitions.specs.declared.Header.{Header}
-use Rattle.definitions.specs.Faults.{Outcome, answered, refused}
+use Rattle.definitions.specs.declared.Refusal.{Refusal}
 use Rattle.definitions.specs.Growing.{finished, stopped}
 use Rattle.definitions.specs.Connecting.{Network, Built}
 use Rattle.definitions.specs.Tables.{Tables, tables_book}
 use Rattle.definitions.specs.Building.{Space, Buffers, build, buffers_left, counts_in}
-use Rattle.definitions.specs.Said.{Said, answer_said, refusal_said, Progress, no_progress}
+use Rattle.definitions.specs.Said.{Said, result_of, result_said, Progress, no_progress}
 use Rattle.network.specs.declared.Totals.{Totals}
 use Rattle.network.specs.declared.Build.{Build}
 use Rattle.network.specs.declared.Build.TheVariants as build
@@ -15,19 +15,21 @@ use Rattle.network.specs.declared.Build.TheVariants as build
 unfoldable pub totals_of : (states turns : ℕ) → Network → Totals
 totals_of states turns net = record { turns = turns; counts = counts_in states net }
 
-unfoldable pub build_of : (states : ℕ) → Outcome Built → Build
-build_of states (answered (finished turns net)) = build.Finished (totals_of states turns net)
-build_of states (answered (stopped turns net)) = build.Stopped (totals_of states turns net)
-build_of states (refused r) = build.Refused r
+abbrev pub build_of : (states : ℕ) → Built → Build
+build_of states (finished turns net) = build.Finished (totals_of states turns net)
+build_of states (stopped turns net) = build.Stopped (totals_of states turns net)
 
--- number, line, and how far the build came
+-- how far the build came
 abbrev pub so_far : (done : Bool) → Totals → Progress
 so_far done totals = record { finished = done; turns = totals.turns; counts = totals.counts }
 
-abbrev pub build_said : Build → Said Progress
-build_said (build.Finished totals) = answer_said (so_far true totals)
-build_said (build.Stopped totals) = answer_said (so_far false totals)
-build_said (build.Refused r) = refusal_said no_progress r
+abbrev pub came_to : Build → Progress
+came_to (build.Finished totals) = so_far true totals
+came_to (build.Stopped totals) = so_far false totals
+
+-- and number and line
+abbrev pub build_said : Result Build Refusal → Said Progress
+build_said = result_said came_to no_progress
 
 -- the three lent slices of a build: their lengths, and what is left in them
 abbrev pub lent_space : (combinations metastates arcs : List ℕ) → Space
@@ -39,8 +41,8 @@ lent_buffers combinations metastates arcs =
     record { combinations = combinations; metastates = metastates; arcs = arcs }
 
 -- what a build from lent tables and space answers, and what it leaves in the space
-abbrev pub build_answer : Header → Tables → Space → (limit : ℕ) → Build
-build_answer header tables space limit = build_of header.states (build header tables space limit)
+abbrev pub build_answer : Header → Tables → Space → (limit : ℕ) → Result Build Refusal
+build_answer header tables space limit = result_of (build_of header.states) (build header tables space limit)
 
 abbrev pub build_left : Header → Tables → Space → (limit : ℕ) → Buffers
 build_left header tables space limit =

@@ -2,20 +2,19 @@
 ghost use Rattle.std.specs.Prelude.{◌≡◌, ◌*◌, ◌≤◌, length, take};
 ghost use Rattle.definitions.specs.Building.{build};
 ghost use Rattle.definitions.specs.Combinations.{combination_size};
-ghost use Rattle.definitions.specs.Said.{said_of, progress_of, no_progress};
+ghost use Rattle.definitions.specs.Said.{result_of};
 ghost use Rattle.tables.specs.Lending.{lent_tables};
 ghost use Rattle.metastates.specs.Outcomes.{connected_in};
-ghost use Rattle.network.specs.Answers.{build_said, lent_space, lent_buffers, build_left};
+ghost use Rattle.network.specs.Answers.{build_of, lent_space, lent_buffers, build_left};
 ghost use Rattle.network.specs.Connected.{BuiltIn};
 ghost use Rattle.network.specs.Workspace.{Ready};
 
 use crate::Build;
 use crate::connecting::connect;
-use combinations::Combined;
 use combinations::combining::combine;
-use definitions::Header;
 use definitions::sizes::combination_size;
-use lines::clearing::{clear_wide_words, clear_words};
+use definitions::{Header, Refusal};
+use metastates::Rules;
 
 // Connects the combinations in the space; all three buffers are cleared where there is no room.
 fn connect_in(
@@ -27,7 +26,7 @@ fn connect_in(
     metastates: &mut [u64],
     arcs: &mut [u32],
     limit: u32,
-) -> Build
+) -> Result<Build, Refusal>
     requires { (combination_size header.half * count ≤ length combinations.old)
         × Ready header nodes.now (take (combination_size header.half * count) combinations.old) ends.now
         metastates.old arcs.old }
@@ -38,29 +37,18 @@ fn connect_in(
         result combinations.new metastates.new arcs.new }
 {
     let used = combination_size(header.half) * count;
-    let answer = connect(
+    let rules = Rules {
         header,
         nodes,
-        &combinations[..used],
-        ends,
-        metastates,
-        arcs,
-        limit,
-    );
-    match answer {
-        Build::Finished(totals) => {
-            return Build::Finished(totals);
-        }
-        Build::Stopped(totals) => {
-            return Build::Stopped(totals);
-        }
-        Build::Refused(refusal) => {
-            clear_wide_words(combinations);
-            clear_wide_words(metastates);
-            clear_words(arcs);
-            return Build::Refused(refusal);
-        }
+        combinations: &combinations[..used],
+    };
+    let answer = connect(rules, ends, metastates, arcs, limit);
+    if answer.is_err() {
+        combinations.fill(0);
+        metastates.fill(0);
+        arcs.fill(0);
     }
+    answer
 }
 
 // Builds the network of a book.
@@ -74,8 +62,8 @@ pub fn build(
     metastates: &mut [u64],
     arcs: &mut [u32],
     limit: u32,
-) -> Build
-    ensures answer { build_said result ≡ said_of (progress_of header.states) no_progress
+) -> Result<Build, Refusal>
+    ensures answer { result ≡ result_of (build_of header.states)
         (build header
         (lent_tables nodes.now classes.now roots.now plains.now)
         (lent_space combinations.old metastates.old arcs.old) limit) }
@@ -84,26 +72,17 @@ pub fn build(
         (lent_tables nodes.now classes.now roots.now plains.now)
         (lent_space combinations.old metastates.old arcs.old) limit }
 {
-    clear_wide_words(metastates);
-    clear_words(arcs);
-    let by_phone = combine(header, nodes, classes, roots, plains, combinations);
-    let answer = by_phone.answer;
-    let ends = by_phone.ends;
-    match answer {
-        Combined::Combinations(count) => {
-            return connect_in(
-                header,
-                nodes,
-                count,
-                &ends,
-                combinations,
-                metastates,
-                arcs,
-                limit,
-            );
-        }
-        Combined::Refused(refusal) => {
-            return Build::Refused(refusal);
-        }
-    }
+    metastates.fill(0);
+    arcs.fill(0);
+    let found = combine(header, nodes, classes, roots, plains, combinations)?;
+    connect_in(
+        header,
+        nodes,
+        found.count,
+        &found.ends,
+        combinations,
+        metastates,
+        arcs,
+        limit,
+    )
 }

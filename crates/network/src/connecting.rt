@@ -7,14 +7,15 @@ ghost use Rattle.network.specs.Connected.{Connected};
 ghost use Rattle.network.specs.Workspace.{Startable, Ready, Workspace};
 
 use crate::{Build, Totals};
-use definitions::{Counts, Header, MOST_COMBINATIONS, MOST_METASTATES, Refusal, wide};
-use followers::Source;
+use definitions::{Counts, Fault, Header, MOST_COMBINATIONS, MOST_METASTATES, Refusal, wide};
 use followers::following::follow;
 use followers::repeating::SPAN_SIZE;
-use growing::{Sizes, Step};
+use followers::{Search, Source};
+use growing::Sizes;
 use index::indexing::{BLOCK_SIZE, ENDS_SIZE, fill_index};
+use matrix::Matrix;
 use matrix::sets::all_phones;
-use matrix::shaping::around;
+use metastates::Rules;
 use metastates::adding::metastate_room;
 use turns::Turn;
 use turns::expanding::expand;
@@ -41,37 +42,25 @@ const LONG_INDEX: usize = ENDS_SIZE + 64 * (MOST_COMBINATIONS / BLOCK_SIZE + 1);
 
 // The start metastates and their arcs: the followers of a matrix with silence in its centre and left of it.
 fn start(
-    header: Header,
-    nodes: &[u32],
-    combinations: &[u64],
-    index: &[u64],
+    search: Search,
     metastates: &mut [u64],
     arcs: &mut [u32],
     chains: &mut [u32],
-) -> Step
-    requires { Startable header nodes.now combinations.now index.now metastates.old arcs.old chains.old }
-    ensures { StepLeft header combinations.now metastates.old arcs.old
-        chains.old
-        (started_in header nodes.now combinations.now metastates.old
-        arcs.old)
+) -> Result<Sizes, Fault>
+    requires { Startable search.rules.header search.rules.nodes.now search.rules.combinations.now search.index.now
+        metastates.old arcs.old chains.old }
+    ensures { StepLeft search.entry.rules.header search.entry.rules.combinations.now metastates.old arcs.old chains.old
+        (started_in search.entry.rules.header search.entry.rules.nodes.now search.entry.rules.combinations.now
+        metastates.old arcs.old)
         result metastates.new arcs.new chains.new }
 {
-    let before = around(header.half, 1, 1, all_phones(header.phones));
-    let none = Sizes { table: 0, arcs: 0 };
-    follow(
-        header,
-        nodes,
-        combinations,
-        index,
-        metastates,
-        arcs,
-        chains,
-        Source {
-            state: 0,
-            sizes: none,
-        },
-        before,
-    )
+    let header = search.rules.header;
+    let before = Matrix::around(header.half, 1, 1, all_phones(header.phones));
+    let source = Source {
+        state: 0,
+        sizes: Sizes { table: 0, arcs: 0 },
+    };
+    follow(search, metastates, arcs, chains, source, before)
 }
 
 // What the answer says of a network: the turns done, and the counts.
@@ -94,66 +83,43 @@ fn totals(header: Header, turns: u32, sizes: Sizes) -> Totals
 
 // Takes turns after the start, until none is left to expand, the limit is used up, or there is no room.
 fn take_turns(
-    header: Header,
-    nodes: &[u32],
-    combinations: &[u64],
-    index: &[u64],
+    search: Search,
     metastates: &mut [u64],
     arcs: &mut [u32],
     chains: &mut [u32],
     spans: &mut [u32],
     sizes: Sizes,
     limit: u32,
-) -> Build
-    requires { BetweenTurns header nodes.now combinations.now index.now metastates.old arcs.old
-        chains.old spans.old sizes }
-    ensures { Connected header metastates.old arcs.old
-        (turned_from header nodes.now combinations.now metastates.old
-        arcs.old sizes limit)
+) -> Result<Build, Refusal>
+    requires { BetweenTurns search.rules.header search.rules.nodes.now search.rules.combinations.now search.index.now
+        metastates.old arcs.old chains.old spans.old sizes }
+    ensures { Connected search.entry.rules.header metastates.old arcs.old
+        (turned_from search.entry.rules.header search.entry.rules.nodes.now search.entry.rules.combinations.now
+        metastates.old arcs.old sizes limit)
         result metastates.new arcs.new }
 {
+    let header = search.rules.header;
     let mut now = sizes;
-    let mut turns = 0;
-    while turns < limit {
-        if now.table <= wide(turns) {
-            return Build::Finished(totals(header, turns, now));
+    for turns in 0..limit {
+        let place = wide(turns);
+        if now.table <= place {
+            return Ok(Build::Finished(totals(header, turns, now)));
         }
-        let step = expand(
-            header,
-            nodes,
-            combinations,
-            index,
-            metastates,
-            arcs,
-            chains,
-            spans,
-            Turn {
-                place: wide(turns),
-                sizes: now,
-            },
-        );
-        match step {
-            Step::Next(next) => {
-                now = next;
-            }
-            Step::Stop(fault) => {
-                return Build::Refused(Refusal { fault, line: 0 });
-            }
-        }
-        turns += 1;
+        let turn = Turn { place, sizes: now };
+        now = expand(search, metastates, arcs, chains, spans, turn)?;
     }
-    if now.table <= wide(turns) {
-        return Build::Finished(totals(header, turns, now));
+    let all = totals(header, limit, now);
+    if now.table <= wide(limit) {
+        Ok(Build::Finished(all))
+    } else {
+        Ok(Build::Stopped(all))
     }
-    Build::Stopped(totals(header, turns, now))
 }
 
 // Connects the combinations into cleared space, with cleared words for chains, as many heads as the
 // metastates have room for and more, cleared words for spans, and words for an index of the combinations.
 fn connect_with(
-    header: Header,
-    nodes: &[u32],
-    combinations: &[u64],
+    rules: Rules,
     ends: &[u32],
     metastates: &mut [u64],
     arcs: &mut [u32],
@@ -161,84 +127,61 @@ fn connect_with(
     spans: &mut [u32],
     index: &mut [u64],
     limit: u32,
-) -> Build
-    requires { Ready header nodes.now combinations.now ends.now metastates.old arcs.old
-        × Workspace header.half metastates.old chains.old spans.old index.old }
-    ensures { Connected header metastates.old arcs.old
-        (connected_in header nodes.now combinations.now metastates.old
-        arcs.old limit)
+) -> Result<Build, Refusal>
+    requires { Ready rules.header rules.nodes.now rules.combinations.now ends.now metastates.old arcs.old
+        × Workspace rules.header.half metastates.old chains.old spans.old index.old }
+    ensures { Connected rules.entry.header metastates.old arcs.old
+        (connected_in rules.entry.header rules.entry.nodes.now rules.entry.combinations.now metastates.old arcs.old
+        limit)
         result metastates.new arcs.new }
 {
-    fill_index(header, combinations, ends, index);
-    let step = start(header, nodes, combinations, index, metastates, arcs, chains);
-    match step {
-        Step::Next(sizes) => {
-            return take_turns(
-                header,
-                nodes,
-                combinations,
-                index,
-                metastates,
-                arcs,
-                chains,
-                spans,
-                sizes,
-                limit,
-            );
-        }
-        Step::Stop(fault) => {
-            return Build::Refused(Refusal { fault, line: 0 });
-        }
-    }
+    fill_index(rules.header, rules.combinations, ends, index);
+    let search = Search { rules, index };
+    let sizes = start(search, metastates, arcs, chains)?;
+    take_turns(search, metastates, arcs, chains, spans, sizes, limit)
 }
 
 // Connects the combinations into cleared space. Space for fewer than 4096 metastates gets short chains, few
 // slots for spans and a short index, so that a small build clears few words.
 pub fn connect(
-    header: Header,
-    nodes: &[u32],
-    combinations: &[u64],
+    rules: Rules,
     ends: &[u32],
     metastates: &mut [u64],
     arcs: &mut [u32],
     limit: u32,
-) -> Build
-    requires { Ready header nodes.now combinations.now ends.now metastates.old arcs.old }
-    ensures { Connected header metastates.old arcs.old
-        (connected_in header nodes.now combinations.now metastates.old
-        arcs.old limit)
+) -> Result<Build, Refusal>
+    requires { Ready rules.header rules.nodes.now rules.combinations.now ends.now metastates.old arcs.old }
+    ensures { Connected rules.entry.header metastates.old arcs.old
+        (connected_in rules.entry.header rules.entry.nodes.now rules.entry.combinations.now metastates.old arcs.old
+        limit)
         result metastates.new arcs.new }
 {
-    if metastate_room(header.half, metastates) < FEW {
+    if metastate_room(rules.header.half, metastates) < FEW {
         let mut chains = [0u32; SHORT_CHAINS];
-        let mut few = [0u32; SHORT_SPANS];
-        let mut short = [0u64; SHORT_INDEX];
+        let mut spans = [0u32; SHORT_SPANS];
+        let mut index = [0u64; SHORT_INDEX];
         return connect_with(
-            header,
-            nodes,
-            combinations,
+            rules,
             ends,
             metastates,
             arcs,
             &mut chains,
-            &mut few,
-            &mut short,
+            &mut spans,
+            &mut index,
             limit,
         );
     }
     let mut chains = [0u32; LONG_CHAINS];
-    let mut many = [0u32; LONG_SPANS];
-    let mut long = [0u64; LONG_INDEX];
+    let mut spans = [0u32; LONG_SPANS];
+    let mut index = [0u64; LONG_INDEX];
     connect_with(
-        header,
-        nodes,
-        combinations,
+        rules,
         ends,
         metastates,
         arcs,
         &mut chains,
-        &mut many,
-        &mut long,
+        &mut spans,
+        &mut index,
         limit,
     )
 }

@@ -4,19 +4,18 @@
 pub mod building;
 mod connecting;
 
-use definitions::{Counts, Refusal};
+use definitions::Counts;
 
 // The turns that a build has done, and the counts of its network.
-#[derive(Clone, Copy)]
+#[derive(Clone, Copy, PartialEq, Eq)]
 pub struct Totals {
     pub turns: u32,
     pub counts: Counts,
 }
 
-// What a build answers: finished, or stopped with a metastate still unexpanded, or the refusal.
-#[derive(Clone, Copy)]
+// What a build that is not refused answers: finished, or stopped with a metastate still unexpanded.
+#[derive(Clone, Copy, PartialEq, Eq)]
 pub enum Build {
     Finished(Totals),
     Stopped(Totals),
-    Refused(Refusal),
 }

@@ -1,7 +1,7 @@
 -- Laws about what follows the last line: the state and the counts of names give the answer of documents 01 and 02.
 -- The idea: a plain phone that is a boundary phone is one that both sets have; the first count that is not 1 is that
 -- of the first orphan; and the line of either is the first of the text that says so.
-use Rattle.std.specs.Prelude.{if◌then◌else◌, ◌≡◌, refl, List, [], ◌∷◌, ◌++◌, map, Bool, not, ◌||◌, ℕ, suc, ◌≤◌, ◌<◌, ltb, length, take}
+use Rattle.std.specs.Prelude.{if◌then◌else◌, ◌≡◌, refl, List, [], ◌∷◌, ◌++◌, map, Bool, not, ◌||◌, ℕ, suc, ◌≤◌, ◌<◌, ltb, length, take, Result, Ok, Err}
 use Rattle.std.proofs.Common.{sym, ap₂, ◌∙◌, subst, inl, inr, add-one, arith, ltb-true, ltb-false}
 use Rattle.std.proofs.Math.Path.{ap}
 use Rattle.definitions.specs.declared.Fault.TheVariants.{Orphan, Count, Chained}
@@ -16,11 +16,10 @@ use Rattle.definitions.specs.BookReading.{Lent, book_kind, book_enough, judge_na
 use Rattle.definitions.specs.BookReading.{is_line_of, line_where}
 use Rattle.tables.specs.Naming.{first_misnamed}
 use Rattle.booklines.specs.States.{state_of, boundary_set}
-use Rattle.book.specs.declared.Reading.{Reading}
-use Rattle.book.specs.declared.Reading.TheVariants.{Accepted, Refused}
-use Rattle.book.specs.declared.Sought.TheVariants.{Node, PlainIn}
-use Rattle.book.specs.Answers.{reading_of}
-use Rattle.book.specs.Steps.{names_plain_in, sought_in, finish_of, book_taken, line_number_of}
+use Rattle.definitions.specs.Said.{result_of}
+use Rattle.definitions.specs.declared.Header.{Header}
+use Rattle.definitions.specs.declared.Refusal.{Refusal}
+use Rattle.book.specs.Steps.{names_plain_in, finish_of, book_taken, line_number_of}
 use Rattle.book.specs.Storing.{names_of, counts_stored}
 use Rattle.definitions.proofs.Laws.Lists.Tests.{by-test}
 use Rattle.definitions.proofs.Laws.Lists.Members.{in_left, in_right}
@@ -43,8 +42,8 @@ some-agrees f g (x ∷ l) h = ap₂ ◌||◌ (h x (inl refl)) (some-agrees f g l
 
 -- the first B line whose plain phone is a boundary phone, by the set of these
 chained-at : (boundaries : List Boundary) (at : ℕ) (lines : List BookLine) → PlainsLow (boundaries_of lines)
-    → line_where (sought_in (PlainIn (boundary_set boundaries))) at lines ≡ line_where (is_chained boundaries) at lines
-unfolding line_where sought_in names_plain_in is_chained
+    → line_where (names_plain_in (boundary_set boundaries)) at lines ≡ line_where (is_chained boundaries) at lines
+unfolding line_where names_plain_in is_chained
 chained-at boundaries at [] low = refl
 chained-at boundaries at (line ∷ lines) low =
     ap₂ (λ (here : Bool) (further : ℕ). if here then at else further)
@@ -61,17 +60,17 @@ chained-at boundaries at (line ∷ lines) low =
 -- ---- 16
 
 -- the answer where no plain phone is a boundary phone, by the lowest node that is not named once
-abbrev judged_by : (text : List ℕ) → (before : List BookLine) → (node : ℕ) → Reading
+abbrev judged_by : (text : List ℕ) → (before : List BookLine) → (node : ℕ) → Result Header Refusal
 judged_by text before node =
     if ltb node (length (nodes_of before))
-    then Refused (record { fault = Orphan; line = line_number_of text (Node node) })
-    else Accepted (header_of before)
+    then Err (record { fault = Orphan; line = line_number_of text (is_line_of node) })
+    else Ok (header_of before)
 
 finish-names : (lent : Lent) (text : List ℕ) (before : List BookLine) → Kept lent before
     → before ≡ map book_taken (lines_of text)
     → judged_by text before (first_misnamed (take (length (nodes_of before)) (counts_stored before)))
-    ≡ reading_of (judge_names before)
-unfolding counts_stored names_of judge_names reading_of sought_in
+    ≡ result_of header_of (judge_names before)
+unfolding counts_stored names_of judge_names result_of
 finish-names lent text before k all =
     by-test (ltb node (length nodes)) (λ e. rw e (some-orphan (ltb-true node (length nodes) e)))
     (λ e. rw e (no-orphan (ltb-false node (length nodes) e)))
@@ -89,16 +88,16 @@ finish-names lent text before k all =
     room = (kept-few lent before k).0
 
     some-orphan : node < length nodes
-        → Refused (record { fault = Orphan; line = line_number_of text (Node node) })
-        ≡ reading_of (judge_names before)
+        → Err (record { fault = Orphan; line = line_number_of text (is_line_of node) })
+        ≡ result_of header_of (judge_names before)
     some-orphan h =
         let judged : judge_names before ≡ refuse Orphan (line_where (is_line_of node) 1 before) =
         rw (orphans-some nodes roots 4096 room h, judge_names) in
         rw judged
         (ap (λ (lines : List BookLine).
-        Refused (record { fault = Orphan; line = line_where (is_line_of node) 1 lines })) (sym all))
+        Err (record { fault = Orphan; line = line_where (is_line_of node) 1 lines })) (sym all))
 
-    no-orphan : length nodes ≤ node → Accepted (header_of before) ≡ reading_of (judge_names before)
+    no-orphan : length nodes ≤ node → Ok (header_of before) ≡ result_of header_of (judge_names before)
     no-orphan h =
         let last : node ≡ length nodes = omega (arith, orphan-least nodes roots 4096 room) in
         let judged : judge_names before ≡ answered before =
@@ -114,24 +113,24 @@ module _ (lent : Lent) (text : List ℕ) (before : List BookLine) (k : Kept lent
     boundaries = boundaries_of before
 
     -- what is answered where no line is missing
-    abbrev judged_all : Bool → Reading
+    abbrev judged_all : Bool → Result Header Refusal
     judged_all chained =
         if chained
-        then Refused (record { fault = Chained; line = line_number_of text (PlainIn (boundary_set boundaries)) })
+        then Err (record { fault = Chained; line = line_number_of text (names_plain_in (boundary_set boundaries)) })
         else judged_by text before (first_misnamed (take (length (nodes_of before)) (counts_stored before)))
 
-    finish-book : judged_all (not (plains_plain boundaries)) ≡ reading_of (judge_book before)
-    unfolding judge_book judge reading_of
+    finish-book : judged_all (not (plains_plain boundaries)) ≡ result_of header_of (judge_book before)
+    unfolding judge_book judge result_of
     finish-book =
         by-test (plains_plain boundaries) (λ e. rw e (finish-names lent text before k all)) (λ e.
-        let line : line_number_of text (PlainIn (boundary_set boundaries)) ≡ line_where (is_chained boundaries) 1 before =
-        ap (line_where (sought_in (PlainIn (boundary_set boundaries))) 1) (sym all)
+        let line : line_number_of text (names_plain_in (boundary_set boundaries)) ≡ line_where (is_chained boundaries) 1 before =
+        ap (line_where (names_plain_in (boundary_set boundaries)) 1) (sym all)
         ∙ chained-at boundaries 1 before k.plains in
         rw (e, line))
 
     pub finish-state : finish_of text (state_of before) (counts_stored before)
-        ≡ reading_of (read_from (book_kind lent) (suc (length before)) before [])
-    unfolding finish_of read_from judge book_kind reading_of state_of
+        ≡ result_of header_of (read_from (book_kind lent) (suc (length before)) before [])
+    unfolding finish_of read_from judge book_kind result_of state_of
     finish-state =
         by-test (book_enough before)
         (λ e. rw (enough-state before, e, chained-state before k.plains) finish-book)

@@ -1,6 +1,6 @@
 -- Laws about the reading loop: what holds after each line that was taken, and what a refusal and the end give.
 -- The idea: the state and the tables are those of the lines before, and reading goes on from there.
-use Rattle.std.specs.Prelude.{◌≡◌, true, false, ℕ, suc, ◌+◌, ◌/◌, ◌≤◌, ◌<◌, length, replicate}
+use Rattle.std.specs.Prelude.{◌≡◌, true, false, ℕ, suc, ◌+◌, ◌/◌, ◌≤◌, ◌<◌, length, replicate, Result, Ok, Err}
 use Rattle.std.proofs.Math.Path.{refl, ap}
 use Rattle.std.proofs.Common.{sym, ◌∙◌, add-one, arith, take_all}
 use mathlib.Core.List.{List, [], ◌∷◌, ◌++◌, map}
@@ -16,14 +16,12 @@ use Rattle.lines.specs.Judging.{line_taken, lines_before, line_bytes}
 use Rattle.tables.specs.Lending.{lengths_of, lent_tables}
 use Rattle.booklines.specs.declared.State.{State}
 use Rattle.booklines.specs.States.{state_of}
-use Rattle.book.specs.declared.Reading.{Reading}
-use Rattle.book.specs.declared.Reading.TheVariants.{Refused}
-use Rattle.book.specs.declared.Step.{Step}
-use Rattle.book.specs.declared.Step.TheVariants.{Next, Stop}
+use Rattle.definitions.specs.Said.{result_of}
+use Rattle.definitions.specs.declared.Header.{Header}
+use Rattle.definitions.specs.declared.Refusal.{Refusal}
 use Rattle.book.specs.Storing.{nodes_after, classes_after, roots_after, plains_after, counts_after, nodes_stored}
 use Rattle.book.specs.Storing.{classes_stored, roots_stored, plains_stored, counts_stored}
-use Rattle.book.specs.Answers.{reading_of}
-use Rattle.book.specs.Steps.{book_taken, step_of, where_taken, finish_of}
+use Rattle.book.specs.Steps.{Step, book_taken, step_of, where_taken, finish_of}
 use Rattle.book.specs.Taking.{Ready, Endable, Cleared, Read, nodes_taken, classes_taken, roots_taken, plains_taken}
 use Rattle.book.specs.Taking.{counts_taken}
 use Rattle.definitions.proofs.Laws.Text.Judging.{refused-not-answered}
@@ -97,7 +95,7 @@ module _ {lent : Lent} {before : List BookLine} {s : State} {nodes classes roots
 
     -- after the last line
     held-finished : (text : List ℕ) → before ≡ map book_taken (lines_of text)
-        → finish_of text s counts ≡ reading_of (read_from (book_kind lent) (suc (length before)) before [])
+        → finish_of text s counts ≡ result_of header_of (read_from (book_kind lent) (suc (length before)) before [])
     held-finished text all =
         ap (λ (z : State). finish_of text z counts) h.state
         ∙ ap (finish_of text (state_of before)) h.counts-hold
@@ -149,9 +147,9 @@ first-turn text nodes classes roots plains s whole e c =
 
 refused-returns : (lent : Lent) (text nodes classes roots plains : List ℕ) (fault : Fault) (line : ℕ)
     → read_book lent text ≡ refuse fault line → lengths_of nodes classes roots plains ≡ lent
-    → (Refused (record { fault = fault; line = line }) ≡ reading_of (read_book lent text))
+    → (Err (record { fault = fault; line = line }) ≡ result_of header_of (read_book lent text))
     × Read lent text nodes classes roots plains
-unfolding reading_of
+unfolding result_of
 refused-returns lent text nodes classes roots plains fault line e l = (
   rw e refl,
   record {
@@ -162,8 +160,8 @@ refused-returns lent text nodes classes roots plains fault line e l = (
 
 -- a text that is not in whole lines
 pub torn-returns : (text nodes classes roots plains : List ℕ) → whole_lines text ≡ false
-    → (Refused (record { fault = Ragged; line = 0 })
-    ≡ reading_of (read_book (lengths_of nodes classes roots plains) text))
+    → (Err (record { fault = Ragged; line = 0 })
+    ≡ result_of header_of (read_book (lengths_of nodes classes roots plains) text))
     × Read (lengths_of nodes classes roots plains) text nodes classes roots plains
 unfolding read_book
 torn-returns text nodes classes roots plains e =
@@ -206,14 +204,14 @@ module _ {lent : Lent} {text : List ℕ} {i : ℕ} {s : State} {nodes classes ro
     -- a line that was taken
     pub turn-next : (bytes : List ℕ) (step : Step) (next : State) (nodes' classes' roots' plains' counts' : List ℕ)
         → bytes ≡ line_bytes text i → i < length text / 32
-        → step ≡ step_of (lengths_of nodes classes roots plains) s bytes → step ≡ Next next
+        → step ≡ step_of (lengths_of nodes classes roots plains) s bytes → step ≡ Ok next
         → nodes' ≡ nodes_taken step bytes nodes → classes' ≡ classes_taken step bytes classes
         → roots' ≡ roots_taken s.header.states step bytes roots → plains' ≡ plains_taken step bytes plains
         → counts' ≡ counts_taken step bytes counts
         → Turn lent text (i + 1) next nodes' classes' roots' plains' counts'
     unfolding where_taken line_taken book_kind
     turn-next bytes step next nodes' classes' roots' plains' counts' b l e k en ec er ep ek =
-        let taken = step-next lent before (line_bytes text i) next (step-here bytes step (Next next) b e k) in
+        let taken = step-next lent before (line_bytes text i) next (step-here bytes step (Ok next) b e k) in
         let more = held_more t.held (line_bytes text i) next taken in
         let on = goes-on-more (book_kind lent) text i t.goes_on l taken.passed in
         rw (add-one i, en, ec, er, ep, ek, k, b)
@@ -222,14 +220,14 @@ module _ {lent : Lent} {text : List ℕ} {i : ℕ} {s : State} {nodes classes ro
     -- a line with a fault: the tables stay as they were
     pub stop-returns : (bytes : List ℕ) (step : Step) (fault : Fault) (nodes' classes' roots' plains' : List ℕ)
         → bytes ≡ line_bytes text i → i < length text / 32
-        → step ≡ step_of (lengths_of nodes classes roots plains) s bytes → step ≡ Stop fault
+        → step ≡ step_of (lengths_of nodes classes roots plains) s bytes → step ≡ Err fault
         → nodes' ≡ nodes_taken step bytes nodes → classes' ≡ classes_taken step bytes classes
         → roots' ≡ roots_taken s.header.states step bytes roots → plains' ≡ plains_taken step bytes plains
-        → (Refused (record { fault = fault; line = i + 1 }) ≡ reading_of (read_book lent text))
+        → (Err (record { fault = fault; line = i + 1 }) ≡ result_of header_of (read_book lent text))
         × Read lent text nodes' classes' roots' plains'
     unfolding where_taken read_book
     stop-returns bytes step fault nodes' classes' roots' plains' b l e k en ec er ep =
-        let stop = step-here bytes step (Stop fault) b e k in
+        let stop = step-here bytes step (Err fault) b e k in
         let verdict = step-stop lent before (line_bytes text i) fault stop in
         let refusal : read_book lent text ≡ refuse fault (i + 1) =
         rw (add-one i) (goes-on-refused (book_kind lent) text i t.goes_on l fault verdict) in
@@ -241,15 +239,15 @@ module _ {lent : Lent} {text : List ℕ} {i : ℕ} {s : State} {nodes classes ro
     unfolding lines_before line_taken book_kind
     all-taken e = ap (map book_taken) (take_all i (lines_of text) (omega (arith, e, lines-count text)))
 
-    pub end_returns : (answer : Reading) → length text / 32 ≤ i → answer ≡ finish_of text s counts
-        → (answer ≡ reading_of (read_book lent text)) × Read lent text nodes classes roots plains
+    pub end_returns : (answer : Result Header Refusal) → length text / 32 ≤ i → answer ≡ finish_of text s counts
+        → (answer ≡ result_of header_of (read_book lent text)) × Read lent text nodes classes roots plains
     unfolding read_book
     end_returns answer e a =
         let end : read_book lent text ≡ read_from (book_kind lent) (suc i) before [] =
         goes-on-end (book_kind lent) text i t.goes_on e in (
           a ∙ held-finished t.held text (all-taken e)
-              ∙ ap (λ (z : ℕ). reading_of (read_from (book_kind lent) (suc z) before [])) counted
-              ∙ ap reading_of (sym end),
+              ∙ ap (λ (z : ℕ). result_of header_of (read_from (book_kind lent) (suc z) before [])) counted
+              ∙ ap (result_of header_of) (sym end),
           record {
             lengths = lengths;
             book = λ lines r.

@@ -1,18 +1,16 @@
 -- Laws about taking a line: the verdict by the state is that of document 01 after the lines before, so a line
 -- that is taken fits and the state follows it, and a line that stops has that fault.
-use Rattle.std.specs.Prelude.{◌≡◌, List, [], ◌∷◌, ◌++◌, ℕ}
-use Rattle.std.proofs.Common.{sym, ◌∙◌, arith}
+use Rattle.std.specs.Prelude.{◌≡◌, List, [], ◌∷◌, ◌++◌, ℕ, T, Ok, Err}
+use Rattle.std.specs.Result.{is_ok}
+use Rattle.std.proofs.Common.{sym, ap, ◌∙◌, subst}
 use Rattle.definitions.specs.declared.Fault.{Fault}
 use Rattle.definitions.specs.Forms.{book_forms}
 use Rattle.definitions.specs.BookLines.{BookLine}
 use Rattle.definitions.specs.BookReading.{Lent, book_kind}
-use Rattle.lines.specs.declared.Verdict.{Verdict}
-use Rattle.lines.specs.declared.Verdict.TheVariants.{Passed, Failed}
-use Rattle.lines.specs.Judging.{verdict_by, line_taken, line_verdict}
+use Rattle.lines.specs.Judging.{Verdict, verdict_by, line_taken, line_verdict}
 use Rattle.booklines.specs.declared.State.{State}
 use Rattle.booklines.specs.States.{state_of, next_state}
-use Rattle.book.specs.declared.Step.TheVariants.{Next, Stop}
-use Rattle.book.specs.Steps.{book_taken, verdict_in, step_after, step_of}
+use Rattle.book.specs.Steps.{Step, book_taken, verdict_in, step_after, step_of}
 use Rattle.definitions.proofs.Laws.Books.Books.{Fits, line-fits}
 use Rattle.lines.specs.Laws.Judging.{verdict-taken}
 use Rattle.booklines.specs.Laws.States.{tests-state, full-state, next-state}
@@ -30,12 +28,12 @@ pub record Taken (lent : Lent) (before : List BookLine) (bytes : List ℕ) (s : 
   pub fits : Fits lent before (book_taken bytes)
   pub state : s ≡ state_of (before ++ (book_taken bytes ∷ []))
 
-stopped : (fault : Fault) (s : State) → Stop fault ≡ Next s → ⊥
-stopped fault s e = let z : ◌≡◌ {A = ℕ} 0 1 = cc in omega arith
+stopped : (fault : Fault) (s : State) → ◌≡◌ {A = Step} (Err fault) (Ok s) → ⊥
+stopped fault s e = subst T (sym (ap is_ok e)) tt
 
 module _ (lent : Lent) (before : List BookLine) (bytes : List ℕ) where
-  line_taken_lem : (s : State) → line_verdict (book_kind lent) before bytes ≡ Passed
-      → Next (next_state (state_of before) (book_taken bytes)) ≡ Next s → Taken lent before bytes s
+  line_taken_lem : (s : State) → line_verdict (book_kind lent) before bytes ≡ Ok tt
+      → ◌≡◌ {A = Step} (Ok (next_state (state_of before) (book_taken bytes))) (Ok s) → Taken lent before bytes s
   unfolding line_taken book_kind
   line_taken_lem s v k =
       let passed = verdict-taken (book_kind lent) before bytes v in
@@ -48,22 +46,22 @@ module _ (lent : Lent) (before : List BookLine) (bytes : List ℕ) where
         state = same ∙ next-state before (book_taken bytes) fits.follows;
       }
 
-  pub step-next : (s : State) → step_of lent (state_of before) bytes ≡ Next s → Taken lent before bytes s
+  pub step-next : (s : State) → step_of lent (state_of before) bytes ≡ Ok s → Taken lent before bytes s
   unfolding step_of step_after
   step-next s k = by (verdict_in lent (state_of before) bytes) (sym (verdict-state lent before bytes)) k
     where
       by : (v : Verdict) → line_verdict (book_kind lent) before bytes ≡ v
-          → step_after v (state_of before) (book_taken bytes) ≡ Next s → Taken lent before bytes s
-      by Passed v q = line_taken_lem s v q
-      by (Failed fault) v q = absurd (stopped fault s q)
+          → step_after v (state_of before) (book_taken bytes) ≡ Ok s → Taken lent before bytes s
+      by (Ok done) v q = line_taken_lem s v q
+      by (Err fault) v q = absurd (stopped fault s q)
 
-  pub step-stop : (fault : Fault) → step_of lent (state_of before) bytes ≡ Stop fault
-      → line_verdict (book_kind lent) before bytes ≡ Failed fault
+  pub step-stop : (fault : Fault) → step_of lent (state_of before) bytes ≡ Err fault
+      → line_verdict (book_kind lent) before bytes ≡ Err fault
   unfolding step_of step_after
   step-stop fault k = by (verdict_in lent (state_of before) bytes) (sym (verdict-state lent before bytes)) k
     where
       by : (v : Verdict) → line_verdict (book_kind lent) before bytes ≡ v
-          → step_after v (state_of before) (book_taken bytes) ≡ Stop fault
-          → line_verdict (book_kind lent) before bytes ≡ Failed fault
-      by Passed v q = absurd (stopped fault _ (sym q))
-      by (Failed other) v q = let same : other ≡ fault = cc in v ∙ rw same
+          → step_after v (state_of before) (book_taken bytes) ≡ Err fault
+          → line_verdict (book_kind lent) before bytes ≡ Err fault
+      by (Ok done) v q = absurd (stopped fault _ (sym q))
+      by (Err other) v q = let same : other ≡ fault = cc in v ∙ rw same

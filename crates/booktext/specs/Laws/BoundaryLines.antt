@@ -1,22 +1,11 @@
--- Laws about the B lines: the next one, where a word names a plain phone, and how many there are at most.
-use Rattle.std.specs.Prelude.{◌≡◌, refl, List, [], ◌∷◌, ◌++◌, true, false, ℕ, suc, ◌+◌, ◌≤◌, ◌<◌, eqb, length, drop}
+-- Laws about the B lines: the next ones, and how many there are at most.
+use Rattle.std.specs.Prelude.{◌≡◌, refl, List, [], ◌∷◌, ◌++◌, ℕ, suc, ◌+◌, ◌≤◌, ◌<◌, eqb, length, drop}
 use Rattle.std.proofs.Common.{ap, ◌∙◌, add-one, arith, drop_of_length-le, drop-cons}
 use Rattle.definitions.specs.Lists.{◌!◌}
-use Rattle.definitions.specs.BookLines.{B}
-use Rattle.definitions.specs.BookText.{book_line_for, boundaries_from}
+use Rattle.definitions.specs.BookText.{boundaries_from}
 use Rattle.definitions.proofs.Laws.Lists.Tests.{by-test}
 use Rattle.booktext.specs.Parts.{boundary_lines}
 use Rattle.booktext.specs.Laws.Putting.{Next, Places}
-
--- the line of one word, if it is a plain phone
-pub no-boundary-line : (phone plain : ℕ) → eqb plain 0 ≡ true → boundary_lines phone (plain ∷ []) ≡ []
-unfolding boundaries_from
-no-boundary-line phone plain e = rw e
-
-pub boundary-line : (phone plain : ℕ) → eqb plain 0 ≡ false
-    → boundary_lines phone (plain ∷ []) ≡ book_line_for (B phone plain) ∷ []
-unfolding boundaries_from
-boundary-line phone plain e = rw e
 
 boundary-first : (phone plain : ℕ) (plains : List ℕ)
     → boundary_lines phone (plain ∷ plains)

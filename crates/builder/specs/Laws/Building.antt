@@ -1,58 +1,32 @@
 -- Laws about reading and building put together: what the text leads to where reading refuses it, and where it
 -- accepts it, by what the build from the tables then gives; and of a finished answer demand 3, and that nothing
 -- leaves FINAL.
-use Rattle.std.specs.Prelude.{◌≡◌, List, ℕ, length}
+use Rattle.std.specs.Prelude.{◌≡◌, List, ℕ, T, length, Result, Ok, Err}
+use Rattle.std.specs.Result.{is_ok}
 use Rattle.std.proofs.Math.Path.{refl, ap}
 use Rattle.std.proofs.Common.{sym, ◌∙◌, subst, arith}
 use Rattle.definitions.specs.declared.Refusal.{Refusal}
 use Rattle.definitions.specs.declared.Header.{Header}
 use Rattle.definitions.specs.Lists.{cleared}
 use Rattle.definitions.specs.Faults.{Outcome, answered, refused, and_then}
-use Rattle.definitions.specs.BookLines.{BookLine, no_header, header_of}
+use Rattle.definitions.specs.BookLines.{BookLine, header_of}
 use Rattle.definitions.specs.BookReading.{Lent, read_book}
 use Rattle.definitions.specs.Tables.{Tables, lent_of, tables_left, no_tables, tables_book}
 use Rattle.definitions.specs.Building.{Space, build, Buffers, buffers_left, no_buffers}
 use Rattle.definitions.specs.BookBuilding.{BookBuilt, build_read, build_book, tables_after, buffers_after}
-use Rattle.definitions.specs.Said.{said_of, no_progress, book_progress}
+use Rattle.definitions.specs.Said.{result_of}
+use Rattle.definitions.proofs.Laws.Results.{answered-ok, refused-err}
 use Rattle.definitions.specs.Growing.{finished}
 use Rattle.definitions.specs.Connecting.{Network, Built}
 use Rattle.definitions.proofs.Demand.Demand.{demand3}
 use Rattle.definitions.proofs.Demand.Endings.{finished-final}
-use Rattle.book.specs.declared.Reading.{Reading}
-use Rattle.book.specs.declared.Reading.TheVariants as reading
-use Rattle.book.specs.Answers.{reading_of, reading_said}
-use Rattle.book.specs.Laws.Said.{reading-told}
 use Rattle.network.specs.declared.Totals.{Totals}
 use Rattle.network.specs.declared.Build.{Build}
 use Rattle.network.specs.declared.Build.TheVariants as build
-use Rattle.network.specs.Answers.{totals_of, build_of, build_said, lent_buffers, build_answer, build_left}
+use Rattle.network.specs.Answers.{totals_of, build_of, lent_buffers, build_answer, build_left}
 use Rattle.builder.specs.Answers.{book_answer, WhereFinished, MeetsDemand3, KeepsFinalLast}
 use Rattle.builder.specs.Tables.{tables_kept}
-use Rattle.builder.specs.Laws.Said.{book-said}
 use Rattle.builder.specs.Laws.Keeping.{finished-inverted}
-
--- ---- what reading answered
-
--- it accepted lines with this header,
-pub read-accepted : (outcome : Outcome (List BookLine)) (header : Header)
-    → reading.Accepted header ≡ reading_of outcome
-    → (lines : List BookLine) × (outcome ≡ answered lines) × (header_of lines ≡ header)
-unfolding reading_of
-read-accepted (answered lines) header e = (lines, refl, (cc))
-read-accepted (refused r) header e = absurd (accepted-not-refused header r e)
-  where
-    accepted-not-refused : (header : Header) (r : Refusal) → reading.Accepted header ≡ reading.Refused r → ⊥
-    accepted-not-refused header r e = let z : ◌≡◌ {A = ℕ} 0 1 = cc in omega arith
-
--- or it refused
-pub read-refused : (outcome : Outcome (List BookLine)) (r : Refusal) → reading.Refused r ≡ reading_of outcome
-    → outcome ≡ refused r
-unfolding reading_of
-read-refused (answered lines) r e = absurd (refused-not-accepted e)
-  where
-    refused-not-accepted : reading.Refused r ≡ reading.Accepted (header_of lines) → ⊥
-    refused-not-accepted e = let z : ◌≡◌ {A = ℕ} 0 1 = cc in omega arith
-read-refused (refused s) r e = let same : r ≡ s = cc in rw same
 
 -- ---- a text that reading refuses
 
@@ -63,8 +37,8 @@ module _ (lent : Lent) (space : Space) (limit : ℕ) (text : List ℕ) (r : Refu
     unfolding build_book and_then
     refused-book = rw e
 
-    pub refused-answer : build.Refused r ≡ book_answer (build_book lent space limit text)
-    unfolding book_answer
+    pub refused-answer : Err r ≡ book_answer (build_book lent space limit text)
+    unfolding result_of
     refused-answer = rw refused-book
 
     pub refused-tables : (tables : Tables) → tables ≡ tables_left lent (read_book lent text)
@@ -78,11 +52,8 @@ module _ (lent : Lent) (space : Space) (limit : ℕ) (text : List ℕ) (r : Refu
     refused-buffers buffers h = h ∙ rw refused-book
 
     -- whatever is claimed of a finished answer
-    pub refused-unfinished : (claim : Totals → Type 0) → WhereFinished (build.Refused r) claim
-    refused-unfinished claim totals f = absurd (not-finished f)
-      where
-        not-finished : build.Refused r ≡ build.Finished totals → ⊥
-        not-finished f = let z : ◌≡◌ {A = ℕ} 0 1 = cc in omega arith
+    pub refused-unfinished : (claim : Totals → Type 0) → WhereFinished (Err r) claim
+    refused-unfinished claim totals f = absurd (subst T (sym (ap is_ok f)) tt)
 
 -- ---- a text that reading accepts
 
@@ -103,12 +74,12 @@ module _ (lent : Lent) (space : Space) (limit : ℕ) (text : List ℕ) (lines : 
     unfolding build_book build_read and_then
     built-book = rw e
 
-    pub built-answer : (answer : Build) → answer ≡ build_of (header_of lines).states outcome
+    pub built-answer : (answer : Result Build Refusal) → answer ≡ result_of (build_of (header_of lines).states) outcome
         → answer ≡ book_answer (build_book lent space limit text)
-    unfolding book_answer build_of and_then
+    unfolding result_of and_then
     built-answer answer h = h ∙ go outcome ∙ ap book_answer (sym built-book)
       where
-        go : (o : Outcome Built) → build_of (header_of lines).states o ≡ book_answer (with_lines o)
+        go : (o : Outcome Built) → result_of (build_of (header_of lines).states) o ≡ book_answer (with_lines o)
         go (answered built) = refl
         go (refused r) = refl
 
@@ -135,7 +106,8 @@ module _ (lent : Lent) (space : Space) (limit : ℕ) (text : List ℕ) (lines : 
         go (refused r) = refl
 
     -- of the answer's own counts and the words in the arc buffer:
-    module _ (answer : Build) (arcs : List ℕ) (h : answer ≡ build_of (header_of lines).states outcome)
+    module _ (answer : Result Build Refusal) (arcs : List ℕ)
+        (h : answer ≡ result_of (build_of (header_of lines).states) outcome)
         (left : arcs ≡ (buffers_left (tables_book (header_of lines) tables_read) space outcome).arcs)
       where
         -- a claim about the totals of every build that is finished,
@@ -164,9 +136,9 @@ module _ (lent : Lent) (space : Space) (limit : ℕ) (text : List ℕ) (lines : 
 -- ---- the two ways that reading and building end, as the code meets them
 
 -- what reading and building together answer and leave
-abbrev pub BookEnds : Lent → Space → (limit : ℕ) → (text : List ℕ) → Build → Tables → Buffers → Type 0
+abbrev pub BookEnds : Lent → Space → (limit : ℕ) → (text : List ℕ) → Result Build Refusal → Tables → Buffers → Type 0
 BookEnds lent space limit text answer tables buffers =
-    (build_said answer ≡ said_of book_progress no_progress (build_book lent space limit text))
+    (answer ≡ book_answer (build_book lent space limit text))
     × ((tables ≡ tables_after lent (build_book lent space limit text))
     × ((buffers ≡ buffers_after lent space (build_book lent space limit text))
     × (MeetsDemand3 lent text answer buffers.arcs × KeepsFinalLast answer buffers.arcs)))
@@ -175,7 +147,7 @@ module _ (lent : Lent) (space : Space) (limit : ℕ) (text : List ℕ) where
   -- what the build from these tables under this header answers and leaves is what the whole does
   abbrev EndsFrom : Header → Tables → Type 0
   EndsFrom header tables =
-      (answer : Build) (tables' : Tables) (buffers : Buffers)
+      (answer : Result Build Refusal) (tables' : Tables) (buffers : Buffers)
       → length tables.nodes ≡ lent.nodes → length tables.classes ≡ lent.classes
       → length tables.roots ≡ lent.roots → length tables.plains ≡ lent.plains
       → answer ≡ build_answer header tables space limit
@@ -187,7 +159,7 @@ module _ (lent : Lent) (space : Space) (limit : ℕ) (text : List ℕ) where
       → EndsFrom (header_of lines) (tables_left lent (read_book lent text))
   ends_read lines e answer tables' buffers n c r p a t b =
       let left = ap (λ (x : Buffers). x.arcs) b in (
-        book-said _ (built-answer lent space limit text lines e answer a),
+        built-answer lent space limit text lines e answer a,
         (
           built-tables lent space limit text lines e tables' (rw (n, c, r, p)) t,
           (
@@ -200,27 +172,24 @@ module _ (lent : Lent) (space : Space) (limit : ℕ) (text : List ℕ) where
         ),
       )
 
-  module _ {reads : Reading} {tables : Tables}
-      (says : reading_said reads ≡ said_of header_of no_header (read_book lent text))
+  module _ {reads : Result Header Refusal} {tables : Tables}
+      (says : reads ≡ result_of header_of (read_book lent text))
       (left : tables ≡ tables_left lent (read_book lent text))
     where
-      told : reads ≡ reading_of (read_book lent text)
-      told = reading-told (read_book lent text) says
-
-      pub accepted-returns : (header : Header) → reads ≡ reading.Accepted header → EndsFrom header tables
+      pub accepted-returns : (header : Header) → reads ≡ Ok header → EndsFrom header tables
       accepted-returns header f =
-          let (lines, e, same) = read-accepted (read_book lent text) header (sym f ∙ told) in
-          subst (λ (h : Header). EndsFrom h tables) same
-          (subst (λ (x : Tables). EndsFrom (header_of lines) x) (sym left) (ends_read lines e))
+          let read = answered-ok header_of (read_book lent text) header (sym says ∙ f) in
+          subst (λ (h : Header). EndsFrom h tables) read.said
+          (subst (λ (x : Tables). EndsFrom (header_of read.answer) x) (sym left) (ends_read read.answer read.was))
 
-      pub refused-returns : (r : Refusal) → reads ≡ reading.Refused r → (combinations metastates arcs : List ℕ)
+      pub refused-returns : (r : Refusal) → reads ≡ Err r → (combinations metastates arcs : List ℕ)
           → combinations ≡ cleared space.combinations → metastates ≡ cleared space.metastates
           → arcs ≡ cleared space.arcs
-          → BookEnds lent space limit text (build.Refused r) tables (lent_buffers combinations metastates arcs)
+          → BookEnds lent space limit text (Err r) tables (lent_buffers combinations metastates arcs)
       unfolding no_buffers
       refused-returns r f combinations metastates arcs x y z =
-          let e = read-refused (read_book lent text) r (sym f ∙ told) in (
-            book-said _ (refused-answer lent space limit text r e),
+          let e = refused-err header_of (read_book lent text) r (sym says ∙ f) in (
+            refused-answer lent space limit text r e,
             (
               refused-tables lent space limit text r e tables left,
               (

@@ -4,7 +4,7 @@
 use Rattle.std.proofs.Math.Path.{◌≡◌, refl, sym, ap}
 use Rattle.std.proofs.Common.{ap₂, ◌∙◌, subst, leb→le, lit<}
 use mathlib.Core.List.{List, [], ◌∷◌}
-use Rattle.std.specs.Prelude.{ℕ, ◌*◌, ◌≤◌, T, take}
+use Rattle.std.specs.Prelude.{ℕ, ◌*◌, ◌≤◌, T, take, true, false, is_err, Result, Ok, Err}
 use native.Mathlib.Omega.{arith}
 use Rattle.std.proofs.Math.Dec.{leb}
 use Rattle.std.proofs.Math.ListN.{length}
@@ -19,28 +19,23 @@ use Rattle.definitions.specs.Combinations.{Combination, combinations, combinatio
 use Rattle.definitions.specs.Combinations.{combination_room, combine, combination_space}
 use Rattle.definitions.specs.Arcs.{arc_words}
 use Rattle.definitions.specs.Metastates.{metastate_words}
-use Rattle.definitions.specs.Growing.{finished, stopped}
 use Rattle.definitions.specs.Connecting.{rules_of, Network, Built, connect}
 use Rattle.definitions.specs.Building.{Space, room_in, build, network_in, buffers_of, no_buffers, buffers_left}
-use Rattle.definitions.specs.Said.{said_of, progress_of, no_progress}
+use Rattle.definitions.specs.Said.{result_of}
+use Rattle.definitions.proofs.Laws.Results.{answered-ok, refused-err}
 use Rattle.definitions.proofs.Laws.Text.Judging.{passes_at, judge-answered}
 use Rattle.definitions.proofs.Laws.Lists.Records.{records-within}
 use Rattle.definitions.proofs.Laws.Lists.Lists.{padded-length, padded-take, clear-length, clear-itself}
 use Rattle.tables.specs.Lending.{lent_tables}
-use Rattle.combinations.specs.declared.Combined.{Combined}
-use Rattle.combinations.specs.declared.Combined.TheVariants as combined
-use Rattle.combinations.specs.Answers.{combined_of, combined_said, ends_of, ends_left}
-use Rattle.combinations.specs.Laws.Said.{combined-told}
+use Rattle.combinations.specs.declared.ByPhone.{ByPhone}
+use Rattle.combinations.specs.Answers.{ends_of, by_phone}
 use Rattle.index.specs.Combinations.{combinations_in, nodes_book, Modelled}
 use Rattle.metastates.specs.Networks.{room_of}
 use Rattle.metastates.specs.Outcomes.{connected_in}
-use Rattle.network.specs.declared.Totals.{Totals}
 use Rattle.network.specs.declared.Build.{Build}
-use Rattle.network.specs.declared.Build.TheVariants as build
-use Rattle.network.specs.Answers.{build_of, build_said, lent_space, lent_buffers}
+use Rattle.network.specs.Answers.{build_of, lent_space, lent_buffers}
 use Rattle.network.specs.Workspace.{Ready}
 use Rattle.network.specs.Connected.{Connected, BuiltIn}
-use Rattle.network.specs.Laws.Said.{build-said}
 use Rattle.network.specs.Laws.Nodes.{connect-nodes}
 use Rattle.network.specs.Laws.UsableCombinations.{combinations-length, combinations-back}
 use Rattle.network.specs.Laws.UsableCombinations.{combinations-usable, combinations-modelled}
@@ -55,67 +50,43 @@ buffers-equal e f g = λ i. record { combinations = e i; metastates = f i; arcs 
 
 -- ---- connecting in lent space
 
--- a build that refuses has no answer
-refused-not-built : (states : ℕ) (outcome : Outcome Built) (r : Refusal) (built : Built)
-    → build.Refused r ≡ build_of states outcome → outcome ≡ answered built → ⊥
-unfolding build_of
-refused-not-built states outcome r (finished turns net) e k =
-    let other : build.Refused r ≡ build.Finished _ = e ∙ ap (build_of states) k in
-    let z : ◌≡◌ {A = ℕ} 0 1 = cc in omega arith
-refused-not-built states outcome r (stopped turns net) e k =
-    let other : build.Refused r ≡ build.Stopped _ = e ∙ ap (build_of states) k in
-    let z : ◌≡◌ {A = ℕ} 0 1 = cc in omega arith
-
 -- of outcomes that are equal, what is left of one is left of the other
-pub connected-as : {header : Header} {metastates arcs : List ℕ} {outcome own : Outcome Built} {answer : Build}
+pub connected-as : {header : Header} {metastates arcs : List ℕ} {outcome own : Outcome Built} {answer : Result Build Refusal}
     {metastates₁ arcs₁ : List ℕ} → Connected header metastates arcs outcome answer metastates₁ arcs₁
     → outcome ≡ own → Connected header metastates arcs own answer metastates₁ arcs₁
 connected-as {header} {metastates} {arcs} {answer = answer} {metastates₁} {arcs₁} c e =
     subst (λ (o : Outcome Built). Connected header metastates arcs o answer metastates₁ arcs₁) e c
 
-module _ {header : Header} {metastates arcs : List ℕ} {outcome : Outcome Built} {answer : Build}
+module _ {header : Header} {metastates arcs : List ℕ} {outcome : Outcome Built} {answer : Result Build Refusal}
     {metastates₁ arcs₁ : List ℕ} (c : Connected header metastates arcs outcome answer metastates₁ arcs₁) where
-  -- an answer that is no refusal
-  kept : (combinations : List ℕ) (own : Build) → answer ≡ own
-      → ((r : Refusal) → own ≡ build.Refused r → ⊥)
-      → BuiltIn header combinations metastates arcs outcome own combinations metastates₁ arcs₁
-  unfolding build_of
-  kept combinations own e differs = record {
-    answers = sym e ∙ c.answers;
-    kept = λ built k. refl;
-    metastate-words = c.metastate-words;
-    arc-words = c.arc-words;
-    combinations-cleared = λ r k. absurd (never r k);
-    metastates-cleared = λ r k. absurd (never r k);
-    arcs-cleared = λ r k. absurd (never r k);
-  }
-    where
-      never : (r : Refusal) → outcome ≡ refused r → ⊥
-      never r k = differs r (sym e ∙ c.answers ∙ ap (build_of header.states) k)
-
-  pub finished-returns : {combinations : List ℕ} (totals : Totals) → answer ≡ build.Finished totals
-      → BuiltIn header combinations metastates arcs outcome (build.Finished totals)
-      combinations metastates₁ arcs₁
-  finished-returns totals e =
-      kept _ (build.Finished totals) e (λ r k. let z : ◌≡◌ {A = ℕ} 0 1 = cc in omega arith)
-
-  pub stopped-returns : {combinations : List ℕ} (totals : Totals) → answer ≡ build.Stopped totals
-      → BuiltIn header combinations metastates arcs outcome (build.Stopped totals)
-      combinations metastates₁ arcs₁
-  stopped-returns totals e =
-      kept _ (build.Stopped totals) e (λ r k. let z : ◌≡◌ {A = ℕ} 0 1 = cc in omega arith)
+  -- all stays
+  pub answered-returns : {combinations : List ℕ} → is_err answer ≡ false
+      → BuiltIn header combinations metastates arcs outcome answer combinations metastates₁ arcs₁
+  unfolding result_of
+  answered-returns e =
+      let never : ((r : Refusal) → outcome ≡ refused r → ⊥) =
+      λ r k. subst T (sym (ap is_err (c.answers ∙ ap (result_of (build_of header.states)) k)) ∙ e) tt in
+      record {
+        answers = c.answers;
+        kept = λ built k. refl;
+        metastate-words = c.metastate-words;
+        arc-words = c.arc-words;
+        combinations-cleared = λ r k. absurd (never r k);
+        metastates-cleared = λ r k. absurd (never r k);
+        arcs-cleared = λ r k. absurd (never r k);
+      }
 
   -- all is cleared again
-  pub refused-returns : {combinations combinations₂ metastates₂ arcs₂ : List ℕ} (r : Refusal)
-      → answer ≡ build.Refused r → combinations₂ ≡ cleared (length combinations)
-      → metastates₂ ≡ cleared (length metastates₁) → arcs₂ ≡ cleared (length arcs₁)
-      → BuiltIn header combinations metastates arcs outcome (build.Refused r) combinations₂ metastates₂ arcs₂
-  refused-returns r e f g h =
-      let own : build.Refused r ≡ build_of header.states outcome = sym e ∙ c.answers in
+  pub refused-returns : {combinations combinations₂ metastates₂ arcs₂ : List ℕ} → is_err answer ≡ true
+      → combinations₂ ≡ cleared (length combinations) → metastates₂ ≡ cleared (length metastates₁)
+      → arcs₂ ≡ cleared (length arcs₁)
+      → BuiltIn header combinations metastates arcs outcome answer combinations₂ metastates₂ arcs₂
+  unfolding result_of
+  refused-returns e f g h =
       let never : ((built : Built) → outcome ≡ answered built → ⊥) =
-      λ built. refused-not-built header.states outcome r built own in
+      λ built k. subst T (sym e ∙ ap is_err (c.answers ∙ ap (result_of (build_of header.states)) k)) tt in
       record {
-        answers = own;
+        answers = c.answers;
         kept = λ built k. absurd (never built k);
         metastate-words = λ built k. absurd (never built k);
         arc-words = λ built k. absurd (never built k);
@@ -142,60 +113,33 @@ module _ (header : Header) (nodes classes roots plains space : List ℕ) where
   abbrev combining : Outcome (List Combination)
   combining = combine header tables (length space)
 
-  -- where combining answers how many combinations there are
-  record Counted (count : ℕ) : Type 0 where
+  -- where combining answers how many combinations there are, and of which phones
+  record Counted (by : ByPhone) : Type 0 where
     known : T (tables_known header tables)
     room : length found ≤ combination_room header.half (length space)
-    count_is : count ≡ length found
+    is : by ≡ by_phone book found
     found_is : combining ≡ answered found
 
-  module _ {answer : Combined} (e : answer ≡ combined_of combining) where
-    count-not-refused : (count : ℕ) (r : Refusal) → answer ≡ combined.Combinations count
-        → combining ≡ refused r → ⊥
-    unfolding combined_of
-    count-not-refused count r k f =
-        let other : combined.Combinations count ≡ combined.Refused r = sym k ∙ e ∙ ap combined_of f in
-        let z : ◌≡◌ {A = ℕ} 0 1 = cc in omega arith
-
-    counted : (count : ℕ) → answer ≡ combined.Combinations count → Counted count
-    unfolding combine combined_of
-    counted count k = by combining refl
-      where
-        tests : List Test
-        tests =
-            Foreign unless tables_known header tables
-            ∷ Choices unless leb (length found) (combination_room header.half (length space))
-            ∷ []
-
-        by : (o : Outcome (List Combination)) → combining ≡ o → Counted count
-        by (refused r) f = absurd (count-not-refused count r k f)
-        by (answered list) f =
-            let (passed, same) = judge-answered 0 tests (answered found) list f in
-            let own : combined.Combinations count ≡ combined.Combinations (length found) =
-            sym k ∙ e ∙ ap combined_of (f ∙ sym same) in
-            record {
-              known = passes_at tests passed 0 (lit< tt);
-              room =
-                  leb→le (length found) (combination_room header.half (length space))
-                  (passes_at tests passed 1 (lit< tt));
-              count_is = cc;
-              found_is = f ∙ sym same;
-            }
-
-    -- where it answers a refusal
-    turned_down : (r : Refusal) → answer ≡ combined.Refused r → combining ≡ refused r
-    unfolding combined_of
-    turned_down r k = by combining refl
-      where
-        by : (o : Outcome (List Combination)) → combining ≡ o → combining ≡ refused r
-        by (refused other) f =
-            let own : combined.Refused r ≡ combined.Refused other = sym k ∙ e ∙ ap combined_of f in
-            let same : other ≡ r = cc in
-            f ∙ ap refused same
-        by (answered list) f =
-            let other : combined.Refused r ≡ combined.Combinations (length list) =
-            sym k ∙ e ∙ ap combined_of f in
-            let z : ◌≡◌ {A = ℕ} 0 1 = cc in absurd (omega arith)
+  module _ {answer : Result ByPhone Refusal} (e : answer ≡ result_of (by_phone book) combining) where
+    counted : (by : ByPhone) → answer ≡ Ok by → Counted by
+    unfolding combine result_of
+    counted by k =
+        let a = answered-ok (by_phone book) combining by (sym e ∙ k) in
+        let tests : List Test =
+        Foreign unless tables_known header tables
+        ∷ Choices unless leb (length found) (combination_room header.half (length space))
+        ∷ [] in
+        let (passed, same) = judge-answered 0 tests (answered found) a.answer a.was in
+        let all : combining ≡ answered found = a.was ∙ sym same in
+        let own : Ok by ≡ Ok (by_phone book found) = sym k ∙ e ∙ ap (result_of (by_phone book)) all in
+        record {
+          known = passes_at tests passed 0 (lit< tt);
+          room =
+              leb→le (length found) (combination_room header.half (length space))
+              (passes_at tests passed 1 (lit< tt));
+          is = cc;
+          found_is = all;
+        }
 
   module _ (metastates arcs : List ℕ) {metastates₁ arcs₁ : List ℕ}
       (m : metastates₁ ≡ cleared (length metastates)) (a : arcs₁ ≡ cleared (length arcs)) where
@@ -205,22 +149,28 @@ module _ (header : Header) (nodes classes roots plains space : List ℕ) where
     abbrev building : (limit : ℕ) → Outcome Built
     building limit = build header tables lent limit
 
-    -- what it says of an answer
-    abbrev Says : (limit : ℕ) → Build → Type 0
-    Says limit answer = build_said answer ≡ said_of (progress_of header.states) no_progress (building limit)
+    -- what it answers
+    abbrev Answers : (limit : ℕ) → Result Build Refusal → Type 0
+    Answers limit answer = answer ≡ result_of (build_of header.states) (building limit)
 
     -- what combining answered and left
-    module _ {answer : Combined} {ends space₁ : List ℕ}
-        (e : combined_said answer ≡ said_of length 0 combining) (f : ends ≡ ends_left book combining)
+    module _ {answer : Result ByPhone Refusal} {space₁ : List ℕ}
+        (e : answer ≡ result_of (by_phone book) combining)
         (g : space₁ ≡ combination_space header.half (length space) combining) where
-      module _ (count : ℕ) (k : answer ≡ combined.Combinations count) where
-        c : Counted count
-        c = counted (combined-told combining e) count k
+      module _ (by : ByPhone) (k : answer ≡ Ok by) where
+        abbrev count : ℕ
+        count = by.count
+
+        c : Counted by
+        c = counted e by k
+
+        count-is : count ≡ length found
+        count-is = ap (λ (z : ByPhone). z.count) c.is
 
         words-length : length words ≡ combination_size header.half * count
         words-length =
             combinations-length header nodes classes roots plains c.known
-            ∙ ap (λ (n : ℕ). combination_size header.half * n) (sym c.count_is)
+            ∙ ap (λ (n : ℕ). combination_size header.half * n) (sym count-is)
 
         within : length words ≤ length space
         unfolding combination_room
@@ -248,13 +198,12 @@ module _ (header : Header) (nodes classes roots plains space : List ℕ) where
             ap (take (combination_size header.half * count)) space-is
             ∙ padded-take (length space) _ words (sym words-length)
 
-        ends-are : ends ≡ padded 65 (ends_of book)
-        unfolding ends_left
-        ends-are = f ∙ ap (ends_left book) c.found_is
+        ends-are : by.ends ≡ padded 65 (ends_of book)
+        ends-are = ap (λ (z : ByPhone). z.ends) c.is
 
         -- so connecting may go on
         pub connect-ready : (combination_size header.half * count ≤ length space₁)
-            × Ready header nodes (take (combination_size header.half * count) space₁) ends metastates₁ arcs₁
+            × Ready header nodes (take (combination_size header.half * count) space₁) by.ends metastates₁ arcs₁
         connect-ready = (
           omega (arith, space-length, words-length, within),
           record {
@@ -292,7 +241,7 @@ module _ (header : Header) (nodes classes roots plains space : List ℕ) where
               ∙ sym
               (ap₂ (λ cs room. connect (rules_of (nodes_book header nodes) cs) room limit) found_back room-is)
 
-          module _ {own : Build} {space₂ metastates₂ arcs₂ : List ℕ}
+          module _ {own : Result Build Refusal} {space₂ metastates₂ arcs₂ : List ℕ}
               (b : BuiltIn header space₁ metastates₁ arcs₁ connected own space₂ metastates₂ arcs₂)
             where
               left : (o : Outcome Built) → connected ≡ o
@@ -311,23 +260,23 @@ module _ (header : Header) (nodes classes roots plains space : List ℕ) where
                   (b.metastates-cleared r q ∙ ap cleared (clear-length metastates metastates₁ m))
                   (b.arcs-cleared r q ∙ ap cleared (clear-length arcs arcs₁ a))
 
-              pub connect-returns : Says limit own
+              pub connect-returns : Answers limit own
                   × (lent_buffers space₂ metastates₂ arcs₂ ≡ buffers_left book lent (building limit))
               connect-returns = (
-                build-said header.states _ (b.answers ∙ ap (build_of header.states) (sym built-is)),
+                b.answers ∙ ap (result_of (build_of header.states)) (sym built-is),
                 left connected refl ∙ ap (buffers_left book lent) (sym built-is),
               )
 
       -- what combining refuses, the build refuses
-      pub combine-returns : (limit : ℕ) (r : Refusal) → answer ≡ combined.Refused r
-          → Says limit (build.Refused r)
+      pub combine-returns : (limit : ℕ) (r : Refusal) → answer ≡ Err r
+          → Answers limit (Err r)
           × (lent_buffers space₁ metastates₁ arcs₁ ≡ buffers_left book lent (building limit))
-      unfolding build and_then build_of buffers_left no_buffers combination_space
+      unfolding build and_then result_of buffers_left no_buffers combination_space
       combine-returns limit r k =
-          let refuses : combining ≡ refused r = turned_down (combined-told combining e) r k in
+          let refuses : combining ≡ refused r = refused-err (by_phone book) combining r (sym e ∙ k) in
           let none : building limit ≡ refused r =
           ap (λ o. and_then o (λ cs. connect (rules_of book cs) (room_in header.half lent) limit)) refuses in (
-            build-said header.states _ (sym (ap (build_of header.states) none)),
+            sym (ap (result_of (build_of header.states)) none),
             buffers-equal (g ∙ ap (combination_space header.half (length space)) refuses) m a
                 ∙ sym (ap (buffers_left book lent) none),
           )

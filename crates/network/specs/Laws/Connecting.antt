@@ -6,6 +6,8 @@ use Rattle.std.proofs.Math.Path.{ap}
 use Rattle.std.proofs.lemmas.List.{length-replicate}
 use Rattle.definitions.specs.declared.Header.{Header}
 use Rattle.definitions.specs.declared.Fault.{Fault}
+use Rattle.definitions.specs.declared.Refusal.{Refusal}
+use Rattle.definitions.specs.Said.{result_of}
 use Rattle.definitions.specs.Faults.{Outcome, answered, and_then}
 use Rattle.definitions.specs.Lists.{concat_map, cleared, padded}
 use Rattle.definitions.specs.Tables.{Book}
@@ -34,7 +36,6 @@ use Rattle.followers.specs.Spans.{span_size}
 use Rattle.followers.specs.Turns.{BetweenTurns}
 use Rattle.followers.specs.Laws.Spans.{no-spans-in}
 use Rattle.network.specs.declared.Build.{Build}
-use Rattle.network.specs.declared.Build.TheVariants as build
 use Rattle.network.specs.Answers.{build_of}
 use Rattle.network.specs.Workspace.{Startable, Ready, Workspace}
 use Rattle.network.specs.Connected.{Connected}
@@ -150,14 +151,14 @@ module _ {header : Header} {nodes combinations index metastates arcs chains : Li
           ∙ ap (λ (o : Outcome Network). and_then o (λ next. turns_from (machine_of book cs) room limit 0 next))
           (sym is-begun)
 
-      pub connected : (limit : ℕ) {built : Build} {metastates'' arcs'' : List ℕ}
+      pub connected : (limit : ℕ) {built : Result Build Refusal} {metastates'' arcs'' : List ℕ}
           → Connected header metastates' arcs'
           (turned_from header nodes combinations metastates' arcs' sizes limit) built metastates'' arcs''
           → Connected header metastates arcs
           (connected_in header nodes combinations metastates arcs limit) built metastates'' arcs''
       connected limit c =
           record {
-            answers = c.answers ∙ ap (build_of header.states) (turns-are limit);
+            answers = c.answers ∙ ap (result_of (build_of header.states)) (turns-are limit);
             metastate-words = λ built k. c.metastate-words built (turns-are limit ∙ k)
                 ∙ ap (λ (n : ℕ). padded n (concat_map (metastate_words header.half) (network_in built).table))
                 left.table-sized;
@@ -172,7 +173,7 @@ module _ {header : Header} {nodes combinations index metastates arcs chains : Li
     pub start-refused : (limit : ℕ) {fault : Fault} → answer ≡ Err fault
         → Connected header metastates arcs
         (connected_in header nodes combinations metastates arcs limit)
-        (build.Refused (record { fault = fault; line = 0 })) metastates' arcs'
+        (Err (record { fault = fault; line = 0 })) metastates' arcs'
     unfolding grow and_then
     start-refused limit {fault} a =
         let (r, is, same) = step-stop first fault (sym a ∙ left.answers) in

@@ -27,6 +27,7 @@ use Rattle.metastates.specs.Underway.{Underway}
 use Rattle.metastates.specs.Outcomes.{expanded_at, turned_from}
 use Rattle.metastates.specs.Laws.Steps.{left-holds}
 use Rattle.followers.specs.Turns.{BetweenTurns, TurnLeft}
+use Rattle.definitions.specs.Said.{result_of}
 use Rattle.network.specs.declared.Totals.{Totals}
 use Rattle.network.specs.declared.Build.{Build}
 use Rattle.network.specs.declared.Build.TheVariants as build
@@ -125,11 +126,12 @@ module _ {header : Header} {nodes combinations index metastates₀ arcs₀ chain
         e ∙ ap (totals_at header.states turns) (sym (held-sizes (metastate_code header.half) sizes metastates arcs))
 
     answered-left : {answer : Build} (built : Built) → network_in built ≡ net → whole ≡ answered built
-        → answer ≡ build_of header.states (answered built)
-        → Connected header metastates₀ arcs₀ whole answer metastates arcs
+        → answer ≡ build_of header.states built
+        → Connected header metastates₀ arcs₀ whole (Ok answer) metastates arcs
+    unfolding result_of
     answered-left built is e a =
         record {
-          answers = a ∙ ap (build_of header.states) (sym e);
+          answers = ap Ok a ∙ ap (result_of (build_of header.states)) (sym e);
           metastate-words = λ other k.
               let same : net ≡ network_in other = sym is ∙ ap network_in (the_same other k) in
               underway.kept.table-words
@@ -146,26 +148,25 @@ module _ {header : Header} {nodes combinations index metastates₀ arcs₀ chain
         the_same : (other : Built) → whole ≡ answered other → built ≡ other
         the_same other k = let both : answered built ≡ answered other = sym e ∙ k in cc
 
-    pub turn-finished : {place : ℕ} {total : Totals} → place ≡ turns → sizes.table ≤ place
-        → total ≡ totals_at header.states turns sizes
-        → Connected header metastates₀ arcs₀ whole (build.Finished total) metastates arcs
-    unfolding grown_in build_of
-    turn-finished e h total =
+    pub turn-finished : {place done : ℕ} {total : Totals} → place ≡ done → done ≡ turns → sizes.table ≤ place
+        → total ≡ totals_at header.states done sizes
+        → Connected header metastates₀ arcs₀ whole (Ok (build.Finished total)) metastates arcs
+    unfolding grown_in
+    turn-finished e same h total =
         answered-left (finished turns net) refl
-        (t.rest ∙ none_left (machine_of book cs) room (limit - turns) turns net (omega (arith, e, h, metastates-are)))
-        (ap (λ z. build.Finished z) (totals-are total))
+        (t.rest ∙ none_left (machine_of book cs) room (limit - turns) turns net (omega (arith, e, same, h, metastates-are)))
+        (ap (λ z. build.Finished z) (totals-are (total ∙ ap (λ (n : ℕ). totals_at header.states n sizes) same)))
 
-    pub turn_stopped : {place : ℕ} {total : Totals} → place ≡ turns → limit ≤ turns
-        → place < sizes.table
-        → total ≡ totals_at header.states turns sizes
-        → Connected header metastates₀ arcs₀ whole (build.Stopped total) metastates arcs
-    unfolding grown_in build_of
-    turn_stopped e k h total =
-        let none : limit - turns ≡ 0 = omega arith in
+    pub turn_stopped : {place : ℕ} {total : Totals} → place ≡ limit → limit ≡ turns → place < sizes.table
+        → total ≡ totals_at header.states limit sizes
+        → Connected header metastates₀ arcs₀ whole (Ok (build.Stopped total)) metastates arcs
+    unfolding grown_in
+    turn_stopped e same h total =
+        let none : limit - turns ≡ 0 = omega (arith, same) in
         answered-left (stopped turns net) refl
         (t.rest ∙ ap (λ (n : ℕ). turns_from (machine_of book cs) room n turns net) none
-        ∙ one_left (machine_of book cs) room turns net (omega (arith, e, h, metastates-are)))
-        (ap (λ z. build.Stopped z) (totals-are total))
+        ∙ one_left (machine_of book cs) room turns net (omega (arith, e, same, h, metastates-are)))
+        (ap (λ z. build.Stopped z) (totals-are (total ∙ ap (λ (n : ℕ). totals_at header.states n sizes) same)))
 
     -- ---- one more turn
 
@@ -221,7 +222,7 @@ module _ {header : Header} {nodes combinations index metastates₀ arcs₀ chain
 
         pub turn-refused : {fault : Fault} → answer ≡ Err fault
             → Connected header metastates₀ arcs₀ whole
-            (build.Refused (record { fault = fault; line = 0 })) metastates' arcs'
+            (Err (record { fault = fault; line = 0 })) metastates' arcs'
         unfolding and_then expand
         turn-refused {fault} a =
             let (r, is, same) = step-stop _ fault (sym a ∙ left.answers) in

@@ -1,41 +1,36 @@
 -- `finding::line_where` meets its contract. The loop's invariant: none of the first `i` lines is sought.
-use mathlib.Core.Path.{◌≡◌, sym, ap, ◌∙◌}
-use native.Mathlib.Omega.{arith}
-use Rattle.definitions.specs.BookLines.{book_line}
+use Rattle.std.proofs.Common.{◌≡◌, sym, ap, ◌∙◌, arith, false, length, ◌/◌}
 use Rattle.lines.specs.Judging.{line_bytes}
-use Rattle.lines.specs.Rows.{line_in}
-use Rattle.lines.specs.declared.Parsed.{Parsed}
-use Rattle.book.specs.Steps.{book_taken, sought_in}
 use Rattle.lines.specs.Laws.Judging.{next-bytes}
 use Rattle.lines.specs.Laws.Rows.{whole_row}
-use Rattle.book.specs.Laws.Finding.{passed_none, passed-more, found_here, found-end}
+use Rattle.book.specs.Steps.{book_taken}
+use Rattle.book.specs.Laws.Finding.{passed_none, passed-more, found_here, found-end, row-taken, misprint-taken}
 use Rattle.book.proofs.finding.line_where.Goals as goal
-use Rattle.book.proofs.finding.line_where.Goals.{After-is_sought}
-
-answered : (c : goal.After-is_sought) → sought_in c.args.sought (book_taken (line_bytes c.args.text.now c.loop-i.i))
-    ≡ c.is_sought.result
-answered c =
-    let parse = c.parse-parsed in
-    let bytes = next-bytes c.args.text.now c.loop-i.i in
-    sym (c.is_sought.ensures
-    ∙ ap (sought_in c.args.sought) (c.entry_of-entry.ensures
-    ∙ ap (λ (p : Parsed). book_line (line_in p.row)) parse.ensures ∙ ap book_taken bytes))
+use Rattle.book.proofs.finding.line_where.Goals.{in-Some+else-sought, in_default}
 
 pub loop-i-init : goal.loop-i-init
-loop-i-init c = (passed_none _ _, omega arith)
+loop-i-init g c = λ test seeks. passed_none _ test
 
-pub entry_of-entry-requires : goal.entry_of-entry-requires
-entry_of-entry-requires c = whole_row _ c.parse-parsed.ensures
+pub of-requires : goal.of-requires
+of-requires g c = whole_row _ (sym c.in-Some.is ∙ c.parse.ensures)
 
-pub returns-then-is_sought : goal.returns-then-is_sought
-returns-then-is_sought c =
-    found_here _ _ _ c.loop-i.invariant.0 c.loop-i-test.true (answered (goal.at.returns-then-is_sought c).After-is_sought ∙ c.if-is_sought.true)
+pub returns-then-sought : goal.returns-then-sought
+returns-then-sought g c = λ test seeks.
+    let row = row-taken _ (sym c.in-Some.is ∙ c.parse.ensures) in
+    found_here _ test _ (c.loop-i.invariant test seeks) c.loop-i-test.true
+    (sym (seeks.answers _ _ c.if-sought.ensures ∙ ap test (c.of.ensures ∙ sym row ∙ ap book_taken (next-bytes _ c.loop-i.i))))
 
 pub loop-i-preserved : goal.loop-i-preserved
-loop-i-preserved c =
-    let next = passed-more _ _ _ c.loop-i.invariant.0 c.loop-i-test.true
-    (answered (goal.at.loop-i-preserved c).After-is_sought ∙ c.if-is_sought.false) in
-    (next, omega (arith, c.loop-i-test.true))
+loop-i-preserved g c = λ test seeks.
+    let bytes = ap book_taken (next-bytes c.args.text.now c.loop-i.i) in
+    let other : test (book_taken (line_bytes c.args.text.now c.loop-i.i)) ≡ false = elim c.match-parse.branch [
+      | in-Some+else-sought w ↦ let row = row-taken _ (sym w.in-Some.is ∙ c.parse.ensures) in
+          sym (seeks.answers _ _ w.if-sought.ensures ∙ ap test (w.of.ensures ∙ sym row ∙ bytes))
+      | in_default w ↦ ap test (sym bytes ∙ misprint-taken _ _ c.parse.ensures w.in_default.not-Some) ∙ seeks.misprint
+    ] in
+    passed-more _ test _ (c.loop-i.invariant test seeks) c.loop-i-test.true other
 
 pub returns : goal.returns
-returns c = found-end _ _ _ c.loop-i.invariant.0 c.loop-i-test.false
+returns g c = λ test seeks.
+    let last : c.loop-i.i ≡ length c.args.text.now / 32 = omega arith in
+    rw (← last) (found-end _ test _ (c.loop-i.invariant test seeks) c.loop-i-test.false)

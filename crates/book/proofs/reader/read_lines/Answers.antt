@@ -1,62 +1,43 @@
 -- `reader::read_lines` meets its contract. The loop's invariant: the first `i` lines were taken.
-use Prim.Native.Nat.{◌+◌, ◌<◌}
-use native.Mathlib.Omega.{arith}
-use Rattle.definitions.proofs.Laws.Lists.Tests.{held, failed}
+use Rattle.std.proofs.Common.{ap, sym, ◌∙◌, arith, Err}
+use Rattle.definitions.specs.declared.Refusal.{Refusal}
 use Rattle.lines.specs.Laws.Judging.{next-bytes}
 use Rattle.book.specs.Laws.Reading.{first-turn, turn-ready, turn-endable, turn-next, torn-returns}
 use Rattle.book.specs.Laws.Reading.{stop-returns, end_returns}
-use Rattle.std.proofs.lemmas.Bool.{not_from_true}
-use Rattle.std.proofs.lemmas.Bool.{not_from_false}
 use Rattle.book.proofs.reader.read_lines.Goals as goal
-use Rattle.book.proofs.reader.read_lines.Goals.{After-counts-in-loop-i-1}
-
--- the next line's number is one of 64 bits
-next-number : (c : goal.After-counts-in-loop-i-1) → c.loop-i.i + 1 < 18446744073709551616
-next-number c =
-    omega (arith, c.loop-i-test.true, c.well_formed)
 
 pub returns-then-not-whole_lines : goal.returns-then-not-whole_lines
 returns-then-not-whole_lines c =
-    let all =
-    torn-returns _ _ _ _ _ (failed c.whole_lines.ensures (not_from_false _ c.if-not-whole_lines.true)) in
-    record { answer = all.0; tables = all.1 }
+    let all = torn-returns _ _ _ _ _ (sym c.if-not-whole_lines.ensures) in
+    record { answer = ap (λ (r : Refusal). Err r) c.into.ensures ∙ all.0; tables = all.1 }
 
 pub loop-i-init : goal.loop-i-init
-loop-i-init c =
-    let whole = held c.whole_lines.ensures (not_from_true _ c.if-not-whole_lines.false) in
-    first-turn _ _ _ _ _ _ whole c.no_lines-state.ensures c.requires
+loop-i-init c = first-turn _ _ _ _ _ _ (sym c.if-not-whole_lines.ensures) c.new-state.ensures c.requires
 
-pub take_line-step-requires : goal.take_line-step-requires
-take_line-step-requires c =
+pub take_line-requires : goal.take_line-requires
+take_line-requires c =
     let at = c.loop-i in
     turn-ready at.invariant _ (next-bytes _ at.i) c.loop-i-test.true (omega arith)
 
-pub overflow_add-result : goal.overflow_add-result
-overflow_add-result c = record { fits = next-number (goal.at.overflow_add-result c).After-counts-in-loop-i-1 }
-
-pub returns-in-Stop : goal.returns-in-Stop
-returns-in-Stop c =
+pub returns-in-Err : goal.returns-in-Err
+returns-in-Err c =
     let at = c.loop-i in
-    let all =
-    stop-returns at.invariant _ _ _ _ _ _ _ (next-bytes _ at.i) c.loop-i-test.true c.take_line-step.ensures.step
-    c.in-Stop.is c.take_line-step.ensures.nodes c.take_line-step.ensures.classes c.take_line-step.ensures.roots c.take_line-step.ensures.plains in
-    record { answer = all.0; tables = all.1 }
-
-pub overflow_add-i : goal.overflow_add-i
-overflow_add-i c = record { fits = next-number (goal.at.overflow_add-i c).After-counts-in-loop-i-1 }
+    let taken = c.take_line.ensures in
+    let all = stop-returns at.invariant _ _ _ _ _ _ _ (next-bytes _ at.i) c.loop-i-test.true taken.step c.in-Err.is
+    taken.nodes taken.classes taken.roots taken.plains in
+    record { answer = ap (λ (r : Refusal). Err r) c.at.ensures ∙ all.0; tables = all.1 }
 
 pub loop-i-preserved : goal.loop-i-preserved
 loop-i-preserved c =
     let at = c.loop-i in
-    turn-next at.invariant _ _ _ _ _ _ _ _ (next-bytes _ at.i) c.loop-i-test.true c.take_line-step.ensures.step
-    c.in-Next.is c.take_line-step.ensures.nodes c.take_line-step.ensures.classes c.take_line-step.ensures.roots c.take_line-step.ensures.plains
-    c.take_line-step.ensures.counts
+    let taken = c.take_line.ensures in
+    turn-next at.invariant _ _ _ _ _ _ _ _ (next-bytes _ at.i) c.loop-i-test.true taken.step c.in-Ok.is taken.nodes
+    taken.classes taken.roots taken.plains taken.counts
 
 pub finish-requires : goal.finish-requires
 finish-requires c = turn-endable c.loop-i.invariant (omega arith)
 
 pub returns : goal.returns
 returns c =
-    let all =
-    end_returns c.loop-i.invariant _ c.loop-i-test.false c.finish.ensures in
+    let all = end_returns c.loop-i.invariant _ c.loop-i-test.false c.finish.ensures in
     record { answer = all.0; tables = all.1 }

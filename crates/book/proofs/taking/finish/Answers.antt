@@ -1,47 +1,38 @@
 -- `taking::finish` meets its contract, by what is missing, chained or misnamed.
-use mathlib.Core.Path.{◌≡◌, sym, ◌∙◌}
-use mathlib.Core.Bool.{true, false}
-use native.Mathlib.Omega.{arith}
-use lib.ListN.{take}
-use lib.Seq.{length-take-le}
+use Rattle.std.proofs.Common.{refl, sym, ap, ◌∙◌, rules, arith, take, Err}
+use Rattle.std.proofs.Math.Seq.{length-take-le}
+use Rattle.definitions.specs.declared.Refusal.{Refusal}
+use Rattle.definitions.specs.Lists.{at_least_one}
+use Rattle.definitions.specs.BookLines.{node_line_in, boundary_in}
+use Rattle.definitions.specs.BookReading.{is_line_of}
 use Rattle.tables.specs.Naming.{first_misnamed}
-use Rattle.booklines.specs.States.{enough_in, chained_in}
-use Rattle.definitions.proofs.Laws.Lists.Tests.{held, failed}
+use Rattle.tables.specs.Laws.Naming.{misnamed-some, misnamed-none}
+use Rattle.book.specs.Steps.{names_plain_in}
 use Rattle.book.specs.Laws.Taking.{finish-early, finish-chained, finish-orphan, finish-fine}
-use Rattle.std.proofs.lemmas.Bool.{not_from_true}
-use Rattle.std.proofs.lemmas.Bool.{not_from_false}
 use Rattle.book.proofs.taking.finish.Goals as goal
-use Rattle.book.proofs.taking.finish.Goals.{After-first_misnamed-node, Else-not-enough}
 
 pub returns-then-not-enough : goal.returns-then-not-enough
-returns-then-not-enough c = finish-early _ _ _ (failed c.enough.ensures (not_from_false _ c.if-not-enough.true))
-
--- no line is missing
-all_there : (c : goal.Else-not-enough) → enough_in c.args.s ≡ true
-all_there c = held c.enough.ensures (not_from_true _ c.if-not-enough.false)
+returns-then-not-enough c = ap (λ (r : Refusal). Err r) c.at.ensures ∙ finish-early _ _ _ (sym c.if-not-enough.ensures)
 
 pub returns-then-chained : goal.returns-then-chained
+unfolding names_plain_in boundary_in at_least_one
 returns-then-chained c =
-    rw c.line_where.ensures
-    (finish-chained _ _ _ (all_there (goal.at.returns-then-chained c).Else-not-enough) (sym c.chained.ensures ∙ c.if-chained.true))
+    let line = c.line_where-line.ensures (names_plain_in c.args.s.boundaries) (record { answers = λ entry answer post. search rules; misprint = refl }) in
+    ap (λ (r : Refusal). Err r) (rw line at c.at-then-chained.ensures)
+    ∙ finish-chained _ _ _ (sym c.if-not-enough.ensures) (sym c.if-chained.ensures)
 
-pub slice_bounds-first_misnamed-end : goal.slice_bounds-first_misnamed-end
-slice_bounds-first_misnamed-end c = sym (length-take-le _ _ (omega arith))
-
-plain : (c : goal.After-first_misnamed-node) → chained_in c.args.s ≡ false
-plain c = sym c.chained.ensures ∙ c.if-chained.false
-
-first_is : (c : goal.After-first_misnamed-node)
-    → c.first_misnamed-node.result
-    ≡ first_misnamed (take c.args.s.nodes c.args.counts.now)
-first_is c = rw c.wide-nodes.ensures at c.first_misnamed-node.ensures
-
-pub returns-then-node-nodes : goal.returns-then-node-nodes
-returns-then-node-nodes c =
-    rw c.line_where-then-node-nodes.ensures
-    (finish-orphan _ _ _ _ (all_there (goal.at.returns-then-node-nodes c).Else-not-enough) (plain (goal.at.returns-then-node-nodes c).After-first_misnamed-node) (first_is (goal.at.returns-then-node-nodes c).After-first_misnamed-node)
-    (omega (arith, c.if-node-nodes.true)))
+pub returns-in-Some : goal.returns-in-Some
+unfolding is_line_of node_line_in at_least_one
+returns-in-Some c =
+    let line = c.line_where-line-in-Some.ensures (is_line_of c.in-Some.node) (record { answers = λ entry answer post. search rules; misprint = refl }) in
+    let (first, low) = misnamed-some (take c.wide.result c.args.counts.now) (sym c.first_misnamed.ensures ∙ c.in-Some.is) in
+    ap (λ (r : Refusal). Err r) (rw line at c.at-in-Some.ensures)
+    ∙ finish-orphan _ _ _ _ (sym c.if-not-enough.ensures) (sym c.if-chained.ensures) (rw c.wide.ensures at first)
+    (omega (arith, low, length-take-le c.wide.result c.args.counts.now (omega arith)))
 
 pub returns : goal.returns
 returns c =
-    finish-fine _ _ _ _ (all_there (goal.at.returns c).Else-not-enough) (plain (goal.at.returns c).After-first_misnamed-node) (first_is (goal.at.returns c).After-first_misnamed-node) (omega arith)
+    let none = misnamed-none (take c.wide.result c.args.counts.now) (sym c.first_misnamed.ensures ∙ c.in_default.is) in
+    let size = length-take-le c.wide.result c.args.counts.now (omega arith) in
+    finish-fine _ _ _ (first_misnamed (take c.args.s.nodes c.args.counts.now)) (sym c.if-not-enough.ensures) (sym c.if-chained.ensures) refl
+    (omega (arith, rw c.wide.ensures at (none ∙ size)))

@@ -1,71 +1,70 @@
 -- `taking::take_line` meets its contract, by what becomes of the line.
-use mathlib.Core.Path.{◌≡◌, refl, sym, ap, ◌∙◌}
-use mathlib.Core.Bool.{false}
-use borrow.Author.Tests.{not-true, not-false}
+use Rattle.std.proofs.Common.{◌≡◌, sym, ap, ◌∙◌, rules, Ok, Err}
+use Rattle.definitions.specs.declared.Fault.TheVariants.{Misprint}
 use Rattle.tables.specs.Lending.{lengths_of}
-use Rattle.booklines.specs.States.{full_in, next_state}
-use Rattle.book.specs.declared.Step.TheVariants.{Next}
+use Rattle.booklines.specs.States.{next_state}
+use Rattle.booklines.specs.Entries.{entry_line}
 use Rattle.book.specs.Steps.{book_taken, verdict_in, step_of, where_taken}
 use Rattle.lines.specs.Laws.Rows.{none-parsed, some-parsed, whole_row}
 use Rattle.lines.specs.Laws.Judging.{verdict-full, verdict-misprint, verdict-line}
+use Rattle.book.specs.Laws.Finding.{row-taken}
 use Rattle.book.specs.Laws.Taking.{step-failed, step-passed}
-use Rattle.lines.specs.declared.Verdict.TheVariants.{Passed}
 use Rattle.book.proofs.taking.take_line.Goals as goal
-use Rattle.book.proofs.taking.take_line.Goals.{After-judge_line, After-parse-parsed}
-
--- a line may follow
-unfinished : (c : goal.After-parse-parsed) → full_in c.args.s ≡ false
-unfinished c = sym c.full.ensures ∙ c.if-full.false
+use Rattle.book.proofs.taking.take_line.Goals.{After-judge}
 
 -- the verdict on the line is what its tests gave
-verdict : (c : goal.After-judge_line) → let a = c.args in
-    verdict_in (lengths_of a.nodes.now a.classes.now a.roots.now a.plains.now) a.s a.bytes.now
-    ≡ c.judge_line.result
+verdict : (c : goal.After-judge) → let a = c.args in
+    verdict_in (lengths_of a.nodes.now a.classes.now a.roots.now a.plains.now) a.s a.bytes.now ≡ c.judge.result
 verdict c =
-    let formed = not-false _ c.if-not-parsed.false in
-    verdict-line _ _ _ (sym c.full.ensures ∙ c.if-full.false) (some-parsed _ c.parse-parsed.ensures formed)
-    ∙ rw (← c.entry_of-entry.ensures) (sym c.judge_line.ensures)
+    verdict-line _ _ _ (sym c.if-full.ensures) (some-parsed _ (sym c.in_ok-row.ensures.ok_part ∙ c.parse.ensures))
+    ∙ rw (← c.of-entry.ensures) (sym c.judge.ensures)
 
-taken : (c : goal.After-judge_line) → c.judge_line.result ≡ Passed → let a = c.args in
+-- the line that the bytes are taken for is what the row says
+said : (c : goal.After-judge) → entry_line c.of-entry.result ≡ book_taken c.args.bytes.now
+said c = c.of-entry.ensures ∙ sym (row-taken _ (sym c.in_ok-row.ensures.ok_part ∙ c.parse.ensures))
+
+taken : (c : goal.After-judge) → c.judge.result ≡ Ok tt → let a = c.args in
     step_of (lengths_of a.nodes.now a.classes.now a.roots.now a.plains.now) a.s a.bytes.now
-    ≡ Next (next_state a.s (book_taken a.bytes.now))
+    ≡ Ok (next_state a.s (book_taken a.bytes.now))
 taken c passed = sym (step-passed _ _ _ (verdict c ∙ passed))
 
-pub returns-then-full : goal.returns-then-full
-unfolding where_taken
-returns-then-full c =
-    let is-full = sym c.full.ensures ∙ c.if-full.true in
-    let step = step-failed _ _ _ (verdict-full _ _ _ is-full) in
-    record { step = step; nodes = refl; classes = refl; roots = refl; plains = refl; counts = refl }
+pub returns-then-full-clause-step : goal.returns-then-full-clause-step
+returns-then-full-clause-step c = step-failed _ _ _ (verdict-full _ _ _ (sym c.if-full.ensures))
 
-pub returns-then-not-parsed : goal.returns-then-not-parsed
-unfolding where_taken
-returns-then-not-parsed c =
-    let unformed = none-parsed _ c.parse-parsed.ensures (not-true _ c.if-not-parsed.true) in
-    let step = step-failed _ _ _ (verdict-misprint _ _ _ (unfinished (goal.at.returns-then-not-parsed c).After-parse-parsed) unformed) in
-    record { step = step; nodes = refl; classes = refl; roots = refl; plains = refl; counts = refl }
+pub returns-in_err-row-clause-step : goal.returns-in_err-row-clause-step
+returns-in_err-row-clause-step c =
+    let unformed = none-parsed _ (sym c.in_err-row.ensures.ok_part ∙ c.parse.ensures) in
+    let z : c.from_residual.result ≡ Err Misprint = search rules in
+    z ∙ step-failed _ _ _ (verdict-misprint _ _ _ (sym c.if-full.ensures) unformed)
 
-pub entry_of-entry-requires : goal.entry_of-entry-requires
-entry_of-entry-requires c = whole_row _ c.parse-parsed.ensures
+pub of-entry-requires : goal.of-entry-requires
+of-entry-requires c = whole_row _ (sym c.in_ok-row.ensures.ok_part ∙ c.parse.ensures)
 
-pub returns-in-Failed : goal.returns-in-Failed
-unfolding where_taken
-returns-in-Failed c =
-    let step = step-failed _ _ _ (verdict (goal.at.returns-in-Failed c).After-judge_line ∙ c.in-Failed.is) in
-    record { step = step; nodes = refl; classes = refl; roots = refl; plains = refl; counts = refl }
+pub returns-in_err-judge-clause-step : goal.returns-in_err-judge-clause-step
+returns-in_err-judge-clause-step c =
+    let z : c.from_residual-in_err-judge.result ≡ Err c.in_err-judge.field-0.0 = search rules in
+    z ∙ step-failed _ _ _ (verdict (goal.at.returns-in_err-judge-clause-step c).After-judge ∙ c.in_err-judge.was)
 
 pub store-requires : goal.store-requires
 store-requires c =
-    rw (c.entry_of-entry.ensures, c.parse-parsed.ensures) (c.requires.room _ (taken (goal.at.store-requires c).After-judge_line c.in_default.is))
+    let at = (goal.at.store-requires c).After-judge in
+    rw (said at) (c.requires.room _ (taken at c.in_ok-judge.was))
 
-pub next_state-requires : goal.next_state-requires
-next_state-requires c = (
-  c.requires.counts,
-  rw (c.entry_of-entry.ensures, c.parse-parsed.ensures) (c.requires.phones _ (taken (goal.at.next_state-requires c).After-judge_line c.in_default.is)),
-)
+pub next-requires : goal.next-requires
+next-requires c =
+    let at = (goal.at.next-requires c).After-judge in
+    (c.requires.counts, rw (said at) (c.requires.phones _ (taken at c.in_ok-judge.was)))
 
 pub returns : goal.returns
 unfolding where_taken
 returns c =
-    let said = rw c.parse-parsed.ensures at c.entry_of-entry.ensures in
-    rw (← said) (record { step = ap Next c.next_state.ensures ∙ rw said (sym (taken (goal.at.returns c).After-judge_line c.in_default.is)); nodes = c.store.ensures.nodes; classes = c.store.ensures.classes; roots = c.store.ensures.roots; plains = c.store.ensures.plains; counts = c.store.ensures.counts })
+    let at = (goal.at.returns c).After-judge in
+    let stored = c.store.ensures in
+    rw (← said at) (record {
+      step = ap (λ (s : _). Ok s) c.next.ensures ∙ rw (said at) (sym (taken at c.in_ok-judge.was));
+      nodes = stored.nodes;
+      classes = stored.classes;
+      roots = stored.roots;
+      plains = stored.plains;
+      counts = stored.counts;
+    })

@@ -16,19 +16,21 @@ lent c =
 abbrev space : goal.Start → Space
 space c = lent_space c.args.combinations.now c.args.metastates.now c.args.arcs.now
 
-pub returns-in-Accepted : goal.returns-in-Accepted
-returns-in-Accepted c =
+pub returns-in-Ok : goal.returns-in-Ok
+returns-in-Ok c =
+    let start = (goal.at.returns-in-Ok c).Start in
     let all =
-    accepted-returns (lent (goal.at.returns-in-Accepted c).Start) (space (goal.at.returns-in-Accepted c).Start) c.args.limit c.args.text.now
-    c.read-reading.ensures.answer c.read-reading.ensures.tables _ c.in-Accepted.is _ _ _
+    accepted-returns (lent start) (space start) c.args.limit c.args.text.now
+    c.read.ensures.answer c.read.ensures.tables _ c.in-Ok.is _ _ _
     (search rules) (search rules) (search rules) (search rules)
     c.build_read.ensures.answer c.build_read.ensures.tables c.build_read.ensures.leaves in
     record { answer = all.0; tables = all.1.0; leaves = all.1.1.0; demand = all.1.1.1.0; ending = all.1.1.1.1 }
 
-pub returns-in-Refused : goal.returns-in-Refused
-returns-in-Refused c =
+pub returns-in-Err : goal.returns-in-Err
+returns-in-Err c =
+    let start = (goal.at.returns-in-Err c).Start in
     let all =
-    refused-returns (lent (goal.at.returns-in-Refused c).Start) (space (goal.at.returns-in-Refused c).Start) c.args.limit c.args.text.now
-    c.read-reading.ensures.answer c.read-reading.ensures.tables _ c.in-Refused.is _ _ _
-    c.clear_wide_words.ensures c.clear_wide_words-in-Refused.ensures c.clear_words.ensures in
+    refused-returns (lent start) (space start) c.args.limit c.args.text.now
+    c.read.ensures.answer c.read.ensures.tables _ c.in-Err.is _ _ _
+    (search rules) (search rules) (search rules) in
     record { answer = all.0; tables = all.1.0; leaves = all.1.1.0; demand = all.1.1.1.0; ending = all.1.1.1.1 }

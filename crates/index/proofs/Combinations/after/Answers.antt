@@ -1,4 +1,4 @@
--- `searching::after` meets its contract: where the centre lacks the phone, so it does up to the next phone
+-- `after` meets its contract: where the centre lacks the phone, so it does up to the next phone
 -- that it has.
 use mathlib.Core.Path.{sym, ap, subst, ◌∙◌}
 use Prim.Native.Nat.{ℕ, ◌+◌, ◌-◌, ◌≤◌, ◌<◌}
@@ -9,8 +9,8 @@ use Rattle.index.specs.Combinations.{combinations_in}
 use Rattle.index.specs.Following.{Beyond}
 use Rattle.index.specs.Laws.RecordWords.{combinations-length, has-phone}
 use Rattle.index.specs.Laws.Followers.{narrow, beyond-one, beyond-all, beyond-phones}
-use Rattle.index.proofs.searching.after.Goals as goal
-use Rattle.index.proofs.searching.after.Goals.{After-phone_of-phone, In_default, in_default-via-in-Some+else-next-header, in_default-via-in_default}
+use Rattle.index.proofs.Combinations.after.Goals as goal
+use Rattle.index.proofs.Combinations.after.Goals.{After-phone_of-phone, In_default, in_default-via-in-Some+else-next-header, in_default-via-in_default}
 use Rattle.index.specs.Indexing.{NextMember}
 use Rattle.definitions.proofs.Laws.Books.AcceptedKnown.{header-ranges}
 use lib.ListN.{length}
@@ -48,9 +48,9 @@ next_member-requires c = (omega arith, omega (arith, phone-few (goal.at.next_mem
 
 -- none of the phones after it
 none_left : (c : goal.In_default) → (next : ℕ)
-    → NextMember (c.args.shifted.columns ! c.wide.result) (c.phone_of-phone.result + 1) next → c.args.header.phones < next
-    → Beyond (matrix_in c.args.header.half c.args.shifted.columns) (combinations_in c.args.header c.args.combinations.now)
-    c.args.number (length (combinations_in c.args.header c.args.combinations.now))
+    → NextMember (c.args.shifted.columns ! c.wide.result) (c.phone_of-phone.result + 1) next → c.args.self.header.phones < next
+    → Beyond (matrix_in c.args.self.header.half c.args.shifted.columns) (combinations_in c.args.self.header c.args.self.words.now)
+    c.args.number (length (combinations_in c.args.self.header c.args.self.words.now))
 none_left c next n last =
     let s = c.requires.seeking in
     beyond-all s.usable s.shaped s.indexed c.requires.listed c.phone_of-phone.ensures c.wide.ensures
@@ -59,10 +59,10 @@ none_left c next n last =
 pub returns-in_default : goal.returns-in_default
 returns-in_default c =
     let a = c.args in
-    let few = (header-ranges a.header c.requires.seeking.usable.header-known).phones_range.high in
+    let few = (header-ranges a.self.header c.requires.seeking.usable.header-known).phones_range.high in
     subst (λ (n : ℕ).
-    Beyond (matrix_in a.header.half a.shifted.columns) (combinations_in a.header a.combinations.now) a.number n)
-    (combinations-length a.header a.combinations.now ∙ sym c.count_of.ensures)
+    Beyond (matrix_in a.self.header.half a.shifted.columns) (combinations_in a.self.header a.self.words.now) a.number n)
+    (combinations-length a.self.header a.self.words.now ∙ sym c.count_of.ensures)
     (elim c.in_default.branch [
       | in_default-via-in-Some+else-next-header w ↦
           none_left (goal.at.returns-in_default c).In_default _ w.in-Some.ensures.next w.if-next-header.false
@@ -73,8 +73,8 @@ returns-in_default c =
 pub overflow_sub-result : goal.overflow_sub-result
 overflow_sub-result c = omega (arith, c.wide-in-Some.ensures, c.in-Some.ensures.next.after)
 
-pub bounds-index-wide : goal.bounds-index-wide
-bounds-index-wide c =
+pub bounds-self-wide : goal.bounds-self-wide
+bounds-self-wide c =
     omega (
       arith,
       c.wide-in-Some.ensures,
@@ -89,4 +89,4 @@ returns-in-Some c =
     beyond-phones s.usable s.shaped s.indexed c.requires.listed c.phone_of-phone.ensures
     c.wide.ensures (sym c.has_phone.ensures ∙ c.if-has_phone.false)
     c.in-Some.ensures.next c.if-next-header.true
-    (ap (λ (k : ℕ). c.args.index.now ! (k - 1)) c.wide-in-Some.ensures)
+    (ap (λ (k : ℕ). c.args.self.index.now ! (k - 1)) c.wide-in-Some.ensures)

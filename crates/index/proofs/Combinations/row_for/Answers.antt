@@ -1,9 +1,9 @@
--- `rows::row_for` meets its contract: no row, or the row of the phone that the column has alone.
+-- `row_for` meets its contract: no row, or the row of the phone that the column has alone.
 use native.Mathlib.Omega.{arith}
 use Rattle.definitions.proofs.Laws.Books.AcceptedKnown.{header-ranges}
 use Rattle.index.specs.Laws.RecordWords.{combinations-length}
 use Rattle.index.specs.Laws.Rows.{no_row, row-admits}
-use Rattle.index.proofs.rows.row_for.Goals as goal
+use Rattle.index.proofs.Combinations.row_for.Goals as goal
 
 pub returns-then-wide-column : goal.returns-then-wide-column
 returns-then-wide-column c =
@@ -18,13 +18,13 @@ row_at-requires c =
     let a = c.args in
     let (s, left) = c.requires in (
       record {
-        phones_few = (header-ranges a.header s.usable.header-known).phones_range.high;
+        phones_few = (header-ranges a.self.header s.usable.header-known).phones_range.high;
         blocks_few =
             omega (
               arith,
               c.blocks_in.ensures,
               s.usable.few,
-              combinations-length a.header a.combinations.now,
+              combinations-length a.self.header a.self.words.now,
             );
         left = left;
       },

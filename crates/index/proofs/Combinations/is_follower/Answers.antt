@@ -1,4 +1,4 @@
--- `searching::is_follower` meets its contract: where the centre has the phone, the meet is tried.
+-- `is_follower` meets its contract: where the centre has the phone, the meet is tried.
 use mathlib.Core.Path.{◌≡◌, sym, ◌∙◌}
 use Prim.Native.Nat.{◌+◌, ◌*◌}
 use native.Mathlib.Omega.{arith}
@@ -7,7 +7,7 @@ use Rattle.matrix.specs.Shapes.{width_of}
 use Rattle.index.specs.Laws.RecordWords.{is-listed, has-phone}
 use Rattle.index.specs.Laws.Followers.{narrow, not-following, following-valid}
 use Rattle.std.proofs.lemmas.Bool.{not_from_false}
-use Rattle.index.proofs.searching.is_follower.Goals as goal
+use Rattle.index.proofs.Combinations.is_follower.Goals as goal
 
 pub phone_of-requires : goal.phone_of-requires
 phone_of-requires c =
@@ -26,7 +26,7 @@ pub returns-then-has_phone : goal.returns-then-has_phone
 returns-then-has_phone c =
     let tried = c.requires in
     let wide = c.wide-n in
-    let width : 2 * wide.result + 1 ≡ width_of c.args.header.half =
+    let width : 2 * wide.result + 1 ≡ width_of c.args.self.header.half =
     omega (arith, wide.ensures) in
     following-valid tried.usable tried.shaped tried.listed c.matrix_of.ensures width
     c.meets.ensures
