@@ -1,5 +1,4 @@
--- The laws of this crate: utterances, models, questions, what answers say, what the transcription answers and gives.
-pub mod Sequences
+-- The laws of this crate: models, questions, what the transcription answers and gives.
 pub mod Models
 pub mod Questions
 pub mod Answering
