@@ -1,41 +1,36 @@
 // A book read and its network built into space of several sizes; what is left in it, and the arcs that leave the first states.
+ghost use Rattle.std.specs.Prelude.{◌<◌};
+
 use arcs::leaving::leaving;
 use builder::building::build_book;
-use definitions::Counts;
+use definitions::{Counts, Refusal};
 use lookups::answers::print_cleared;
 use network::{Build, Totals};
-use showing::printing::{
-    print, print_number, print_refusal, print_used_wide_words, print_used_words, print_word,
-    print_words,
-};
+use showing::printing::{print_numbers, print_used};
 use std::io;
 
 // The turns done, and the counts.
-fn print_totals(rt: &impl Print, word: &[u8], totals: Totals) -> io::Result<()> {
-    let counts = totals.counts;
-    print(rt, word)?;
-    print_word(rt, totals.turns)?;
-    print(rt, b" turns,")?;
-    print_word(rt, counts.metastates)?;
-    print(rt, b" metastates,")?;
-    print_word(rt, counts.arcs)?;
-    print(rt, b" arcs\n")
+fn print_totals(rt: &impl Print, word: &str, totals: Totals) -> io::Result<()> {
+    let Totals { turns, counts } = totals;
+    let metastates = counts.metastates;
+    let arcs = counts.arcs;
+    println!(rt; " {word} after {turns} turns, {metastates} metastates, {arcs} arcs")
 }
 
 // The answer of a build in words, and whether a refusal left the tables cleared.
 fn print_build(
     rt: &impl Print,
-    answer: Build,
+    answer: Result<Build, Refusal>,
     nodes: &[u32],
     classes: &[u64],
     roots: &[u32],
     plains: &[u32],
 ) -> io::Result<()> {
     match answer {
-        Build::Finished(totals) => print_totals(rt, b" finished after", totals),
-        Build::Stopped(totals) => print_totals(rt, b" stopped after", totals),
-        Build::Refused(refusal) => {
-            print_refusal(rt, refusal)?;
+        Ok(Build::Finished(totals)) => print_totals(rt, "finished", totals),
+        Ok(Build::Stopped(totals)) => print_totals(rt, "stopped", totals),
+        Err(refusal) => {
+            print!(rt; " {refusal}")?;
             print_cleared(rt, nodes, classes, roots, plains)
         }
     }
@@ -48,12 +43,12 @@ fn print_space(
     metastates: &[u64],
     arcs: &[u32],
 ) -> io::Result<()> {
-    print(rt, b"    combinations")?;
-    print_used_wide_words(rt, combinations)?;
-    print(rt, b"    metastates")?;
-    print_used_wide_words(rt, metastates)?;
-    print(rt, b"    arcs")?;
-    print_used_words(rt, arcs)
+    print!(rt; "    combinations")?;
+    print_used(rt, combinations)?;
+    print!(rt; "    metastates")?;
+    print_used(rt, metastates)?;
+    print!(rt; "    arcs")?;
+    print_used(rt, arcs)
 }
 
 // The arcs that leave a state. The line of a fault is always 0 here.
@@ -61,13 +56,9 @@ fn show_leaving(rt: &impl Print, counts: Counts, arcs: &[u32], state: u32) -> io
     let mut fault = 7;
     let mut line = 7;
     let part = leaving(counts, arcs, state, &mut fault, &mut line);
-    print(rt, b"    leaving")?;
-    print_word(rt, state)?;
-    print(rt, b": fault")?;
-    print_word(rt, fault)?;
-    print(rt, b":")?;
-    print_words(rt, part)?;
-    print(rt, b"\n")
+    print!(rt; "    leaving {state}: fault {fault}:")?;
+    print_numbers(rt, part)?;
+    println!(rt)
 }
 
 // The arcs that leave the first states, some of which may not be there, and arcs that are counted wrong.
@@ -76,12 +67,7 @@ fn show_states(rt: &impl Print, totals: Totals, arcs: &[u32]) -> io::Result<()> 
     for state in 0..7 {
         show_leaving(rt, counts, arcs, state)?;
     }
-    let wrong = Counts {
-        states: counts.states,
-        metastates: counts.metastates,
-        arcs: 0,
-    };
-    show_leaving(rt, wrong, arcs, 0)
+    show_leaving(rt, Counts { arcs: 0, ..counts }, arcs, 0)
 }
 
 // Builds the network of a book into space where something stood before, and prints the answer and what is left.
@@ -92,18 +78,20 @@ fn show_build(
     metastates: &mut [u64],
     arcs: &mut [u32],
     limit: u32,
-) -> io::Result<Build> {
+) -> io::Result<Result<Build, Refusal>> {
     let mut nodes = [7u32; 52];
     let mut classes = [7u64; 3];
     let mut roots = [7u32; 7];
     let mut plains = [7u32; 5];
-    print(rt, b"  space for")?;
-    print_number(rt, (combinations.len() / 11) as u64)?;
-    print_number(rt, (metastates.len() / 8) as u64)?;
-    print_number(rt, (arcs.len() / 4) as u64)?;
-    print(rt, b" and")?;
-    print_word(rt, limit)?;
-    print(rt, b" turns:")?;
+    let most = (
+        combinations.len() / 11,
+        metastates.len() / 8,
+        arcs.len() / 4,
+    );
+    print!(rt;
+        "  space for {} {} {} and {limit} turns:",
+        most.0, most.1, most.2
+    )?;
     let answer = build_book(
         text,
         &mut nodes,
@@ -124,70 +112,41 @@ fn show_build(
 pub fn show_whole(rt: &impl Print, text: &[u8]) -> io::Result<()> {
     let mut arcs = [7u32; 800];
     match show_build(rt, text, &mut [7u64; 220], &mut [7u64; 320], &mut arcs, 40)? {
-        Build::Finished(totals) => show_states(rt, totals, &arcs),
-        Build::Stopped(totals) => show_states(rt, totals, &arcs),
-        Build::Refused(_) => Ok(()),
+        Ok(Build::Finished(totals) | Build::Stopped(totals)) => show_states(rt, totals, &arcs),
+        Err(_) => Ok(()),
     }
+}
+
+// The network in space of so many words.
+fn show_in<const COMBINATIONS: usize, const METASTATES: usize, const ARCS: usize>(
+    rt: &impl Print,
+    text: &[u8],
+    limit: u32,
+) -> io::Result<()>
+    requires { (COMBINATIONS < 1000) × (METASTATES < 1000) × (ARCS < 1000) }
+{
+    let mut combinations = [7u64; COMBINATIONS];
+    let mut metastates = [7u64; METASTATES];
+    let mut arcs = [7u32; ARCS];
+    let _ = show_build(
+        rt,
+        text,
+        &mut combinations,
+        &mut metastates,
+        &mut arcs,
+        limit,
+    )?;
+    Ok(())
 }
 
 // The sizes around those that document 01's example needs: 3 combinations, 4 metastates, 11 arcs, 4 turns. Some have words
 // beside that are too few for one more.
 pub fn show_sizes(rt: &impl Print, text: &[u8]) -> io::Result<()> {
-    show_build(
-        rt,
-        text,
-        &mut [7u64; 33],
-        &mut [7u64; 32],
-        &mut [7u32; 44],
-        4,
-    )?;
-    show_build(
-        rt,
-        text,
-        &mut [7u64; 34],
-        &mut [7u64; 39],
-        &mut [7u32; 47],
-        3,
-    )?;
-    show_build(
-        rt,
-        text,
-        &mut [7u64; 33],
-        &mut [7u64; 32],
-        &mut [7u32; 44],
-        0,
-    )?;
-    show_build(
-        rt,
-        text,
-        &mut [7u64; 33],
-        &mut [7u64; 31],
-        &mut [7u32; 44],
-        4,
-    )?;
-    show_build(
-        rt,
-        text,
-        &mut [7u64; 33],
-        &mut [7u64; 32],
-        &mut [7u32; 43],
-        4,
-    )?;
-    show_build(
-        rt,
-        text,
-        &mut [7u64; 33],
-        &mut [7u64; 24],
-        &mut [7u32; 20],
-        4,
-    )?;
-    show_build(
-        rt,
-        text,
-        &mut [7u64; 32],
-        &mut [7u64; 32],
-        &mut [7u32; 44],
-        4,
-    )?;
-    Ok(())
+    show_in::<33, 32, 44>(rt, text, 4)?;
+    show_in::<34, 39, 47>(rt, text, 3)?;
+    show_in::<33, 32, 44>(rt, text, 0)?;
+    show_in::<33, 31, 44>(rt, text, 4)?;
+    show_in::<33, 32, 43>(rt, text, 4)?;
+    show_in::<33, 24, 20>(rt, text, 4)?;
+    show_in::<32, 32, 44>(rt, text, 4)
 }

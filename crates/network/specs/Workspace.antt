@@ -1,5 +1,5 @@
 -- What connecting is given: the words of a book, cleared space for its network, and words to work with.
-use Rattle.std.specs.Prelude.{◌≡◌, List, ℕ, ◌≤◌, ◌<◌, length}
+use Rattle.std.specs.Prelude.{◌≡◌, List, ℕ, ◌/◌, ◌≤◌, ◌<◌, length}
 use Rattle.definitions.specs.declared.Header.{Header}
 use Rattle.definitions.specs.Lists.{cleared}
 use Rattle.definitions.specs.Connecting.{no_network}
@@ -26,6 +26,15 @@ pub record Workspace (half : ℕ) (metastates chains spans index : List ℕ) : T
   pub spans_clear : spans ≡ cleared (length spans)
   pub ends_room : ends_size ≤ length index
   pub index_small : length index ≤ farthest
+
+-- as many words for these as the metastates that have room ask for
+pub record Enough (half : ℕ) (metastates : List ℕ) (chains spans index : ℕ) : Type 0 where
+  pub heads : metastate_room half metastates < chains / 2
+  pub slots : span_size ≤ spans
+  pub ends_room : ends_size ≤ index
+  pub index_small : index ≤ farthest
+  pub chains_small : chains < 4294967296
+  pub spans_small : spans < 4294967296
 
 -- no network yet
 pub record Startable (header : Header) (nodes words index metastates arcs chains : List ℕ) : Type 0 where

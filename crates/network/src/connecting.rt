@@ -4,7 +4,7 @@ ghost use Rattle.metastates.specs.Outcomes.{started_in, turned_from, connected_i
 ghost use Rattle.metastates.specs.Steps.{StepLeft};
 ghost use Rattle.followers.specs.Turns.{BetweenTurns};
 ghost use Rattle.network.specs.Connected.{Connected};
-ghost use Rattle.network.specs.Workspace.{Startable, Ready, Workspace};
+ghost use Rattle.network.specs.Workspace.{Startable, Ready, Enough};
 
 use crate::{Build, Totals};
 use definitions::{Counts, Fault, Header, MOST_COMBINATIONS, MOST_METASTATES, Refusal, wide};
@@ -116,29 +116,40 @@ fn take_turns(
     }
 }
 
-// Connects the combinations into cleared space, with cleared words for chains, as many heads as the
-// metastates have room for and more, cleared words for spans, and words for an index of the combinations.
-fn connect_with(
+// Connects the combinations into cleared space, with so many words for chains, which makes more heads than the metastates
+// have room for, for spans, and for an index of the combinations.
+fn connect_with<const CHAINS: usize, const SPANS: usize, const INDEX: usize>(
     rules: Rules,
     ends: &[u32],
     metastates: &mut [u64],
     arcs: &mut [u32],
-    chains: &mut [u32],
-    spans: &mut [u32],
-    index: &mut [u64],
     limit: u32,
 ) -> Result<Build, Refusal>
     requires { Ready rules.header rules.nodes.now rules.combinations.now ends.now metastates.old arcs.old
-        × Workspace rules.header.half metastates.old chains.old spans.old index.old }
+        × Enough rules.header.half metastates.old CHAINS SPANS INDEX }
     ensures { Connected rules.entry.header metastates.old arcs.old
         (connected_in rules.entry.header rules.entry.nodes.now rules.entry.combinations.now metastates.old arcs.old
         limit)
         result metastates.new arcs.new }
 {
-    fill_index(rules.header, rules.combinations, ends, index);
-    let search = Search { rules, index };
-    let sizes = start(search, metastates, arcs, chains)?;
-    take_turns(search, metastates, arcs, chains, spans, sizes, limit)
+    let mut chains = [0u32; CHAINS];
+    let mut spans = [0u32; SPANS];
+    let mut index = [0u64; INDEX];
+    fill_index(rules.header, rules.combinations, ends, &mut index);
+    let search = Search {
+        rules,
+        index: &index,
+    };
+    let sizes = start(search, metastates, arcs, &mut chains)?;
+    take_turns(
+        search,
+        metastates,
+        arcs,
+        &mut chains,
+        &mut spans,
+        sizes,
+        limit,
+    )
 }
 
 // Connects the combinations into cleared space. Space for fewer than 4096 metastates gets short chains, few
@@ -157,31 +168,8 @@ pub fn connect(
         result metastates.new arcs.new }
 {
     if metastate_room(rules.header.half, metastates) < FEW {
-        let mut chains = [0u32; SHORT_CHAINS];
-        let mut spans = [0u32; SHORT_SPANS];
-        let mut index = [0u64; SHORT_INDEX];
-        return connect_with(
-            rules,
-            ends,
-            metastates,
-            arcs,
-            &mut chains,
-            &mut spans,
-            &mut index,
-            limit,
-        );
+        connect_with::<SHORT_CHAINS, SHORT_SPANS, SHORT_INDEX>(rules, ends, metastates, arcs, limit)
+    } else {
+        connect_with::<LONG_CHAINS, LONG_SPANS, LONG_INDEX>(rules, ends, metastates, arcs, limit)
     }
-    let mut chains = [0u32; LONG_CHAINS];
-    let mut spans = [0u32; LONG_SPANS];
-    let mut index = [0u64; LONG_INDEX];
-    connect_with(
-        rules,
-        ends,
-        metastates,
-        arcs,
-        &mut chains,
-        &mut spans,
-        &mut index,
-        limit,
-    )
 }

@@ -19,7 +19,6 @@ use Rattle.definitions.specs.Growing.{Room, turns_from, grow}
 use Rattle.definitions.specs.Connecting.{rules_of, start_events, Network, no_network, machine_of}
 use Rattle.definitions.proofs.Laws.Text.RefusalLines.{performs-line}
 use Rattle.index.specs.Combinations.{combinations_in, nodes_book}
-use Rattle.index.specs.Indexing.{ends_size, farthest}
 use Rattle.index.specs.Filling.{Fillable, Filled}
 use Rattle.index.specs.Laws.RecordWords.{combinations-length}
 use Rattle.index.specs.Laws.Filling.{indexed}
@@ -37,24 +36,23 @@ use Rattle.followers.specs.Turns.{BetweenTurns}
 use Rattle.followers.specs.Laws.Spans.{no-spans-in}
 use Rattle.network.specs.declared.Build.{Build}
 use Rattle.network.specs.Answers.{build_of}
-use Rattle.network.specs.Workspace.{Startable, Ready, Workspace}
+use Rattle.network.specs.Workspace.{Startable, Ready, Workspace, Enough}
 use Rattle.network.specs.Connected.{Connected}
 use Rattle.network.specs.Laws.Refused.{refused-left}
 
--- cleared words are words to work with
-pub cleared-workspace : {half : ℕ} {metastates : List ℕ} (chains spans index : ℕ)
-    → metastate_room half metastates < chains / 2
-    → span_size ≤ spans → ends_size ≤ index → index ≤ farthest
+-- so many cleared words are words to work with
+pub cleared-workspace : {half : ℕ} {metastates : List ℕ} {chains spans index : ℕ}
+    → Enough half metastates chains spans index
     → Workspace half metastates (cleared chains) (cleared spans) (cleared index)
-cleared-workspace {half} {metastates} chains spans index heads slots room small =
+cleared-workspace {half} {metastates} {chains} {spans} {index} enough =
     let sized : (size : ℕ) → length (cleared size) ≡ size = λ size. length-replicate {A = ℕ} size 0 in
     record {
       chains_clear = ap (λ (n : ℕ). cleared n) (sym (sized chains));
-      heads = subst (λ (n : ℕ). metastate_room half metastates < n / 2) (sym (sized chains)) heads;
-      slots = subst (λ (n : ℕ). span_size ≤ n) (sym (sized spans)) slots;
+      heads = subst (λ (n : ℕ). metastate_room half metastates < n / 2) (sym (sized chains)) enough.heads;
+      slots = subst (λ (n : ℕ). span_size ≤ n) (sym (sized spans)) enough.slots;
       spans_clear = ap (λ (n : ℕ). cleared n) (sym (sized spans));
-      ends_room = omega (arith, sized index, room);
-      index_small = omega (arith, sized index, small);
+      ends_room = omega (arith, sized index, enough.ends_room);
+      index_small = omega (arith, sized index, enough.index_small);
     }
 
 cleared-hold : {half count : ℕ} {metastates arcs chains : List ℕ} → metastates ≡ cleared (length metastates)

@@ -1,18 +1,29 @@
--- `connecting::connect` meets its contract: whatever the number of heads and slots, they are cleared, and
--- there are more heads than metastates have room for.
-use native.Mathlib.Omega.{arith}
-use Rattle.network.specs.Laws.Connecting.{cleared-workspace}
+-- `connecting::connect` meets its contract: with few metastates as with many there are more heads than have room.
+use Rattle.std.proofs.Common.{arith}
 use Rattle.network.proofs.connecting.connect.Goals as goal
 
 pub connect_with-requires : goal.connect_with-requires
 connect_with-requires c = (
   c.requires,
-  cleared-workspace 8192 12288 4096 (omega (arith, c.if-metastate_room-lt-FEW.true, c.metastate_room.ensures))
-      (omega arith) (omega arith) (omega arith),
+  record {
+    heads = omega (arith, c.if-metastate_room-lt-FEW.true, c.metastate_room.ensures);
+    slots = omega arith;
+    ends_room = omega arith;
+    index_small = omega arith;
+    chains_small = omega arith;
+    spans_small = omega arith;
+  },
 )
 
-pub connect_with-requires-2 : goal.connect_with-requires-2
-connect_with-requires-2 c = (
+pub connect_with-requires-else-metastate_room-lt-FEW : goal.connect_with-requires-else-metastate_room-lt-FEW
+connect_with-requires-else-metastate_room-lt-FEW c = (
   c.requires,
-  cleared-workspace 131072 196608 65601 (omega arith) (omega arith) (omega arith) (omega arith),
+  record {
+    heads = omega arith;
+    slots = omega arith;
+    ends_room = omega arith;
+    index_small = omega arith;
+    chains_small = omega arith;
+    spans_small = omega arith;
+  },
 )

@@ -1,35 +1,42 @@
--- `connecting::connect_with` meets its contract.
+-- `connecting::connect_with` meets its contract: the words that it makes are cleared, and there are enough of them.
+use Rattle.std.proofs.Common.{arith}
 use Rattle.std.proofs.lemmas.Result.{err_from_is_err_and}
-use Rattle.network.specs.Workspace.{Startable}
-use Rattle.network.specs.Laws.Connecting.{fillable, startable, start_between, connected, start-refused}
+use Rattle.network.specs.Laws.Connecting.{cleared-workspace, fillable, startable, start_between, connected}
+use Rattle.network.specs.Laws.Connecting.{start-refused}
 use Rattle.network.proofs.connecting.connect_with.Goals as goal
-use Rattle.network.proofs.connecting.connect_with.Goals.{After-fill_index}
-
--- the index was filled, so the build may start
-ready : (c : goal.After-fill_index)
-    → Startable c.args.rules.header c.args.rules.nodes.now c.args.rules.combinations.now
-    c.fill_index.new.index c.args.metastates.now c.args.arcs.now c.args.chains.now
-ready c = let (given, work) = c.requires in startable given work c.fill_index.ensures
 
 pub fill_index-requires : goal.fill_index-requires
-fill_index-requires c = let (given, work) = c.requires in fillable given work
+fill_index-requires g c = let (given, enough) = c.requires in fillable given (cleared-workspace enough)
+
+pub whole_as_slice-start : goal.whole_as_slice-start
+whole_as_slice-start g c = let (_, enough) = c.requires in omega (arith, enough.chains_small)
 
 pub start-requires : goal.start-requires
-start-requires c = ready (goal.at.start-requires c).After-fill_index
+start-requires g c =
+    let (given, enough) = c.requires in startable given (cleared-workspace enough) c.fill_index.ensures
 
 pub returns-in_err-sizes : goal.returns-in_err-sizes
-returns-in_err-sizes c =
+returns-in_err-sizes g c =
+    let (given, enough) = c.requires in
     let p = err_from_is_err_and c.from_residual.result c.from_residual.ensures.1 in
     rw (p.1, p.2)
-    (start-refused (ready (goal.at.returns-in_err-sizes c).After-fill_index) c.start.ensures c.args.limit
+    (start-refused (startable given (cleared-workspace enough) c.fill_index.ensures) c.start.ensures c.args.limit
     c.in_err-sizes.was)
 
+pub whole_as_slice-take_turns : goal.whole_as_slice-take_turns
+whole_as_slice-take_turns g c = let (_, enough) = c.requires in omega (arith, enough.chains_small)
+
+pub whole_as_slice-take_turns-2 : goal.whole_as_slice-take_turns-2
+whole_as_slice-take_turns-2 g c = let (_, enough) = c.requires in omega (arith, enough.spans_small)
+
 pub take_turns-requires : goal.take_turns-requires
-take_turns-requires c =
-    let (given, work) = c.requires in
-    start_between (ready (goal.at.take_turns-requires c).After-fill_index) c.start.ensures c.in_ok-sizes.was work
+take_turns-requires g c =
+    let (given, enough) = c.requires in
+    start_between (startable given (cleared-workspace enough) c.fill_index.ensures) c.start.ensures c.in_ok-sizes.was
+    (cleared-workspace enough)
 
 pub returns : goal.returns
-returns c =
-    connected (ready (goal.at.returns c).After-fill_index) c.start.ensures c.in_ok-sizes.was c.args.limit
+returns g c =
+    let (given, enough) = c.requires in
+    connected (startable given (cleared-workspace enough) c.fill_index.ensures) c.start.ensures c.in_ok-sizes.was c.args.limit
     c.take_turns.ensures
