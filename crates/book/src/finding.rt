@@ -7,6 +7,7 @@ ghost use Rattle.booklines.specs.Entries.{entry_line};
 ghost use Rattle.book.specs.Steps.{names_plain_in, line_number_of, Seeks};
 
 use booklines::Entry;
+use booklines::entries::entry_of;
 use definitions::wide;
 use lines::Letters;
 use lines::parsing::parse;
@@ -42,7 +43,7 @@ pub fn line_where<F: Fn(Entry) -> bool>(text: &[u8], sought: F) -> usize
     let count = text.len() / 32;
     for i in 0..count {
         if let Some(row) = parse(Letters::Book, &text[32 * i..32 * i + 32]) {
-            if sought(Entry::of(row)) {
+            if sought(entry_of(row)) {
                 return i + 1;
             }
         }

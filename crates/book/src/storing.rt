@@ -19,7 +19,8 @@ use tables::records::{leaf_node, put_node, question_node};
 
 // A phone put into the set of a class.
 fn put_member(sets: &mut [u64], member: Member)
-    requires { (1 ≤ member.class) × (member.class ≤ length sets.old) × (1 ≤ member.phone) × (member.phone ≤ 64) }
+    requires { (1 ≤ member.class) × (member.class ≤ length sets.old)
+        × (1 ≤ member.phone) × (member.phone ≤ 64) }
     ensures { sets.new
         ≡ set sets.old (member.class - 1) (bit_or (sets.old ! (member.class - 1)) (alone member.phone)) }
 {

@@ -7,7 +7,8 @@ ghost use Rattle.book.specs.Tables.{lengths_in, SameLent};
 
 use crate::Tables;
 use crate::finding::{is_line_of, line_where, names_plain_in};
-use booklines::{Entry, Lengths, State};
+use booklines::entries::entry_of;
+use booklines::{Lengths, State};
 use definitions::{Fault, Header, Refusal, wide};
 use lines::Letters;
 use lines::parsing::parse;
@@ -31,14 +32,14 @@ impl Tables<'_> {
             return Err(Fault::Count);
         }
         let row = parse(Letters::Book, bytes).ok_or(Fault::Misprint)?;
-        let entry = Entry::of(row);
+        let entry = entry_of(row);
         let lengths = Lengths {
             nodes: self.nodes.len(),
             classes: self.classes.len(),
             roots: self.roots.len(),
             plains: self.plains.len(),
         };
-        s.judge(lengths, row, entry)?;
+        s.judge_line(lengths, row, entry)?;
         self.store(s.header.states, entry, counts);
         Ok(s.next(entry))
     }

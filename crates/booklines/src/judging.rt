@@ -134,7 +134,7 @@ impl State {
 
     // The first test of a row and of what it says that fails.
     #[tactic(auto, unfolding(crate::specs::States::tests_in, definitions::specs::BookReading::book_tests, lines::specs::Judging::verdict_of))]
-    pub fn judge(self, lengths: Lengths, row: Row, entry: Entry) -> Result<(), Fault>
+    pub fn judge_line(self, lengths: Lengths, row: Row, entry: Entry) -> Result<(), Fault>
         requires { HasStates self }
         ensures { result ≡ verdict_of (tests_in (lent_of lengths) self (line_in row) (entry_line entry)) }
     {

@@ -1,22 +1,22 @@
 // One book: what reading answers and leaves, and then its trees and its network.
-use book::Reading;
 use book::reader::read;
 use builds::networks::show_whole;
 use definitions::Header;
 use lookups::answers::print_cleared;
 use lookups::foreign::show_foreign;
 use lookups::sequences::show_trees;
-use showing::printing::{print, print_number, print_refusal, print_wide_words, print_words};
+use showing::printing::print_numbers;
 use std::io;
 
 fn print_header(rt: &impl Print, header: Header) -> io::Result<()> {
-    print(rt, b"  header")?;
-    print_number(rt, header.half as u64)?;
-    print_number(rt, header.states as u64)?;
-    print_number(rt, header.phones as u64)?;
-    print_number(rt, header.classes as u64)?;
-    print_number(rt, header.nodes as u64)?;
-    print(rt, b"\n")
+    let Header {
+        half,
+        states,
+        phones,
+        classes,
+        nodes,
+    } = header;
+    println!(rt; "  header {half} {states} {phones} {classes} {nodes}")
 }
 
 fn print_tables(
@@ -26,41 +26,33 @@ fn print_tables(
     roots: &[u32],
     plains: &[u32],
 ) -> io::Result<()> {
-    print(rt, b"  nodes")?;
-    print_words(rt, nodes)?;
-    print(rt, b"\n  classes")?;
-    print_wide_words(rt, classes)?;
-    print(rt, b"\n  roots")?;
-    print_words(rt, roots)?;
-    print(rt, b"\n  plain phones")?;
-    print_words(rt, plains)?;
-    print(rt, b"\n")
-}
-
-// Whether a title begins with '+': then the book's network alone is shown.
-fn network_alone(title: &[u8]) -> bool {
-    if title.len() == 0 {
-        return false;
-    }
-    title[0] == b'+'
+    print!(rt; "  nodes")?;
+    print_numbers(rt, nodes)?;
+    print!(rt; "\n  classes")?;
+    print_numbers(rt, classes)?;
+    print!(rt; "\n  roots")?;
+    print_numbers(rt, roots)?;
+    print!(rt; "\n  plain phones")?;
+    print_numbers(rt, plains)?;
+    println!(rt)
 }
 
 // Reads a book into tables for ten nodes and two words, three classes, seven roots and five phones, where something
-// stood before.
+// stood before. Where its title begins with '+', its network alone is shown.
 pub fn show_case(rt: &impl Print, title: &[u8], text: &[u8]) -> io::Result<()> {
     let mut nodes = [7u32; 52];
     let mut classes = [7u64; 3];
     let mut roots = [7u32; 7];
     let mut plains = [7u32; 5];
-    print(rt, b"=")?;
-    print(rt, title)?;
-    print(rt, b":")?;
+    print!(rt; "=")?;
+    rt.write_all(title)?;
+    print!(rt; ":")?;
     match read(text, &mut nodes, &mut classes, &mut roots, &mut plains) {
-        Reading::Accepted(header) => {
-            print(rt, b" accepted\n")?;
+        Ok(header) => {
+            println!(rt; " accepted")?;
             print_header(rt, header)?;
             print_tables(rt, &nodes, &classes, &roots, &plains)?;
-            if !network_alone(title) {
+            if !title.starts_with(b"+") {
                 show_trees(rt, header, &nodes, &classes, &roots, &plains)?;
                 show_foreign(
                     rt,
@@ -73,8 +65,8 @@ pub fn show_case(rt: &impl Print, title: &[u8], text: &[u8]) -> io::Result<()> {
             }
             show_whole(rt, text)
         }
-        Reading::Refused(refusal) => {
-            print_refusal(rt, refusal)?;
+        Err(refusal) => {
+            print!(rt; " {refusal}")?;
             print_cleared(rt, &nodes, &classes, &roots, &plains)
         }
     }

@@ -8,25 +8,24 @@ mod cases;
 use builds::networks::show_sizes;
 use cases::show_case;
 use showing::reading::{INPUT_SIZE, read_full};
-use showing::titles::{end_of, text_of, title_of};
+use showing::titles::{Texts, Titled};
 use std::io;
 
 // Shows the books of a text, one after the other, the first one also in space of several sizes.
-fn show_all(rt: &impl Print, text: &[u8]) -> io::Result<()> {
-    let mut at = 1;
-    while at < text.len() {
-        let rest = &text[at..];
-        show_case(rt, title_of(rest), text_of(rest))?;
-        if at == 1 {
-            show_sizes(rt, text_of(rest))?;
+fn show_all(rt: &impl Print, input: &[u8]) -> io::Result<()> {
+    let mut first = true;
+    for Titled { title, text } in Texts(input.get(1..).unwrap_or(&[])) {
+        show_case(rt, title, text)?;
+        if first {
+            show_sizes(rt, text)?;
+            first = false;
         }
-        at += end_of(rest) + 1;
     }
     Ok(())
 }
 
 fn main(rt: HostRuntime) -> io::Result<()> {
-    let mut text = [0u8; INPUT_SIZE];
-    let got = read_full(&mut rt.stdin(), &mut text)?;
-    show_all(&rt, &text[..got])
+    let mut input = [0u8; INPUT_SIZE];
+    let got = read_full(&mut rt.stdin(), &mut input)?;
+    show_all(&rt, &input[..got])
 }
