@@ -172,18 +172,6 @@ pub record AllNumbered (tree : ℕ → Tree) (sets roots table starts : List ℕ
     pub starts-left : put_at i (roots_from at (from tree roots i)) starts'
         ≡ put_at 0 (roots_from 0 (from tree roots 0)) starts
 
-pub all_start : (tree : ℕ → Tree) (sets roots table starts : List ℕ)
-    → AllNumbered tree sets roots table starts 0 0 table starts
-all_start tree sets roots table starts =
-    record {
-      within = omega arith;
-      counted = omega arith;
-      table-sized = refl;
-      starts-sized = refl;
-      table-left = refl;
-      starts-left = refl;
-    }
-
 -- the first new root, and the number after its tree
 starts_first : (tree : ℕ → Tree) (root at : ℕ) (l : List (Option Tree))
     → roots_from at (found tree root ∷ l)

@@ -1,12 +1,12 @@
 -- Laws about a set among others: whether it is there, and its place.
-use Rattle.std.specs.Prelude.{◌≡◌, refl, List, [], ◌∷◌, ℕ, ◌≤◌, ◌<◌, eqb, length, Option}
+use Rattle.std.specs.Prelude.{◌≡◌, refl, List, [], ◌∷◌, ℕ, ◌<◌, eqb, length, Option}
 use Rattle.std.specs.Iterator.{}
 use Rattle.std.specs.List.{list_any, AllWithin, HoldsAt}
 use Rattle.std.specs.Option.{unwrap_or, MatchOption}
-use Rattle.std.proofs.Common.{sym, arith, add-one, eqb→eq, eq-eqb, ne_eqb}
+use Rattle.std.proofs.Common.{sym, add-one, eqb→eq, eq-eqb, ne_eqb}
 use Rattle.std.proofs.lemmas.Iterator.{index_from_first}
 use Rattle.definitions.specs.Lists.{at_least_one, place_of}
-use Rattle.definitions.proofs.Laws.Lists.Tests.{by-test, same_tests}
+use Rattle.definitions.proofs.Laws.Lists.Tests.{same_tests}
 
 same-swapped : (x y : ℕ) → eqb x y ≡ eqb y x
 same-swapped x y =
@@ -18,13 +18,6 @@ pub listed-any : (set : ℕ) (sets : List ℕ) → list_any (λ y. eqb y set) se
 unfolding at_least_one
 listed-any set [] = refl
 listed-any set (other ∷ sets) = rw (same-swapped other set, listed-any set sets)
-
-pub place-within : (sets : List ℕ) (set : ℕ) → place_of eqb sets set ≤ length sets
-unfolding place_of
-place-within [] set = omega arith
-place-within (other ∷ sets) set =
-    let rest = place-within sets set in
-    by-test (eqb set other) (λ e. rw e (omega arith)) (λ e. rw e (omega arith))
 
 -- its place, as the library's `position` says it
 pub place-first : (set : ℕ) (sets : List ℕ) (r : Option ℕ)

@@ -3,7 +3,7 @@ use Rattle.std.proofs.Common.{◌≡◌, ◌∙◌, sym, rules, arith, eqb}
 use borrow.Author.Tests.{tests}
 use Rattle.std.proofs.lemmas.Iterator.{IsFirst-from_position, YieldsList-from_slice}
 use Rattle.definitions.specs.Lists.{place_of}
-use Rattle.plainform.specs.Laws.Sets.{place-within, place-first}
+use Rattle.plainform.specs.Laws.Sets.{place-first}
 use Rattle.plainform.proofs.sets.class_among.Goals as goal
 use Rattle.plainform.proofs.sets.class_among.Goals.{After-unwrap_or}
 
@@ -15,14 +15,6 @@ found c =
     ∙ sym (place-first set c.args.sets.now c.position-place.result
     (IsFirst-from_position _ _ _ (λ y. y ≡ set) (λ y. y ≡ set → ⊥) c.position-place.ensures.ran
     (YieldsList-from_slice _ c.iter.ensures.rest) (λ x q k. search (rules, tests)) (λ x q k. search (rules, tests))))
-
-pub overflow_add-result : goal.overflow_add-result
-overflow_add-result c =
-    omega (arith, found (goal.at.overflow_add-result c).After-unwrap_or, place-within c.args.sets.now c.set_of-set.result)
-
-pub overflow_cast-result : goal.overflow_cast-result
-overflow_cast-result c =
-    omega (arith, found (goal.at.overflow_cast-result c).After-unwrap_or, place-within c.args.sets.now c.set_of-set.result)
 
 pub returns : goal.returns
 returns c = rw (← c.set_of-set.ensures) (omega (arith, found (goal.at.returns c).After-unwrap_or))

@@ -23,9 +23,6 @@ roots-many : (c : goal.After-wide)
     ≡ c.args.header.phones * c.args.header.states
 roots-many c = ap₂ ◌*◌ c.wide-phones.ensures c.wide.ensures
 
-pub overflow_mul-many : goal.overflow_mul-many
-overflow_mul-many c = omega (arith, roots-many (goal.at.overflow_mul-many c).After-wide, roots-narrow c.args.header (tables (goal.at.overflow_mul-many c).After-wide) c.requires)
-
 -- the tables cut to what the header says
 record Cut (c : goal.After-wide) : Type 0 where
   classes : c.wide-held.result ≤ length c.args.classes.now

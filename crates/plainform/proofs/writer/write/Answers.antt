@@ -35,9 +35,6 @@ returns-then-not-tables_known c =
     (c.fill.ensures.after (λ y e. e)) in
     record { answer = all.0; leaves = all.1 }
 
-pub put_plain-count-requires : goal.put_plain-count-requires
-put_plain-count-requires c = known (goal.at.put_plain-count-requires c).Else-not-tables_known
-
 -- the text that lines were put into is as long as it was
 sized : (c : goal.After-put_plain-count)
     → length c.put_plain-count.new.text ≡ length c.args.text.now

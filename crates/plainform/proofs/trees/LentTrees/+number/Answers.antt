@@ -32,17 +32,10 @@ sides t c =
 pub put_node-requires : goal.put_node-requires
 put_node-requires t c = omega (arith, some t (goal.at.put_node-requires t c).Start, c.requires.1.room)
 
-pub overflow_add-result : goal.overflow_add-result
-overflow_add-result t c = omega (arith, some t (goal.at.overflow_add-result t c).Start, c.requires.1.few_nodes)
-
 pub returns-then-record-ne1 : goal.returns-then-record-ne1
 returns-then-record-ne1 t c =
     numbered-leaf (here t (goal.at.returns-then-record-ne1 t c).Start) c.node_at-record.ensures c.args.self.classes.now
     c.args.sets.now c.args.at c.if-record-ne1.true c.leaf_node.ensures c.put_node.ensures
-
-pub overflow_add-at : goal.overflow_add-at
-overflow_add-at t c =
-    omega (arith, sides t (goal.at.overflow_add-at t c).Else-record-ne1, c.requires.1.few_nodes)
 
 pub number-middle-requires : goal.number-middle-requires
 number-middle-requires t c =
@@ -60,13 +53,6 @@ number-middle-requires t c =
         },
       ),
     )
-
-pub class_among-class-requires : goal.class_among-class-requires
-class_among-class-requires t c = c.requires.1.few_sets
-
-pub overflow_add-at-2 : goal.overflow_add-at-2
-overflow_add-at-2 t c =
-    omega (arith, sides t (goal.at.overflow_add-at-2 t c).Else-record-ne1, c.requires.1.few_nodes)
 
 pub put_node-requires-2 : goal.put_node-requires-2
 put_node-requires-2 t c =

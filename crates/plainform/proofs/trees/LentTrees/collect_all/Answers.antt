@@ -1,15 +1,10 @@
 -- `LentTrees::collect_all` meets its contract. The loop's invariant: the sets of the first `i` trees are noted, and
 -- those of the others are left.
 use native.Mathlib.Omega.{arith}
-use Rattle.plainform.specs.LentTrees.{tree_in}
 use Rattle.plainform.specs.Laws.LentTrees.{root-listed}
-use Rattle.plainform.specs.Laws.Collecting.{gathered-start, gathered-room, gathered-more}
+use Rattle.plainform.specs.Laws.Collecting.{gathered-room, gathered-more}
 use Rattle.plainform.specs.Laws.Collecting.{gathered-end}
 use Rattle.plainform.proofs.trees.LentTrees.collect_all.Goals as goal
-
-pub loop-root-init : goal.loop-root-init
-loop-root-init c = let a = c.args in
-    gathered-start (tree_in a.self.header a.self.nodes.now a.self.classes.now) a.roots.now a.sets.now
 
 pub collect_root-used-requires : goal.collect_root-used-requires
 collect_root-used-requires c = let (listed, room) = c.requires in

@@ -1,23 +1,9 @@
 -- `LentTrees::number_all` meets its contract. The loop's invariant: what is left to put from root `i` on, put into
 -- the tables as they are, gives what all trees put into the tables at the start give.
 use native.Mathlib.Omega.{arith}
-use Rattle.plainform.specs.LentTrees.{tree_in}
 use Rattle.plainform.specs.Laws.LentTrees.{root-listed}
-use Rattle.plainform.specs.Laws.Numbering.{all_start, own_room, all_more, all_end}
+use Rattle.plainform.specs.Laws.Numbering.{own_room, all_more, all_end}
 use Rattle.plainform.proofs.trees.LentTrees.number_all.Goals as goal
-
-pub loop-i-init : goal.loop-i-init
-loop-i-init c = let a = c.args in
-    all_start (tree_in a.self.header a.self.nodes.now a.self.classes.now) a.sets.now a.roots.now a.table.now
-    a.starts.now
-
-pub bounds-starts-i : goal.bounds-starts-i
-bounds-starts-i c =
-    omega (
-      arith,
-      c.loop-i.invariant.starts-sized,
-      c.requires.2,
-    )
 
 pub number_root-at-requires : goal.number_root-at-requires
 number_root-at-requires c =
