@@ -14,6 +14,7 @@ use joined::entering::state_room;
 use words::known::words_known;
 
 // Judges what is lent, and joins into cleared space; where it refuses, the space may hold what was joined before.
+// What is lent stays one parameter each, as in `fulgwerz_join`, the function for C.
 fn join_cleared(
     counts: Counts,
     arcs: &[u32],

@@ -25,6 +25,7 @@ fn read_lines(text: &[u8], words: &mut [u32]) -> Result<usize, Refusal>
     };
     for i in 0..text.len() / 32 {
         let line = &text[32 * i..32 * i + 32];
+        // A match, since with `map_err` and `?` the proof did not close.
         match take_line(last, line, words) {
             Ok(next) => last = next,
             Err(fault) => return Err(fault.at(i + 1)),
