@@ -36,6 +36,7 @@ pub fn names_plain_in(entry: Entry, set: u64) -> bool
 }
 
 // The number of the first line in a text that is sought; one past the last where none is.
+// A number where there is none too, as `line_number_of` says; a refusal always has one.
 pub fn line_where<F: Fn(Entry) -> bool>(text: &[u8], sought: F) -> usize
     requires { F.IsAlwaysCallable sought }
     ensures { (test : BookLine → Bool) → Seeks (F.post sought) test → result ≡ line_number_of text.now test }

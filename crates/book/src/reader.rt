@@ -54,6 +54,7 @@ impl Tables<'_> {
 }
 
 // Reads a tree book.
+// The lent slices stay apart, as C lends them to the entry.
 pub fn read(
     text: &[u8],
     nodes: &mut [u32],

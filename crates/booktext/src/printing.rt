@@ -13,6 +13,7 @@ use definitions::Header;
 use lines::Row;
 
 // Writes the lines of a book with its header, where there is room. Answers how many there are.
+// The lent slices stay apart, as C lends them to the entry.
 pub fn put_book(
     header: Header,
     nodes: &[u32],

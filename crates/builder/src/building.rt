@@ -14,6 +14,7 @@ use network::Build;
 use network::building::build;
 
 // Builds from the tables that reading left; they are cleared where the build is refused.
+// The lent slices stay apart, as C lends them to the entry.
 fn build_read(
     header: Header,
     nodes: &mut [u32],
@@ -62,6 +63,7 @@ fn build_read(
 }
 
 // Reads a book and builds its network.
+// The lent slices stay apart, as C lends them to the entry.
 pub fn build_book(
     text: &[u8],
     nodes: &mut [u32],

@@ -96,6 +96,7 @@ fn with_leaf(half: u32, choice: Choice, leaves: &[u64], place: usize) -> Choice
 // then: `trees` trees are left, whose leaves are `first`, then `second`, then `third`. A leaf whose matrix does not meet
 // the choice's validly is passed over before any further tree is tried. The call for the further trees moves the lists
 // up by one; what then stands last is not looked at.
+// Three lists, since a book has at most three states; a slice of slices would need their lengths beside it.
 pub fn choose(
     first: &[u64],
     second: &[u64],
@@ -117,6 +118,7 @@ pub fn choose(
     }
     let mut total = count;
     let mut from = 0;
+    // No `for`: each leaf is looked for from the one after the last that fitted.
     while let Some(place) = next_fit(first, from, choice.matrix, half) {
         let next = with_leaf(half, choice, first, place);
         total = choose(second, third, third, trees - 1, half, next, space, total)?;

@@ -73,6 +73,7 @@ fn choose_phone(
 }
 
 // Adds the combinations of all phones, and notes how many there are after each. The working lists are lent.
+// The lists and the space stay apart: a struct of them would have to say in each contract which it keeps.
 fn choose_phones(
     trees: Trees,
     table: &mut [u64],
@@ -134,6 +135,7 @@ fn choose_all(trees: Trees, space: &mut [u64], ends: &mut [u32]) -> Result<usize
 }
 
 // The combinations of a book, as records in the lent space, 0 after the last.
+// The lent slices stay apart, as C lends them to the entry.
 pub fn combine(
     header: Header,
     nodes: &[u32],

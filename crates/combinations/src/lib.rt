@@ -7,5 +7,6 @@ pub mod combining;
 #[derive(Clone, Copy)]
 pub struct ByPhone {
     pub count: usize,
+    // No heap: a place for each of 64 phones, and one before the first.
     pub ends: [u32; 65],
 }

@@ -41,6 +41,7 @@ pub fn follow(
     let width = 2 * wide(header.half) + 1;
     let mut now = source.sizes;
     let mut number = listed.next_follower(rows, 0, shifted);
+    // No `for`: the index leaps over combinations that cannot follow; their count ends it, as a range ends.
     while number < count {
         let own = matrix_of(header.half, combinations, number);
         let met = shifted.meet(own, width).matrix;

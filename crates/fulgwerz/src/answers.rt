@@ -1,34 +1,44 @@
 // The structs for C, made of what the functions called answer: beside an answer the fault and its line are 0;
 // beside a refusal's number and line, all else.
 ghost use Rattle.std.specs.Prelude.{◌≡◌};
+ghost use Rattle.definitions.specs.BookLines.{no_header};
 ghost use Rattle.definitions.specs.Faults.{number_of};
 ghost use Rattle.definitions.specs.NetworkText.{no_counts};
-ghost use Rattle.definitions.specs.Said.{answer_said};
-ghost use Rattle.writing.specs.Answers.{written_said};
-ghost use Rattle.book.specs.Answers.{reading_said};
-ghost use Rattle.trees.specs.Answers.{lookup_said};
-ghost use Rattle.transcripts.specs.Answers.{transcript_said};
-ghost use Rattle.combinations.specs.Answers.{combined_said};
-ghost use Rattle.arcs.specs.Standing.{standing_said};
-ghost use Rattle.network.specs.Answers.{so_far, build_said};
-ghost use Rattle.nettext.specs.Answers.{reading_said as network_said};
+ghost use Rattle.definitions.specs.Said.{answer_said, result_said, no_span};
+ghost use Rattle.arcs.specs.Spans.{span_said};
+ghost use Rattle.trees.specs.Answers.{no_walk};
+ghost use Rattle.transcripts.specs.Answers.{no_tally};
+ghost use Rattle.network.specs.Answers.{so_far, came_to, build_said};
+ghost use Rattle.joining.specs.Answers as joining;
 ghost use Rattle.fulgwerz.specs.Answers.{read_answer, leaf_answer, transcript_answer, count_answer, part_answer};
-ghost use Rattle.words.specs.Answers.{reading_said as words_said};
-ghost use Rattle.joining.specs.Answers.{joining_said};
 ghost use Rattle.fulgwerz.specs.Answers.{network_answer, join_answer, build_answer};
 
 use crate::{
     BuildAnswer, CountAnswer, JoinAnswer, LeafAnswer, NetworkAnswer, PartAnswer, ReadAnswer,
     TranscriptAnswer,
 };
-use arcs::Standing;
-use book::Reading;
-use combinations::Combined;
-use definitions::{Counts, Header, Refusal, number};
+use arcs::Span;
+use combinations::ByPhone;
+use definitions::{Counts, Header, Refusal};
+use joining::JoinedCounts;
 use network::{Build, Totals};
-use transcripts::Transcript;
-use trees::Lookup;
-use writing::Written;
+use transcripts::Tally;
+use trees::Walked;
+
+// What stands beside a refusal in place of a header, and of counts.
+const NO_HEADER: Header = Header {
+    half: 0,
+    states: 0,
+    phones: 0,
+    classes: 0,
+    nodes: 0,
+};
+
+const NO_COUNTS: Counts = Counts {
+    states: 0,
+    metastates: 0,
+    arcs: 0,
+};
 
 // What a refusal says: the number of its fault, and its line.
 #[derive(Clone, Copy)]
@@ -37,173 +47,202 @@ struct Cause {
     line: usize,
 }
 
-fn cause_of(refusal: Refusal) -> Cause
-    ensures { (result.fault ≡ number_of refusal.fault) × (result.line ≡ refusal.line) }
-{
-    let fault = refusal.fault;
-    Cause {
-        fault: number(fault),
-        line: refusal.line,
+impl From<Refusal> for Cause {
+    ghost from_gives = { λ refusal cause.
+        (cause.fault ≡ number_of refusal.fault) × (cause.line ≡ refusal.line) };
+
+    fn from(refusal: Refusal) -> Cause {
+        Cause {
+            fault: refusal.fault.into(),
+            line: refusal.line,
+        }
     }
 }
 
-fn no_counts() -> Counts
-    ensures { result ≡ no_counts }
-{
-    Counts {
-        states: 0,
-        metastates: 0,
-        arcs: 0,
+// Each struct is a type of its own in C, so each is made by its own conversion.
+impl From<Result<Header, Refusal>> for ReadAnswer {
+    ghost from_gives = { λ read answer. answer ≡ read_answer (result_said (λ header. header) no_header read) };
+
+    fn from(read: Result<Header, Refusal>) -> ReadAnswer {
+        match read {
+            Ok(header) => ReadAnswer {
+                fault: 0,
+                line: 0,
+                header,
+            },
+            Err(refusal) => {
+                let Cause { fault, line } = refusal.into();
+                ReadAnswer {
+                    fault,
+                    line,
+                    header: NO_HEADER,
+                }
+            }
+        }
     }
 }
 
-pub fn read_answer(reading: Reading) -> ReadAnswer
-    ensures { result ≡ read_answer (reading_said reading) }
-{
-    match reading {
-        Reading::Accepted(header) => ReadAnswer {
-            fault: 0,
-            line: 0,
-            header,
-        },
-        Reading::Refused(refusal) => {
-            let cause = cause_of(refusal);
-            ReadAnswer {
-                fault: cause.fault,
-                line: cause.line,
-                header: Header {
-                    half: 0,
+impl From<Result<Walked, Refusal>> for LeafAnswer {
+    ghost from_gives = { λ walk answer. answer ≡ leaf_answer (result_said (λ walked. walked) no_walk walk) };
+
+    fn from(walk: Result<Walked, Refusal>) -> LeafAnswer {
+        match walk {
+            Ok(walked) => LeafAnswer {
+                fault: 0,
+                line: 0,
+                leaf: walked.leaf,
+                questions: walked.questions,
+            },
+            Err(refusal) => {
+                let Cause { fault, line } = refusal.into();
+                LeafAnswer {
+                    fault,
+                    line,
+                    leaf: 0,
+                    questions: 0,
+                }
+            }
+        }
+    }
+}
+
+impl From<Result<Tally, Refusal>> for TranscriptAnswer {
+    ghost from_gives = { λ transcript answer.
+        answer ≡ transcript_answer (result_said (λ tally. tally) no_tally transcript) };
+
+    fn from(transcript: Result<Tally, Refusal>) -> TranscriptAnswer {
+        match transcript {
+            Ok(tally) => TranscriptAnswer {
+                fault: 0,
+                line: 0,
+                count: tally.models,
+                questions: tally.questions,
+            },
+            Err(refusal) => {
+                let Cause { fault, line } = refusal.into();
+                TranscriptAnswer {
+                    fault,
+                    line,
+                    count: 0,
+                    questions: 0,
+                }
+            }
+        }
+    }
+}
+
+// How many bytes or words there are, and how many combinations.
+impl From<Result<usize, Refusal>> for CountAnswer {
+    ghost from_gives = { λ counted answer. answer ≡ count_answer (result_said (λ count. count) 0 counted) };
+
+    fn from(counted: Result<usize, Refusal>) -> CountAnswer {
+        match counted {
+            Ok(count) => CountAnswer {
+                fault: 0,
+                line: 0,
+                count,
+            },
+            Err(refusal) => {
+                let Cause { fault, line } = refusal.into();
+                CountAnswer {
+                    fault,
+                    line,
+                    count: 0,
+                }
+            }
+        }
+    }
+}
+
+impl From<Result<ByPhone, Refusal>> for CountAnswer {
+    ghost from_gives = { λ combined answer. answer ≡ count_answer (result_said (λ by. by.count) 0 combined) };
+
+    fn from(combined: Result<ByPhone, Refusal>) -> CountAnswer {
+        match combined {
+            Ok(by_phone) => CountAnswer {
+                fault: 0,
+                line: 0,
+                count: by_phone.count,
+            },
+            Err(refusal) => {
+                let Cause { fault, line } = refusal.into();
+                CountAnswer {
+                    fault,
+                    line,
+                    count: 0,
+                }
+            }
+        }
+    }
+}
+
+impl From<Result<Span, Refusal>> for PartAnswer {
+    ghost from_gives = { λ part answer. answer ≡ part_answer (result_said span_said no_span part) };
+
+    fn from(part: Result<Span, Refusal>) -> PartAnswer {
+        match part {
+            Ok(span) => PartAnswer {
+                fault: 0,
+                line: 0,
+                start: span.start,
+                length: span.length,
+            },
+            Err(refusal) => {
+                let Cause { fault, line } = refusal.into();
+                PartAnswer {
+                    fault,
+                    line,
+                    start: 0,
+                    length: 0,
+                }
+            }
+        }
+    }
+}
+
+impl From<Result<Counts, Refusal>> for NetworkAnswer {
+    ghost from_gives = { λ read answer. answer ≡ network_answer (result_said (λ counts. counts) no_counts read) };
+
+    fn from(read: Result<Counts, Refusal>) -> NetworkAnswer {
+        match read {
+            Ok(counts) => NetworkAnswer {
+                fault: 0,
+                line: 0,
+                counts,
+            },
+            Err(refusal) => {
+                let Cause { fault, line } = refusal.into();
+                NetworkAnswer {
+                    fault,
+                    line,
+                    counts: NO_COUNTS,
+                }
+            }
+        }
+    }
+}
+
+// How many joined states and arcs there are.
+impl From<Result<JoinedCounts, Refusal>> for JoinAnswer {
+    ghost from_gives = { λ joined answer.
+        answer ≡ join_answer (result_said (λ counted. counted) joining.no_counts joined) };
+
+    fn from(joined: Result<JoinedCounts, Refusal>) -> JoinAnswer {
+        match joined {
+            Ok(counted) => JoinAnswer {
+                fault: 0,
+                line: 0,
+                states: counted.states,
+                arcs: counted.arcs,
+            },
+            Err(refusal) => {
+                let Cause { fault, line } = refusal.into();
+                JoinAnswer {
+                    fault,
+                    line,
                     states: 0,
-                    phones: 0,
-                    classes: 0,
-                    nodes: 0,
-                },
-            }
-        }
-    }
-}
-
-pub fn leaf_answer(lookup: Lookup) -> LeafAnswer
-    ensures { result ≡ leaf_answer (lookup_said lookup) }
-{
-    match lookup {
-        Lookup::Leaf(walked) => LeafAnswer {
-            fault: 0,
-            line: 0,
-            leaf: walked.leaf,
-            questions: walked.questions,
-        },
-        Lookup::Refused(refusal) => {
-            let cause = cause_of(refusal);
-            LeafAnswer {
-                fault: cause.fault,
-                line: cause.line,
-                leaf: 0,
-                questions: 0,
-            }
-        }
-    }
-}
-
-pub fn transcript_answer(transcript: Transcript) -> TranscriptAnswer
-    ensures { result ≡ transcript_answer (transcript_said transcript) }
-{
-    match transcript {
-        Transcript::Models(tally) => TranscriptAnswer {
-            fault: 0,
-            line: 0,
-            count: tally.models,
-            questions: tally.questions,
-        },
-        Transcript::Refused(refusal) => {
-            let cause = cause_of(refusal);
-            TranscriptAnswer {
-                fault: cause.fault,
-                line: cause.line,
-                count: 0,
-                questions: 0,
-            }
-        }
-    }
-}
-
-pub fn combinations_answer(combined: Combined) -> CountAnswer
-    ensures { result ≡ count_answer (combined_said combined) }
-{
-    match combined {
-        Combined::Combinations(count) => CountAnswer {
-            fault: 0,
-            line: 0,
-            count,
-        },
-        Combined::Refused(refusal) => {
-            let cause = cause_of(refusal);
-            CountAnswer {
-                fault: cause.fault,
-                line: cause.line,
-                count: 0,
-            }
-        }
-    }
-}
-
-pub fn bytes_answer(written: Written) -> CountAnswer
-    ensures { result ≡ count_answer (written_said written) }
-{
-    match written {
-        Written::Bytes(count) => CountAnswer {
-            fault: 0,
-            line: 0,
-            count,
-        },
-        Written::Refused(refusal) => {
-            let cause = cause_of(refusal);
-            CountAnswer {
-                fault: cause.fault,
-                line: cause.line,
-                count: 0,
-            }
-        }
-    }
-}
-
-pub fn part_answer(standing: Standing) -> PartAnswer
-    ensures { result ≡ part_answer (standing_said standing) }
-{
-    match standing {
-        Standing::Part { start, length } => PartAnswer {
-            fault: 0,
-            line: 0,
-            start,
-            length,
-        },
-        Standing::Refused(refusal) => {
-            let cause = cause_of(refusal);
-            PartAnswer {
-                fault: cause.fault,
-                line: cause.line,
-                start: 0,
-                length: 0,
-            }
-        }
-    }
-}
-
-pub fn network_answer(reading: nettext::Reading) -> NetworkAnswer
-    ensures { result ≡ network_answer (network_said reading) }
-{
-    match reading {
-        nettext::Reading::Accepted(counts) => NetworkAnswer {
-            fault: 0,
-            line: 0,
-            counts,
-        },
-        nettext::Reading::Refused(refusal) => {
-            let cause = cause_of(refusal);
-            NetworkAnswer {
-                fault: cause.fault,
-                line: cause.line,
-                counts: no_counts(),
+                    arcs: 0,
+                }
             }
         }
     }
@@ -213,74 +252,41 @@ pub fn network_answer(reading: nettext::Reading) -> NetworkAnswer
 fn so_far(totals: Totals, finished: bool) -> BuildAnswer
     ensures { result ≡ build_answer (answer_said (so_far finished totals)) }
 {
-    let counts = totals.counts;
     BuildAnswer {
         fault: 0,
         line: 0,
         finished,
         turns: totals.turns,
-        counts,
+        counts: totals.counts,
     }
 }
 
-pub fn build_answer(answer: Build) -> BuildAnswer
-    ensures { result ≡ build_answer (build_said answer) }
-{
-    match answer {
-        Build::Finished(totals) => so_far(totals, true),
-        Build::Stopped(totals) => so_far(totals, false),
-        Build::Refused(refusal) => {
-            let cause = cause_of(refusal);
-            BuildAnswer {
-                fault: cause.fault,
-                line: cause.line,
-                finished: false,
-                turns: 0,
-                counts: no_counts(),
-            }
+impl From<Build> for BuildAnswer {
+    ghost from_gives = { λ built answer. answer ≡ build_answer (answer_said (came_to built)) };
+
+    fn from(built: Build) -> BuildAnswer {
+        match built {
+            Build::Finished(totals) => so_far(totals, true),
+            Build::Stopped(totals) => so_far(totals, false),
         }
     }
 }
 
-// How many words there are.
-pub fn words_answer(reading: words::Reading) -> CountAnswer
-    ensures { result ≡ count_answer (words_said reading) }
-{
-    match reading {
-        words::Reading::Accepted(count) => CountAnswer {
-            fault: 0,
-            line: 0,
-            count,
-        },
-        words::Reading::Refused(refusal) => {
-            let cause = cause_of(refusal);
-            CountAnswer {
-                fault: cause.fault,
-                line: cause.line,
-                count: 0,
-            }
-        }
-    }
-}
+impl From<Result<Build, Refusal>> for BuildAnswer {
+    ghost from_gives = { λ build answer. answer ≡ build_answer (build_said build) };
 
-// How many joined states and arcs there are.
-pub fn join_answer(answer: joining::Answer) -> JoinAnswer
-    ensures { result ≡ join_answer (joining_said answer) }
-{
-    match answer {
-        joining::Answer::Joined(counted) => JoinAnswer {
-            fault: 0,
-            line: 0,
-            states: counted.states,
-            arcs: counted.arcs,
-        },
-        joining::Answer::Refused(refusal) => {
-            let cause = cause_of(refusal);
-            JoinAnswer {
-                fault: cause.fault,
-                line: cause.line,
-                states: 0,
-                arcs: 0,
+    fn from(build: Result<Build, Refusal>) -> BuildAnswer {
+        match build {
+            Ok(built) => built.into(),
+            Err(refusal) => {
+                let Cause { fault, line } = refusal.into();
+                BuildAnswer {
+                    fault,
+                    line,
+                    finished: false,
+                    turns: 0,
+                    counts: NO_COUNTS,
+                }
             }
         }
     }

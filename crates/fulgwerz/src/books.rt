@@ -9,7 +9,6 @@ ghost use Rattle.definitions.specs.Tables.{tables_left};
 ghost use Rattle.tables.specs.Lending.{lengths_of, lent_tables};
 ghost use Rattle.fulgwerz.specs.Answers.{read_answer, count_answer};
 
-use crate::answers::{bytes_answer, read_answer};
 use crate::{CountAnswer, ReadAnswer};
 use book::reader::read;
 use definitions::Header;
@@ -33,7 +32,7 @@ pub extern "C" fn fulgwerz_read(
         (read_book (lengths_of nodes.old classes.old roots.old plains.old)
         text.now) }
 {
-    read_answer(read(text, nodes, classes, roots, plains))
+    read(text, nodes, classes, roots, plains).into()
 }
 
 // Writes the plain form of lent tables, and counts its bytes.
@@ -53,5 +52,5 @@ pub extern "C" fn fulgwerz_write_book(
         (lent_tables nodes.now classes.now roots.now plains.now)
         (length text.old)) }
 {
-    bytes_answer(write(header, nodes, classes, roots, plains, text))
+    write(header, nodes, classes, roots, plains, text).into()
 }

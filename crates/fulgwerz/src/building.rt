@@ -8,7 +8,6 @@ ghost use Rattle.tables.specs.Lending.{lengths_of, lent_tables};
 ghost use Rattle.network.specs.Answers.{build_left, lent_buffers, lent_space};
 ghost use Rattle.fulgwerz.specs.Answers.{count_answer, build_answer, MeetsDemand3, KeepsFinalLast};
 
-use crate::answers::{build_answer, combinations_answer};
 use crate::{BuildAnswer, CountAnswer};
 use builder::building::build_book;
 use combinations::combining::combine;
@@ -34,9 +33,7 @@ pub extern "C" fn fulgwerz_combine(
         (lent_tables nodes.now classes.now roots.now plains.now)
         (length combinations.old)) }
 {
-    let by_phone = combine(header, nodes, classes, roots, plains, combinations);
-    let answer = by_phone.answer;
-    combinations_answer(answer)
+    combine(header, nodes, classes, roots, plains, combinations).into()
 }
 
 // Builds the network of lent tables.
@@ -61,7 +58,7 @@ pub extern "C" fn fulgwerz_build(
         (lent_tables nodes.now classes.now roots.now plains.now)
         (lent_space combinations.old metastates.old arcs.old) limit }
 {
-    build_answer(build(
+    build(
         header,
         nodes,
         classes,
@@ -71,7 +68,8 @@ pub extern "C" fn fulgwerz_build(
         metastates,
         arcs,
         limit,
-    ))
+    )
+    .into()
 }
 
 // Reads a tree book and builds its network.
@@ -111,7 +109,7 @@ pub extern "C" fn fulgwerz_build_book(
         text.now result arcs.new }
     ensures ending { KeepsFinalLast result arcs.new }
 {
-    build_answer(build_book(
+    build_book(
         text,
         nodes,
         classes,
@@ -121,5 +119,6 @@ pub extern "C" fn fulgwerz_build_book(
         metastates,
         arcs,
         limit,
-    ))
+    )
+    .into()
 }

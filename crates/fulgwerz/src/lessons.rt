@@ -6,7 +6,6 @@ ghost use Rattle.definitions.specs.Joining.{join, join_left};
 ghost use Rattle.joining.specs.Answers.{space_of, counts_of, no_counts};
 ghost use Rattle.fulgwerz.specs.Answers.{count_answer, join_answer, KeepsPaths};
 
-use crate::answers::{join_answer, words_answer};
 use crate::{CountAnswer, JoinAnswer};
 use definitions::Counts;
 use joining::joining::join;
@@ -20,7 +19,7 @@ pub extern "C" fn fulgwerz_read_words(text: &[u8], words: &mut [u32]) -> CountAn
     ensures words { words.new ≡ words_left (length words.old)
         (read_words (length words.old) text.now) }
 {
-    words_answer(read(text, words))
+    read(text, words).into()
 }
 
 // Joins a network with the words of a table.
@@ -45,5 +44,5 @@ pub extern "C" fn fulgwerz_join(
         (space_of states.old joined.old))).arcs }
     ensures paths { KeepsPaths counts arcs.now count words.now result joined.new }
 {
-    join_answer(join(counts, arcs, count, words, states, joined))
+    join(counts, arcs, count, words, states, joined).into()
 }

@@ -60,6 +60,7 @@ pub struct BuildAnswer {
     pub fault: u32,
     pub line: usize,
     // Not finished: stopped, with a metastate still unexpanded, or refused.
+    // A flag, since C has no enum with values.
     pub finished: bool,
     pub turns: u32,
     pub counts: Counts,

@@ -8,7 +8,6 @@ ghost use Rattle.trees.specs.Answers.{walked_of, no_walk};
 ghost use Rattle.transcripts.specs.Answers.{tally_of, no_tally};
 ghost use Rattle.fulgwerz.specs.Answers.{leaf_answer, transcript_answer};
 
-use crate::answers::{leaf_answer, transcript_answer};
 use crate::{LeafAnswer, TranscriptAnswer};
 use definitions::{Header, Node};
 use transcripts::transcription::transcribe;
@@ -27,7 +26,7 @@ pub extern "C" fn fulgwerz_leaf(
     ensures { result ≡ leaf_answer (said_of walked_of no_walk
         (leaf_lookup_in_table header classes.now nodes.now root context.now)) }
 {
-    leaf_answer(leaf_of(header, nodes, classes, root, context))
+    leaf_of(header, nodes, classes, root, context).into()
 }
 
 // The same over a list of node structs.
@@ -42,7 +41,7 @@ pub extern "C" fn fulgwerz_leaf_in_list(
     ensures { result ≡ leaf_answer (said_of walked_of no_walk
         (leaf_lookup header classes.now nodes.now root context.now)) }
 {
-    leaf_answer(leaf_in_list(header, nodes, classes, root, context))
+    leaf_in_list(header, nodes, classes, root, context).into()
 }
 
 // Fills in the models of a phone sequence, and counts them and the questions that were put.
@@ -65,5 +64,5 @@ pub extern "C" fn fulgwerz_transcribe(
         phones.now
         (length models.old)) }
 {
-    transcript_answer(transcribe(header, nodes, classes, roots, plains, phones, models))
+    transcribe(header, nodes, classes, roots, plains, phones, models).into()
 }

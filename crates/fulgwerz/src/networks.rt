@@ -6,7 +6,6 @@ ghost use Rattle.definitions.specs.NetworkText.{no_counts, counts_of, write_netw
 ghost use Rattle.definitions.specs.Said.{said_of, span_of, no_span};
 ghost use Rattle.fulgwerz.specs.Answers.{part_answer, count_answer, network_answer};
 
-use crate::answers::{bytes_answer, network_answer, part_answer};
 use crate::{CountAnswer, NetworkAnswer, PartAnswer};
 use arcs::leaving::part_leaving;
 use definitions::Counts;
@@ -18,7 +17,7 @@ use nettext::writer::write;
 pub extern "C" fn fulgwerz_leaving(counts: Counts, arcs: &[u32], state: u32) -> PartAnswer
     ensures { result ≡ part_answer (said_of span_of no_span (leaving counts arcs.now state)) }
 {
-    part_answer(part_leaving(counts, arcs, state))
+    part_leaving(counts, arcs, state).into()
 }
 
 // Writes the text of a network, and counts its bytes.
@@ -29,7 +28,7 @@ pub extern "C" fn fulgwerz_write(counts: Counts, arcs: &[u32], text: &mut [u8]) 
     ensures leaves { text.new ≡ answer_left (length text.old)
         (write_network counts arcs.now (length text.old)) }
 {
-    bytes_answer(write(counts, arcs, text))
+    write(counts, arcs, text).into()
 }
 
 // Reads network text into lent arcs.
@@ -40,5 +39,5 @@ pub extern "C" fn fulgwerz_read_network(text: &[u8], arcs: &mut [u32]) -> Networ
     ensures arcs { arcs.new ≡ arcs_left (length arcs.old)
         (read_network (length arcs.old) text.now) }
 {
-    network_answer(read(text, arcs))
+    read(text, arcs).into()
 }

@@ -11,6 +11,7 @@ use arcs::putting::put_arc;
 use definitions::{ARC_SIZE, Fault, MOST_ARCS};
 
 // How many arcs the lent words have room for.
+// Beside the room for combinations, metastates and joined states: one line each, of sizes of their own.
 pub fn arc_room(words: usize) -> usize
     ensures { result ≡ min (words / arc_size) most_arcs }
 {

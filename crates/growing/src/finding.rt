@@ -15,6 +15,7 @@ pub fn walk<F: Fn(usize) -> bool>(chains: &[u32], key: usize, stands_at: F) -> O
 {
     let heads = chains.len() / 2;
     let mut next = wide(chains[head_of(heads, key)]).checked_sub(1);
+    // No `for`: each place is read from the one before it.
     while let Some(place) = next {
         if stands_at(place) {
             return Some(place);

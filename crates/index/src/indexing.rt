@@ -69,6 +69,7 @@ fn mark_column(
     ensures { PhonesMarked header.phones blocks number column set index.old 65 index.new }
 {
     let mut from = 1;
+    // No `for`: the phones between two members are leapt over.
     while let Some(phone) = next_member(set, from) {
         let at = row_at(header, blocks, column, phone) + number / BLOCK_SIZE;
         mark(index, at, (number % BLOCK_SIZE) as u32 + 1);
@@ -117,6 +118,7 @@ fn note_ends(ends: &[u32], index: &mut [u64])
 }
 
 // Fills the index.
+// The words stay apart from the index, which is still being filled.
 pub fn fill_index(header: Header, combinations: &[u64], ends: &[u32], index: &mut [u64])
     requires { Fillable header combinations.now ends.now index.old }
     ensures { Filled header combinations.now ends.now index.old index.new }

@@ -27,6 +27,7 @@ pub fn count_of(half: u32, combinations: &[u64]) -> usize
 }
 
 // The phone of a combination.
+// Half-width and words stay apart here and below: the pages name what these three promise of lent words.
 pub fn phone_of(half: u32, combinations: &[u64], number: usize) -> u32
     requires { HasPhone half combinations.now number }
     ensures { result ≡ phone_word half combinations.now number }

@@ -85,6 +85,7 @@ pub fn next_marked(index: &[u64], rows: Rows, from: usize, count: usize) -> usiz
     ensures { NextMarked index.now rows from count result }
 {
     let mut number = from;
+    // No `for`: whole blocks of combinations are leapt over.
     while number < count {
         let block = number / BLOCK_SIZE;
         let place = (number % BLOCK_SIZE) as u32 + 1;

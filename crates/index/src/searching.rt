@@ -54,6 +54,7 @@ impl Combinations<'_> {
     {
         let count = count_of(self.header.half, self.words);
         let mut number = next_marked(self.index, rows, from, count);
+        // No `for`: combinations that are not marked, and phones not in the centre, are leapt over.
         while number < count {
             if self.is_follower(number, shifted) {
                 return number;

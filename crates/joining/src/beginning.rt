@@ -56,6 +56,7 @@ fn begin(states: &mut [u32], chains: &mut [u32])
 
 // Joins with cleared words for chains, more heads than the joined states have room for, and words for a table of where
 // arcs begin.
+// The lent slices stay apart up to here; from here on they are one join.
 fn join_with(
     arcs: &[u32],
     words: &[u32],

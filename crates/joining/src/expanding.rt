@@ -45,6 +45,7 @@ pub fn expand(
     let arcs = network.arcs;
     let first = arcs_before(arcs, network.starts, wide(x.state));
     let mut at = next_arc(arcs, first, x.state, wants);
+    // No `for`: arcs that lead nowhere are leapt over.
     while at < arcs.len() / ARC_SIZE {
         let hop = Hop {
             from: place as u32,

@@ -15,6 +15,7 @@ use words::known::words_known;
 
 // Judges what is lent, and joins into cleared space; where it refuses, the space may hold what was joined before.
 // What is lent stays one parameter each, as in `fulgwerz_join`, the function for C.
+// The lent slices stay apart, as C lends them to the entry.
 fn join_cleared(
     counts: Counts,
     arcs: &[u32],
@@ -45,6 +46,7 @@ fn join_cleared(
 }
 
 // Joins a network with the words of a word book.
+// The lent slices stay apart, as C lends them to the entry.
 pub fn join(
     counts: Counts,
     arcs: &[u32],

@@ -15,6 +15,7 @@ pub fn take_turns(join: &mut Join, network: Network, known: Vocabulary) -> Resul
     ensures same { Holding join.old join.new }
 {
     let mut turns = 0;
+    // No `for`: the end moves with each turn.
     while turns < join.sizes.table {
         expand(join, network, known, turns)?;
         turns += 1;

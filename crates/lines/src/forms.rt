@@ -21,6 +21,7 @@ const UNUSED: Range = Range(0, 0);
 #[derive(Clone, Copy)]
 struct Form {
     letter: u8,
+    // A constant array has rows of one length.
     used: usize,
     ranges: [Range; 5],
 }

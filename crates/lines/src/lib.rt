@@ -21,6 +21,7 @@ pub enum Letters {
 #[derive(Clone, Copy, PartialEq, Eq)]
 pub struct Row {
     pub letter: u8,
+    // No heap: five numbers, and how many of them are the line's.
     pub used: usize,
     pub numbers: [u32; 5],
 }

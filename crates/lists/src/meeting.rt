@@ -23,6 +23,7 @@ fn add_met(half: u32, m: Matrix, other: Matrix, out: &mut [u64]) -> bool
 }
 
 // Adds the meets of a matrix and those of a list to another list.
+// Words and place stay apart: what is lent is a list in words, as the pages name it.
 fn meet_each(half: u32, m: Matrix, list: &[u64], out: &mut [u64]) -> bool
     requires { (Holds half list.now) × (Holds half out.old) }
     ensures { Became half

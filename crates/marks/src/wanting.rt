@@ -8,6 +8,7 @@ use crate::{BETWEEN, Mark, Wanted};
 use definitions::{WORD_SIZE, wide};
 
 // The mark where so many phones of a word are spoken: between words after its last.
+// The table stays lent words here and below: the pages name what these promise of them.
 pub fn spoken_to(words: &[u32], word: u32, mark: u32) -> Mark
     requires { Lexicon words.now × IsWord words.now word }
     ensures { mark_of result ≡ spoken_to (spelled words.now) word mark }

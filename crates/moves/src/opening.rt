@@ -23,6 +23,7 @@ fn open_words(join: &mut Join, known: Vocabulary, hop: Hop) -> Result<(), Fault>
 {
     let index = known.index;
     let mut word = index[wide(hop.arc.phone) - 1];
+    // No `for` and no Option: each word is read from the one before it, and a lent word says 0 for none.
     while word != 0 {
         move_into(join, hop, spoken_to(known.words, word, 1), word)?;
         word = index[64 + wide(word) - 1];

@@ -16,6 +16,7 @@ use lines::{Letters, Row};
 
 impl Entry {
     // What a row says. A row of another letter than W says what an A line says.
+    // No `From`: it asks that the row is one that was read.
     pub fn entry_of(row: Row) -> Entry
         requires { row ≡ row_of (line_in row) }
         ensures { entry_line result ≡ network_line (line_in row) }

@@ -20,6 +20,7 @@ fn read_lines(text: &[u8], arcs: &mut [u32]) -> Result<Counts, Refusal>
     let mut state = State::no_lines();
     for i in 0..text.len() / 32 {
         let line = &text[32 * i..32 * i + 32];
+        // A match, since with `map_err` and `?` the proof did not close.
         match state.take_line(line, arcs) {
             Ok(next) => state = next,
             Err(fault) => return Err(fault.at(i + 1)),
@@ -29,6 +30,7 @@ fn read_lines(text: &[u8], arcs: &mut [u32]) -> Result<Counts, Refusal>
 }
 
 // Reads network text.
+// Clear, read, clear again: one function for this and the reader of word books would be no shorter.
 pub fn read(text: &[u8], arcs: &mut [u32]) -> Result<Counts, Refusal>
     ensures answer { result ≡ result_of counts_of (read_network (length arcs.old) text.now) }
     ensures arcs { arcs.new ≡ arcs_left (length arcs.old)

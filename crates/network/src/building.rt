@@ -17,6 +17,7 @@ use definitions::{Header, Refusal};
 use metastates::Rules;
 
 // Connects the combinations in the space; all three buffers are cleared where there is no room.
+// The lent slices stay apart, as C lends them to the entry.
 fn connect_in(
     header: Header,
     nodes: &[u32],
@@ -52,6 +53,7 @@ fn connect_in(
 }
 
 // Builds the network of a book.
+// The lent slices stay apart, as C lends them to the entry.
 pub fn build(
     header: Header,
     nodes: &[u32],

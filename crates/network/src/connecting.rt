@@ -82,6 +82,7 @@ fn totals(header: Header, turns: u32, sizes: Sizes) -> Totals
 }
 
 // Takes turns after the start, until none is left to expand, the limit is used up, or there is no room.
+// The slices that grow stay apart: a struct of them would have to say in each contract which it keeps.
 fn take_turns(
     search: Search,
     metastates: &mut [u64],

@@ -20,6 +20,7 @@ const NODE_WORDS: usize = NODE_SIZE * MOST_NODES;
 const ROOT_WORDS: usize = 192;
 
 // Writes the lines of the plain form of known tables, where there is room. Answers how many there are.
+// The lent slices stay apart, as C lends them to the entry.
 fn put_plain(
     header: Header,
     nodes: &[u32],
@@ -57,6 +58,7 @@ fn put_plain(
 }
 
 // Writes the plain form of lent tables, and 0 in the rest of the buffer.
+// The lent slices stay apart, as C lends them to the entry.
 pub fn write(
     header: Header,
     nodes: &[u32],

@@ -16,5 +16,6 @@ pub const OUTPUT_SIZE: usize = 32 * (1 + 2000);
 #[derive(Clone, Copy)]
 pub struct Output {
     pub bytes: [u8; OUTPUT_SIZE],
+    // No heap: a fixed array, and how much of it is printed.
     pub length: usize,
 }

@@ -10,6 +10,7 @@ use std::io;
 const BUFFER_SIZE: usize = 420;
 
 // Writes a network into a buffer, and prints whether its text stands there and what follows it.
+// Counts and arcs are lent apart, as the functions tried here take them.
 fn show_written(
     rt: &impl Print,
     counts: Counts,

@@ -19,6 +19,7 @@ pub fn read_full<R: Read>(input: &mut R, buffer: &mut [u8]) -> io::Result<usize>
         got < length buffer.new → IsAtEnd (R.remaining input.new)) }
 {
     let mut got = 0;
+    // No `for`: a read takes as many bytes as it gets.
     while got < buffer.len() {
         let more = input.read(&mut buffer[got..])?;
         if more == 0 {

@@ -5,6 +5,7 @@ ghost use Rattle.std.specs.Iterator.{at_most};
 ghost use Rattle.showing.specs.Titles.{place_of, title_of, end_of, text_of, Gives};
 
 // The place of a byte, or where the text ends.
+// A number where there is none too: what is cut ends there.
 fn place(text: &[u8], byte: u8) -> usize
     ensures within { result ≤ length text.now }
     ensures found { result ≡ place_of byte text.now }

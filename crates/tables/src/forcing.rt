@@ -32,6 +32,7 @@ fn root_in_force(header: Header, roots: &[u32], plains: &[u32], place: u32) -> u
 }
 
 // The roots in force of all phones and states, from the front of the buffer.
+// The lent slices stay apart, as C lends them to the entry.
 pub fn roots_in_force(header: Header, roots: &[u32], plains: &[u32], forced: &mut [u32])
     requires { Forceable header roots.now plains.now × (root_count header ≤ length forced.old) }
     ensures { forced.new ≡ forced_roots header roots.now plains.now

@@ -10,6 +10,7 @@ pub fn name_node(counts: &mut [u32], node: u32)
 {
     let at = wide(node);
     if at < counts.len() {
+        // By its place: through `get_mut` the check knows nothing of what is written.
         counts[at] = counts[at].saturating_add(1);
     }
 }

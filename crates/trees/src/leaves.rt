@@ -11,6 +11,7 @@ use definitions::{Fault, Header, Refusal};
 use tables::foreign::lookup_known;
 use tables::records::node_at;
 
+// The tables stay apart, as C lends them. The other lookup is as short, over structs.
 pub fn leaf_of(
     header: Header,
     nodes: &[u32],

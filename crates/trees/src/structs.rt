@@ -35,6 +35,7 @@ fn lookup_known(header: Header, nodes: &[Node], classes: &[u64], root: u32) -> b
         && nodes_known(header, |node| node_in(nodes, node))
 }
 
+// The tables stay apart, as C lends them.
 pub fn leaf_of(
     header: Header,
     nodes: &[Node],

@@ -12,6 +12,7 @@ use lines::ranges::in_fixed_ranges;
 use lines::{Letters, Row};
 
 // What a row says.
+// No `From`: it asks that the row is one that was read.
 pub fn entry_of(row: Row) -> Entry
     requires { row ≡ row_of (line_in row) }
     ensures { entry_line result ≡ word_line (line_in row) }

@@ -58,6 +58,7 @@ fn write_fields(row: Row, bytes: &mut [u8])
     ensures { bytes.new ≡ fields_text (line_in row).numbers }
 {
     for field in 0..5 {
+        // By its place: of what stands behind a part that `chunks_exact_mut` lends, a proof knows the length alone.
         let from = 6 * field;
         let end = from + 6;
         write_field(row, field, &mut bytes[from..end]);
@@ -73,6 +74,7 @@ fn is_writable(row: Row) -> bool
 
 // Writes a row as a line into the first 32 bytes of a buffer. It answers false and writes nothing where the
 // buffer is shorter or the row does not fit a line.
+// A `bool`, as its clause promises: there is one way to fail.
 pub fn write(row: Row, bytes: &mut [u8]) -> bool
     ensures answer { result ≡ (leb 32 (length bytes.old) && writable row) }
     ensures leaves { bytes.new ≡ (if result then written row bytes.old else bytes.old) }

@@ -1,7 +1,9 @@
 -- `building::fulgwerz_build_book` meets its contract: what the function called answers, as a struct, and
--- what it leaves in the buffers. What holds of a finished answer's counts holds of the struct's.
-use mathlib.Core.Path.{ap, ◌∙◌}
+-- what it leaves in the buffers. What holds of a
+-- finished answer's counts holds of the struct's.
+use Rattle.std.proofs.Common.{ap, ◌∙◌}
 use Rattle.fulgwerz.specs.Answers.{build_answer}
+use Rattle.builder.specs.Laws.Said.{book-said}
 use Rattle.fulgwerz.specs.Laws.Made.{finished-made}
 use Rattle.fulgwerz.proofs.building.fulgwerz_build_book.Goals as goal
 
@@ -9,9 +11,9 @@ pub returns : goal.returns
 returns c =
     let left = c.build_book.ensures in
     record {
-      answer = c.build_answer.ensures ∙ ap build_answer left.answer;
+      answer = c.into.ensures ∙ ap build_answer (book-said _ left.answer);
       tables = left.tables;
       leaves = left.leaves;
-      demand = rw c.build_answer.ensures (finished-made _ _ left.demand);
-      ending = rw c.build_answer.ensures (finished-made _ _ left.ending);
+      demand = rw c.into.ensures (finished-made _ _ left.demand);
+      ending = rw c.into.ensures (finished-made _ _ left.ending);
     }
