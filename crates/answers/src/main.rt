@@ -5,18 +5,20 @@
 ghost use Rattle.program.specs.Reading.{ReadInto};
 
 use program::running::run;
-use program::{BUFFER_SIZE, LONGEST_INPUT, Output};
+use program::{BUFFER_SIZE, LONGEST_INPUT};
 use showing::reading::{INPUT_SIZE, read_full};
 use showing::titles::{Texts, Titled};
 use std::io;
 
 // What the program prints; of a network of more than 48 lines the first 48, and how many bytes there are.
 fn show_run(rt: &impl Print, buffer: &[u8; BUFFER_SIZE], got: usize) -> io::Result<()> {
-    let Output { bytes, length } = run(buffer, got);
+    let output = run(buffer, got);
+    let bytes = output.bytes;
+    let length = output.length;
     if length <= 1536 {
         return rt.write_all(&bytes[..length]);
     }
-    rt.write_all(&bytes[..1536])?;
+    rt.write_all(&bytes[0..1536])?;
     println!(rt; ".. {length} bytes")
 }
 
