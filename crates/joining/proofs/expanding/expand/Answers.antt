@@ -39,7 +39,7 @@ pub loop-at-init : goal.loop-at-init
 loop-at-init c = (
   expanding-start c.requires c.state_at-x.ensures c.wanted-wants.ensures
       (first_is (goal.at.loop-at-init c).After-arcs_before-first) c.next_arc-at.ensures,
-  (refl, refl),
+  (refl, refl, refl),
 )
 
 pub overflow_cast-hop : goal.overflow_cast-hop
@@ -86,7 +86,7 @@ loop-at-preserved c =
           c.loop-at.invariant.0 c.loop-at-test.true (hop (goal.at.loop-at-preserved c).After-arc_at) refl
           c.arc_at.ensures c.follow.ensures.left (ap (λ r. stepped r c.follow.new.join.sizes) c.in_ok-follow.was)
           c.next_arc-at-in-loop-at.ensures,
-      (same.0 ∙ before.0, same.1 ∙ before.1),
+      (same.0 ∙ before.0, same.1 ∙ before.1, same.2 ∙ before.2),
     )
 
 pub returns-clause-left : goal.returns-clause-left
