@@ -41,7 +41,7 @@ pub fn expand(
         word: x.word,
         mark: x.mark,
     };
-    let wants = wanted(known.words, x.word, x.mark);
+    let wants = wanted(known.words, mark);
     let arcs = network.arcs;
     let mut from = arcs_before(arcs, network.starts, wide(x.state));
     while let Some(at) = next_arc(arcs, from, x.state, wants) {

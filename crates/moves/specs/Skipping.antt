@@ -36,7 +36,7 @@ pub record Skipped (arcs : List ℕ) (state : ℕ) (wanted : Wanted) (at next : 
   pub same : (words : List (List ℕ)) (word mark : ℕ) → Leads words word mark wanted
       → moves_from words (word ⊚ mark) arcs state at ≡ moves_from words (word ⊚ mark) arcs state next
 
--- the next arc of the state along which something leads on, if there is one
+-- the arc of the state up to which all were passed over, or none where nothing more leads on
 pub record NextFound (arcs : List ℕ) (state : ℕ) (wanted : Wanted) (at : ℕ) (next : Option ℕ) : Type 0 where
   pub skipped : Skipped arcs state wanted at (unwrap_or next (length arcs / arc_size))
   pub inside : IfSome next (λ n. n < length arcs / arc_size)

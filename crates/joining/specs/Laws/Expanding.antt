@@ -6,7 +6,7 @@ use Rattle.std.proofs.Common.{◌∙◌, subst, arith, leb→le}
 use Rattle.std.proofs.Math.ListN.{get_or}
 use Rattle.definitions.specs.declared.Fault.{Fault}
 use Rattle.definitions.specs.Faults.{Outcome, and_then}
-use Rattle.definitions.specs.Lists.{◌!◌, concat_map}
+use Rattle.definitions.specs.Lists.{concat_map}
 use Rattle.definitions.specs.Arcs.{Arc, arc_size, arc_of}
 use Rattle.definitions.specs.Growing.{Grown, enter, Room, perform, perform_all, expand}
 use Rattle.definitions.specs.Joining.{◌⊚◌, Joined, joined, joined_size, Move, moves_along, moves, joining}
@@ -80,7 +80,7 @@ module _ {arcs starts words index : List ℕ} {sizes : Sizes} {states₀ joined�
         ∙ ap (λ l. moved_in (room_of states₀ joined₀) place (concat_map (moves_along (spelled words) (word ⊚ mark)) l)
         (held sizes states₀ joined₀)) (sym (own-after state (all_arcs arcs) e.turnable.followed.ordered))
 
-    -- after the arcs of smaller sources
+    -- the loop begins after the arcs of smaller sources
     pub expanding-start : {from : ℕ} → from ≡ below state (all_arcs arcs)
         → Expanding arcs words sizes states₀ joined₀ chains₀ place state word mark states₀ joined₀ chains₀ sizes from
     expanding-start {from} f = record {

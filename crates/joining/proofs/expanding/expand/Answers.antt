@@ -11,7 +11,7 @@ use Rattle.joining.specs.Laws.Expanding.{expanding-asks, expanding-more, expandi
 use Rattle.joining.proofs.expanding.expand.Goals as goal
 use Rattle.joining.proofs.expanding.expand.Goals.{After-arcs_before-from, After-arc_at}
 
--- the source of the first arc
+-- where the arcs of the state begin
 first_is : (c : goal.After-arcs_before-from)
     → c.arcs_before-from.result ≡ below c.state_at-x.result.state (all_arcs c.args.network.arcs.now)
 first_is c =
