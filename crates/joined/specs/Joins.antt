@@ -29,6 +29,7 @@ Left join outcome answer join' =
 abbrev pub Holding : Join → Join → Type 0
 Holding join join' =
     (join'.states.ghost_name ≡ join.states.ghost_name) × (join'.arcs.ghost_name ≡ join.arcs.ghost_name)
+    × (join'.chains.ghost_name ≡ join.chains.ghost_name)
 
 -- one joined state entered from another
 abbrev pub enters : Join → (from : ℕ) → Move → Outcome (Grown Joined)

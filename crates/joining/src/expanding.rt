@@ -8,7 +8,7 @@ ghost use Rattle.joining.specs.Turns.{Expands, expanded};
 use crate::Network;
 use arcs::putting::arc_at;
 use arcs::starting::arcs_before;
-use definitions::{ARC_SIZE, Fault, wide};
+use definitions::{Fault, wide};
 use joined::rows::joined_at;
 use joined::{Join, Joined};
 use marks::Mark;
@@ -41,18 +41,16 @@ pub fn expand(
         word: x.word,
         mark: x.mark,
     };
-    let wants = wanted(known.words, x.word, x.mark);
+    let wants = wanted(known.words, mark);
     let arcs = network.arcs;
-    let first = arcs_before(arcs, network.starts, wide(x.state));
-    let mut at = next_arc(arcs, first, x.state, wants);
-    // No `for`: arcs that lead nowhere are leapt over.
-    while at < arcs.len() / ARC_SIZE {
+    let mut from = arcs_before(arcs, network.starts, wide(x.state));
+    while let Some(at) = next_arc(arcs, from, x.state, wants) {
         let hop = Hop {
             from: place as u32,
             arc: arc_at(arcs, at),
         };
         follow(join, known, hop, mark, wants)?;
-        at = next_arc(arcs, at + 1, x.state, wants);
+        from = at + 1;
     }
     Ok(())
 }

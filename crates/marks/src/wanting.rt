@@ -21,32 +21,32 @@ pub fn spoken_to(words: &[u32], word: u32, mark: u32) -> Mark
 }
 
 // What is wanted in a word.
-fn within(words: &[u32], word: u32, mark: u32) -> Wanted
-    requires { Lexicon words.now × IsWord words.now word }
-    ensures { Leads (spelled words.now) word mark result }
+fn within(words: &[u32], mark: Mark) -> Wanted
+    requires { Lexicon words.now × IsWord words.now mark.word }
+    ensures { Leads (spelled words.now) mark.word mark.mark result }
 {
-    if 64 <= mark {
+    if 64 <= mark.mark {
         return Wanted::Nothing;
     }
     Wanted::Phone {
-        phone: words[WORD_SIZE * (wide(word) - 1) + 1 + wide(mark)],
-        next: spoken_to(words, word, mark + 1),
+        phone: words[WORD_SIZE * (wide(mark.word) - 1) + 1 + wide(mark.mark)],
+        next: spoken_to(words, mark.word, mark.mark + 1),
     }
 }
 
 // What is wanted from a mark.
-pub fn wanted(words: &[u32], word: u32, mark: u32) -> Wanted
+pub fn wanted(words: &[u32], mark: Mark) -> Wanted
     requires { Lexicon words.now }
-    ensures { Leads (spelled words.now) word mark result }
+    ensures { Leads (spelled words.now) mark.word mark.mark result }
 {
-    match (word, mark) {
+    match (mark.word, mark.mark) {
         (0, 1) => Wanted::Words,
         (0, 0) => Wanted::Phone {
             phone: 1,
             next: BETWEEN,
         },
         (0, _) => Wanted::Nothing,
-        _ if words.len() / WORD_SIZE < wide(word) => Wanted::Nothing,
-        _ => within(words, word, mark),
+        _ if words.len() / WORD_SIZE < wide(mark.word) => Wanted::Nothing,
+        _ => within(words, mark),
     }
 }

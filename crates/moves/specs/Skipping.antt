@@ -1,5 +1,6 @@
 -- The arcs of a state, and those of them along which nothing leads on.
-use Rattle.std.specs.Prelude.{◌≡◌, List, Bool, true, ◌||◌, ℕ, ◌*◌, ◌/◌, ◌≤◌, ◌<◌, T, eqb, length, drop}
+use Rattle.std.specs.Option.{unwrap_or}
+use Rattle.std.specs.Prelude.{Option, IfSome, ◌≡◌, List, Bool, true, ◌||◌, ℕ, ◌*◌, ◌/◌, ◌≤◌, ◌<◌, T, eqb, length, drop}
 use Rattle.definitions.specs.Lists.{◌!◌, select, concat_map}
 use Rattle.definitions.specs.Arcs.{arc_size}
 use Rattle.arcs.specs.Below.{below}
@@ -34,3 +35,8 @@ pub record Skipped (arcs : List ℕ) (state : ℕ) (wanted : Wanted) (at next : 
   pub own : next < length arcs / arc_size → arcs ! (arc_size * next) ≡ state
   pub same : (words : List (List ℕ)) (word mark : ℕ) → Leads words word mark wanted
       → moves_from words (word ⊚ mark) arcs state at ≡ moves_from words (word ⊚ mark) arcs state next
+
+-- the arc of the state up to which all were passed over, or none where nothing more leads on
+pub record NextFound (arcs : List ℕ) (state : ℕ) (wanted : Wanted) (at : ℕ) (next : Option ℕ) : Type 0 where
+  pub skipped : Skipped arcs state wanted at (unwrap_or next (length arcs / arc_size))
+  pub inside : IfSome next (λ n. n < length arcs / arc_size)

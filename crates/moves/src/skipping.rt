@@ -1,6 +1,6 @@
 // The next arc of a state along which something leads on.
 ghost use Rattle.std.specs.Prelude.{◌≡◌};
-ghost use Rattle.moves.specs.Skipping.{leads_along, AfterSources, Skipped};
+ghost use Rattle.moves.specs.Skipping.{leads_along, AfterSources, NextFound};
 
 use definitions::ARC_SIZE;
 use marks::Wanted;
@@ -16,20 +16,18 @@ fn leads_along(wanted: Wanted, phone: u32) -> bool
     }
 }
 
-// From an arc on: the arcs of the state along which nothing leads on are passed over. The number of all arcs where
-// there is none.
-pub fn next_arc(arcs: &[u32], from: usize, state: u32, wanted: Wanted) -> usize
+// From an arc on: the arcs of the state along which nothing leads on are passed over. None where no further arc leads on.
+pub fn next_arc(arcs: &[u32], from: usize, state: u32, wanted: Wanted) -> Option<usize>
     requires { AfterSources arcs.now state from }
-    ensures { Skipped arcs.now state wanted from result }
+    ensures { NextFound arcs.now state wanted from result }
 {
-    let count = arcs.len() / ARC_SIZE;
-    for at in from..count {
+    for at in from..arcs.len() / ARC_SIZE {
         if arcs[ARC_SIZE * at] != state {
-            return count;
+            return None;
         }
         if leads_along(wanted, arcs[ARC_SIZE * at + 3]) {
-            return at;
+            return Some(at);
         }
     }
-    count
+    None
 }

@@ -1,12 +1,12 @@
 -- Laws about one turn: the moves from a joined state are those along the arcs of its network state, and each arc that
 -- is followed takes its part of them.
-use Rattle.std.specs.Prelude.{◌≡◌, refl, List, [], ◌∷◌, map, ℕ, ◌+◌, ◌*◌, ◌/◌, ◌≤◌, ◌<◌, T, leb, length, Result, Ok, Err}
+use Rattle.std.specs.Prelude.{◌≡◌, refl, List, [], ◌∷◌, map, ℕ, ◌+◌, ◌*◌, ◌/◌, ◌≤◌, ◌<◌, T, leb, length, Result, Ok, Err, None, Some}
 use Rattle.std.proofs.Math.Path.{sym, ap}
 use Rattle.std.proofs.Common.{◌∙◌, subst, arith, leb→le}
 use Rattle.std.proofs.Math.ListN.{get_or}
 use Rattle.definitions.specs.declared.Fault.{Fault}
 use Rattle.definitions.specs.Faults.{Outcome, and_then}
-use Rattle.definitions.specs.Lists.{◌!◌, concat_map}
+use Rattle.definitions.specs.Lists.{concat_map}
 use Rattle.definitions.specs.Arcs.{Arc, arc_size, arc_of}
 use Rattle.definitions.specs.Growing.{Grown, enter, Room, perform, perform_all, expand}
 use Rattle.definitions.specs.Joining.{◌⊚◌, Joined, joined, joined_size, Move, moves_along, moves, joining}
@@ -27,7 +27,7 @@ use Rattle.joined.specs.Laws.Entering.{joined-used}
 use Rattle.joined.specs.Laws.Going.{Going, going_on, step_in}
 use Rattle.moves.specs.declared.Hop.{Hop}
 use Rattle.moves.specs.Moving.{hop_arc, moved_all, Followable}
-use Rattle.moves.specs.Skipping.{moves_from, AfterSources, Skipped}
+use Rattle.moves.specs.Skipping.{moves_from, AfterSources, NextFound}
 use Rattle.moves.specs.Laws.Opening.{moved_in, moved-parts}
 use Rattle.moves.specs.Laws.Between.{left_by}
 use Rattle.moves.specs.Laws.Skipping.{moves-here, moves-end}
@@ -43,11 +43,10 @@ entering-any arcs words room from [] net = refl
 entering-any arcs words room from (m ∷ l) net =
     ap (and_then (perform entering room net (enter from m))) (λ i next. entering-any arcs words room from l next i)
 
--- the arcs before one are followed
+-- the moves along the arcs before one are made
 pub record Expanding (arcs words : List ℕ) (sizes : Sizes) (states₀ joined₀ chains₀ : List ℕ)
     (place state word mark : ℕ) (states joined chains : List ℕ) (now : Sizes) (at : ℕ) : Type 0 where
   pub after : AfterSources arcs state at
-  pub own : at < length arcs / arc_size → arcs ! (arc_size * at) ≡ state
   pub going : Going states₀ joined₀ chains₀ (expanded_at arcs words states₀ joined₀ sizes place)
       (moved_in (room_of states₀ joined₀) place (moves_from (spelled words) (word ⊚ mark) arcs state at)) now
       states joined chains
@@ -81,58 +80,39 @@ module _ {arcs starts words index : List ℕ} {sizes : Sizes} {states₀ joined�
         ∙ ap (λ l. moved_in (room_of states₀ joined₀) place (concat_map (moves_along (spelled words) (word ⊚ mark)) l)
         (held sizes states₀ joined₀)) (sym (own-after state (all_arcs arcs) e.turnable.followed.ordered))
 
-    -- after the arcs of smaller sources
-    pub sources-after : {from : ℕ} → from ≡ below state (all_arcs arcs) → AfterSources arcs state from
-    sources-after f = record {
-      ordered = e.turnable.followed.ordered;
-      after = omega (arith, f);
-      within = omega (arith, f, below-within state (all_arcs arcs), arcs-length count arcs);
+    -- the loop begins after the arcs of smaller sources
+    pub expanding-start : {from : ℕ} → from ≡ below state (all_arcs arcs)
+        → Expanding arcs words sizes states₀ joined₀ chains₀ place state word mark states₀ joined₀ chains₀ sizes from
+    expanding-start {from} f = record {
+      after = record {
+        ordered = e.turnable.followed.ordered;
+        after = omega (arith, f);
+        within = omega (arith, f, below-within state (all_arcs arcs), arcs-length count arcs);
+      };
+      going =
+          going_start whole _ e.turnable.underway
+          (turn ∙ ap (λ l. moved_in (room_of states₀ joined₀) place l (held sizes states₀ joined₀)) (ap rest (sym f)));
     }
 
     -- ---- the loop over arcs
 
     module _ {wanted : Wanted} (leads : Leads (spelled words) word mark wanted) where
-      -- to the next arc along which something leads on
-      skip : {from next : ℕ} → AfterSources arcs state from → Skipped arcs state wanted from next
-          → AfterSources arcs state next
-      skip after skipped =
-          record {
-            ordered = after.ordered;
-            after = omega (arith, after.after, skipped.up);
-            within = skipped.within;
-          }
-
-      pub expanding-start : {from at : ℕ} → from ≡ below state (all_arcs arcs) → Skipped arcs state wanted from at
-          → Expanding arcs words sizes states₀ joined₀ chains₀ place state word mark states₀ joined₀ chains₀ sizes at
-      expanding-start {from} {at} f skipped = record {
-        after = skip (sources-after f) skipped;
-        own = skipped.own;
-        going =
-            going_start whole _ e.turnable.underway
-            (turn ∙ ap (λ l. moved_in (room_of states₀ joined₀) place l (held sizes states₀ joined₀))
-            (ap rest (sym f) ∙ skipped.same (spelled words) word mark leads));
-      }
-
-      module _ {states joined chains : List ℕ} {now : Sizes} {at : ℕ}
-          (p : Expanding arcs words sizes states₀ joined₀ chains₀ place state word mark states joined chains now at)
+      module _ {states joined chains : List ℕ} {now : Sizes} {from : ℕ}
+          (p : Expanding arcs words sizes states₀ joined₀ chains₀ place state word mark states joined chains now from)
         where
-          pub expanding-done : length arcs / arc_size ≤ at
+          pub expanding-done : NextFound arcs state wanted from None
               → StepLeft states₀ joined₀ chains₀ (expanded_at arcs words states₀ joined₀ sizes place) (Ok now)
               states joined chains
           unfolding perform_all
-          expanding-done h =
+          expanding-done none =
               going_done p.going
               (ap (λ l. moved_in (room_of states₀ joined₀) place l (held now states joined))
-              (moves-end (spelled words) (word ⊚ mark) arcs state h))
+              (none.skipped.same (spelled words) word mark leads
+              ∙ moves-end (spelled words) (word ⊚ mark) arcs state {at = count} (omega arith)))
 
-          module _ (l : at < length arcs / arc_size) where
-            pub expanding-next : AfterSources arcs state (at + 1)
-            expanding-next =
-                record {
-                  ordered = p.after.ordered;
-                  after = omega (arith, p.after.after);
-                  within = omega (arith, l);
-                }
+          module _ {at : ℕ} (found : NextFound arcs state wanted from (Some at)) where
+            l : at < length arcs / arc_size
+            l = found.inside
 
             few-phones : (arc_at arcs at).phone ≤ 64
             few-phones =
@@ -166,27 +146,27 @@ module _ {arcs starts words index : List ℕ} {sizes : Sizes} {states₀ joined�
                     (moved_all states joined now n (moves_along (spelled words) (word ⊚ mark) (hop_arc hop))) r
                     states' joined' chains') f left)
 
-                both : moved_in (room_of states₀ joined₀) place (rest at) (held now states joined)
+                both : moved_in (room_of states₀ joined₀) place (rest from) (held now states joined)
                     ≡ and_then (moved_in (room_of states₀ joined₀) place along (held now states joined))
                     (moved_in (room_of states₀ joined₀) place (rest (at + 1)))
                 both =
                     ap (λ l. moved_in (room_of states₀ joined₀) place l (held now states joined))
-                    (moves-here arcs at l (spelled words) (word ⊚ mark) (p.own l))
+                    (found.skipped.same (spelled words) word mark leads
+                    ∙ moves-here arcs at l (spelled words) (word ⊚ mark) (found.skipped.own l))
                     ∙ moved-parts (room_of states₀ joined₀) place (held now states joined) along (rest (at + 1))
 
-                pub expanding-more : {next : Sizes} → r ≡ Ok next → {to : ℕ}
-                    → Skipped arcs state wanted (at + 1) to
+                pub expanding-more : {next : Sizes} → r ≡ Ok next
                     → Expanding arcs words sizes states₀ joined₀ chains₀ place state word mark states' joined' chains'
-                    next to
-                expanding-more {next} a {to} skipped = record {
-                  after = skip expanding-next skipped;
-                  own = skipped.own;
+                    next (at + 1)
+                expanding-more {next} a = record {
+                  after = record {
+                    ordered = p.after.ordered;
+                    after = omega (arith, p.after.after, found.skipped.up);
+                    within = omega (arith, l);
+                  };
                   going =
-                      going_more p.going (moved_in (room_of states₀ joined₀) place (rest to))
-                      (step_in p.going (λ room. moved_in room place along (held now states joined)) here)
-                      (both
-                      ∙ ap (λ l. and_then (moved_in (room_of states₀ joined₀) place along (held now states joined))
-                      (moved_in (room_of states₀ joined₀) place l)) (skipped.same (spelled words) word mark leads)) a;
+                      going_more p.going (moved_in (room_of states₀ joined₀) place (rest (at + 1)))
+                      (step_in p.going (λ room. moved_in room place along (held now states joined)) here) both a;
                 }
 
                 pub expanding-stop : {fault : Fault} → r ≡ Err fault

@@ -1,5 +1,5 @@
 -- Laws about the arcs of a state that are passed over: nothing leads along them.
-use Rattle.std.specs.Prelude.{◌≡◌, false, ℕ, ◌+◌, ◌*◌, ◌/◌, ◌≤◌, ◌<◌, eqb, drop}
+use Rattle.std.specs.Prelude.{None, ◌≡◌, false, ℕ, ◌+◌, ◌*◌, ◌/◌, ◌≤◌, ◌<◌, eqb, drop}
 use Rattle.std.proofs.Common.{sym, ◌∙◌, arith, drop_of_length-le, eq-eqb, true≢false}
 use Rattle.std.proofs.Math.Path.{ap}
 use mathlib.Core.List.{List, [], ◌++◌}
@@ -18,7 +18,7 @@ use Rattle.std.proofs.lemmas.Bool.{or_parts}
 use Rattle.marks.specs.declared.Mark.{Mark}
 use Rattle.marks.specs.declared.Wanted.{Wanted}
 use Rattle.marks.specs.declared.Wanted.TheVariants.{Words, Phone, Nothing}
-use Rattle.moves.specs.Skipping.{leads_along, moves_from, AfterSources, Skipped}
+use Rattle.moves.specs.Skipping.{leads_along, moves_from, AfterSources, Skipped, NextFound}
 
 module _ (arcs : List ℕ) (at : ℕ) (l : at < length arcs / arc_size) where
   -- the moves along an arc of the state, and then those from the next on
@@ -93,8 +93,9 @@ module _ {arcs : List ℕ} {state from : ℕ} (after : AfterSources arcs state f
     }
 
     pub skipped-past : at < length arcs / arc_size → (arcs ! (arc_size * at) ≡ state → ⊥)
-        → Skipped arcs state wanted from (length arcs / arc_size)
-    skipped-past l other = skipped-all (λ words q. moves-past arcs at l words q after p.up other)
+        → NextFound arcs state wanted from None
+    skipped-past l other =
+        record { skipped = skipped-all (λ words q. moves-past arcs at l words q after p.up other); inside = tt }
 
     pub passing-more : at < length arcs / arc_size → arcs ! (arc_size * at) ≡ state
         → leads_along wanted (arcs ! (arc_size * at + 3)) ≡ false → Passing arcs state wanted from (at + 1)

@@ -1,4 +1,4 @@
--- `expanding::expand` meets its contract. The loop's invariant: the arcs of the state before `at` are followed.
+-- `expanding::expand` meets its contract. The loop's invariant: the arcs of the state before `from` are followed.
 use Rattle.std.proofs.Common.{◌≡◌, refl, ap, ◌∙◌, arith, rules, ℕ}
 use Rattle.std.proofs.lemmas.Result.{err_from_is_err_and}
 use Rattle.arcs.specs.Whole.{all_arcs}
@@ -6,16 +6,16 @@ use Rattle.arcs.specs.Below.{below}
 use Rattle.joined.specs.Joins.{stepped}
 use Rattle.joined.specs.Laws.Entering.{joined-few}
 use Rattle.moves.specs.declared.Hop.{Hop}
-use Rattle.joining.specs.Laws.Expanding.{expand-row, sources-after, expanding-start, expanding-done}
-use Rattle.joining.specs.Laws.Expanding.{expanding-next, expanding-asks, expanding-more, expanding-stop}
+use Rattle.joining.specs.Laws.Expanding.{expand-row, expanding-start, expanding-done}
+use Rattle.joining.specs.Laws.Expanding.{expanding-asks, expanding-more, expanding-stop}
 use Rattle.joining.proofs.expanding.expand.Goals as goal
-use Rattle.joining.proofs.expanding.expand.Goals.{After-arcs_before-first, After-arc_at}
+use Rattle.joining.proofs.expanding.expand.Goals.{After-arcs_before-from, After-arc_at}
 
--- the source of the first arc
-first_is : (c : goal.After-arcs_before-first)
-    → c.arcs_before-first.result ≡ below c.state_at-x.result.state (all_arcs c.args.network.arcs.now)
+-- where the arcs of the state begin
+first_is : (c : goal.After-arcs_before-from)
+    → c.arcs_before-from.result ≡ below c.state_at-x.result.state (all_arcs c.args.network.arcs.now)
 first_is c =
-    c.arcs_before-first.ensures ∙ ap (λ (n : ℕ). below n (all_arcs c.args.network.arcs.now)) c.wide.ensures
+    c.arcs_before-from.ensures ∙ ap (λ (n : ℕ). below n (all_arcs c.args.network.arcs.now)) c.wide.ensures
 
 -- the arc that is followed
 abbrev hop : goal.After-arc_at → Hop
@@ -27,20 +27,18 @@ state_at-x-requires c = expand-row c.requires
 pub wanted-wants-requires : goal.wanted-wants-requires
 wanted-wants-requires c = c.requires.turnable.lexicon
 
-pub arcs_before-first-requires : goal.arcs_before-first-requires
-arcs_before-first-requires c =
+pub arcs_before-from-requires : goal.arcs_before-from-requires
+arcs_before-from-requires c =
     let pre = c.requires in (pre.turnable.followed.ordered, pre.turnable.started)
-
-pub next_arc-at-requires : goal.next_arc-at-requires
-next_arc-at-requires c =
-    sources-after c.requires c.state_at-x.ensures (first_is (goal.at.next_arc-at-requires c).After-arcs_before-first)
 
 pub loop-at-init : goal.loop-at-init
 loop-at-init c = (
-  expanding-start c.requires c.state_at-x.ensures c.wanted-wants.ensures
-      (first_is (goal.at.loop-at-init c).After-arcs_before-first) c.next_arc-at.ensures,
-  (refl, refl),
+  expanding-start c.requires c.state_at-x.ensures (first_is (goal.at.loop-at-init c).After-arcs_before-from),
+  (refl, refl, refl),
 )
+
+pub next_arc-requires : goal.next_arc-requires
+next_arc-requires c = c.loop-at.invariant.0.after
 
 pub overflow_cast-hop : goal.overflow_cast-hop
 overflow_cast-hop c =
@@ -51,7 +49,7 @@ overflow_cast-hop c =
 pub follow-requires : goal.follow-requires
 follow-requires c = (
   expanding-asks c.requires c.state_at-x.ensures c.wanted-wants.ensures
-      c.loop-at.invariant.0 c.loop-at-test.true (hop (goal.at.follow-requires c).After-arc_at) refl c.arc_at.ensures,
+      c.loop-at.invariant.0 c.in-Some.ensures (hop (goal.at.follow-requires c).After-arc_at) refl c.arc_at.ensures,
   c.wanted-wants.ensures,
 )
 
@@ -60,36 +58,28 @@ returns-in_err-follow-clause-left c =
     let p = err_from_is_err_and c.from_residual.result c.from_residual.ensures.1 in
     rw (p.1, p.2)
     (expanding-stop c.requires c.state_at-x.ensures c.wanted-wants.ensures
-    c.loop-at.invariant.0 c.loop-at-test.true (hop (goal.at.returns-in_err-follow-clause-left c).After-arc_at) refl c.arc_at.ensures
+    c.loop-at.invariant.0 c.in-Some.ensures (hop (goal.at.returns-in_err-follow-clause-left c).After-arc_at) refl c.arc_at.ensures
     c.follow.ensures.left (ap (λ r. stepped r c.follow.new.join.sizes) c.in_err-follow.was))
 
-pub overflow_add-at : goal.overflow_add-at
-overflow_add-at c =
-    let test = c.loop-at-test.true in
+pub overflow_add-from : goal.overflow_add-from
+overflow_add-from c =
+    let inside = c.in-Some.ensures.inside in
     let few = c.requires.turnable.followed.few in
     search rules
 
-pub next_arc-at-requires-in-loop-at : goal.next_arc-at-requires-in-loop-at
-next_arc-at-requires-in-loop-at c =
-    expanding-next c.requires c.state_at-x.ensures c.wanted-wants.ensures
-    c.loop-at.invariant.0 c.loop-at-test.true
-
 pub loop-at-smaller : goal.loop-at-smaller
-loop-at-smaller c =
-    omega (arith, c.loop-at-test.true, c.next_arc-at-in-loop-at.ensures.up)
+loop-at-smaller c = let found = c.in-Some.ensures in omega (arith, found.inside, found.skipped.up)
 
 pub loop-at-preserved : goal.loop-at-preserved
 loop-at-preserved c =
     let same = c.follow.ensures.same in
     let before = c.loop-at.invariant.1 in (
-      expanding-more c.requires c.state_at-x.ensures c.wanted-wants.ensures
-          c.loop-at.invariant.0 c.loop-at-test.true (hop (goal.at.loop-at-preserved c).After-arc_at) refl
-          c.arc_at.ensures c.follow.ensures.left (ap (λ r. stepped r c.follow.new.join.sizes) c.in_ok-follow.was)
-          c.next_arc-at-in-loop-at.ensures,
-      (same.0 ∙ before.0, same.1 ∙ before.1),
+      expanding-more c.requires c.state_at-x.ensures c.wanted-wants.ensures c.loop-at.invariant.0 c.in-Some.ensures
+          (hop (goal.at.loop-at-preserved c).After-arc_at) refl c.arc_at.ensures c.follow.ensures.left
+          (ap (λ r. stepped r c.follow.new.join.sizes) c.in_ok-follow.was),
+      (same.0 ∙ before.0, same.1 ∙ before.1, same.2 ∙ before.2),
     )
 
 pub returns-clause-left : goal.returns-clause-left
 returns-clause-left c =
-    expanding-done c.requires c.state_at-x.ensures c.wanted-wants.ensures
-    c.loop-at.invariant.0 c.loop-at-test.false
+    expanding-done c.requires c.state_at-x.ensures c.wanted-wants.ensures c.loop-at.invariant.0 c.in_default.ensures

@@ -7,7 +7,7 @@ use Rattle.joining.specs.Laws.Turning.{turning-more, turning-stop}
 use Rattle.joining.proofs.turning.take_turns.Goals as goal
 
 pub loop-turns-init : goal.loop-turns-init
-loop-turns-init c = (turning-start c.requires, (refl, refl))
+loop-turns-init c = (turning-start c.requires, (refl, refl, refl))
 
 pub expand-requires : goal.expand-requires
 expand-requires c = turning-asks c.requires c.loop-turns.invariant.0 c.loop-turns-test.true
@@ -29,7 +29,7 @@ loop-turns-preserved c =
     let before = c.loop-turns.invariant.1 in (
       turning-more c.requires c.loop-turns.invariant.0 c.loop-turns-test.true c.expand.ensures.left
           (ap (λ r. stepped r c.expand.new.join.sizes) c.in_ok-expand.was),
-      (same.0 ∙ before.0, same.1 ∙ before.1),
+      (same.0 ∙ before.0, same.1 ∙ before.1, same.2 ∙ before.2),
     )
 
 pub returns-clause-left : goal.returns-clause-left

@@ -14,4 +14,4 @@ returns-in-0-default c =
 pub returns-in_default : goal.returns-in_default
 returns-in_default c =
     leads-past _ _ _ (omega (arith, c.in_default.is-0.1))
-    (word-past c.args.words.now c.args.word c.args.mark (omega (arith, c.if-words-wide.true, c.wide.ensures)))
+    (word-past c.args.words.now c.args.mark.word c.args.mark.mark (omega (arith, c.if-words-wide.true, c.wide.ensures)))

@@ -14,7 +14,7 @@ pub returns-then-mark-ge64 : goal.returns-then-mark-ge64
 returns-then-mark-ge64 c =
     let (lexicon, own) = c.requires in
     leads-past _ _ _ own.low
-    (phone-past lexicon own c.args.mark c.if-mark-ge64.true)
+    (phone-past lexicon own c.args.mark.mark c.if-mark-ge64.true)
 
 pub returns : goal.returns
 returns c =
@@ -23,5 +23,5 @@ returns c =
     leads-within _ _ _ _ _ own.low
     (ap₂ (λ (w m : ℕ). a.words.now ! (word_size * (w - 1) + 1 + m)) c.wide.ensures
     c.wide-2.ensures
-    ∙ word-phone lexicon own a.mark c.if-mark-ge64.false)
-    (c.spoken_to.ensures ∙ ap (spoken_to (spelled a.words.now) a.word) (add-one a.mark))
+    ∙ word-phone lexicon own a.mark.mark c.if-mark-ge64.false)
+    (c.spoken_to.ensures ∙ ap (spoken_to (spelled a.words.now) a.mark.word) (add-one a.mark.mark))

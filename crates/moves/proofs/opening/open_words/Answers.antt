@@ -54,7 +54,7 @@ loop-word-preserved c =
           c.spoken_to.ensures c.move_into.ensures.left
           (ap (λ r. stepped r c.move_into.new.join.sizes) c.in_ok-move_into.was)
           (ap (λ (n : ℕ). index ! (64 + n - 1)) c.wide-in-loop-word.ensures),
-      (same.0 ∙ before.0, same.1 ∙ before.1),
+      (same.0 ∙ before.0, same.1 ∙ before.1, same.2 ∙ before.2),
     )
 
 pub returns-clause-left : goal.returns-clause-left
