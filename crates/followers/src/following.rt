@@ -6,7 +6,7 @@ ghost use Rattle.followers.specs.Turns.{Following};
 use crate::{Search, Source};
 use definitions::{Fault, wide};
 use growing::Sizes;
-use index::records::{count_of, matrix_of};
+use index::records::matrix_of;
 use index::{Combinations, Follower};
 use matrix::Matrix;
 use metastates::adding::enter;
@@ -37,17 +37,16 @@ pub fn follow(
         index: search.index,
     };
     let rows = listed.rows_for(shifted);
-    let count = count_of(header.half, combinations);
     let width = 2 * wide(header.half) + 1;
     let mut now = source.sizes;
-    let mut number = listed.next_follower(rows, 0, shifted);
-    // No `for`: the index leaps over combinations that cannot follow; their count ends it, as a range ends.
-    while number < count {
+    let mut next = listed.next_follower(rows, 0, shifted);
+    // No `for`: the index leaps over combinations that cannot follow.
+    while let Some(number) = next {
         let own = matrix_of(header.half, combinations, number);
         let met = shifted.meet(own, width).matrix;
         let follower = Follower { number, met };
         now = enter(rules, metastates, arcs, chains, now, source.state, follower)?;
-        number = listed.next_follower(rows, number + 1, shifted);
+        next = listed.next_follower(rows, number + 1, shifted);
     }
     Ok(now)
 }

@@ -1,5 +1,6 @@
 -- The search for the next combination that follows.
-use Rattle.std.specs.Prelude.{List, Bool, ℕ, ◌<◌, length}
+use Rattle.std.specs.Option.{unwrap_or}
+use Rattle.std.specs.Prelude.{Option, IfSome, List, Bool, ℕ, ◌<◌, length}
 use Rattle.definitions.specs.Matrices.{Matrix, valid, meet}
 use Rattle.definitions.specs.Combinations.{Combination}
 use Rattle.definitions.specs.Metastates.{numbered}
@@ -18,3 +19,9 @@ Beyond shifted combinations number next =
 abbrev pub NextFollower : (shifted : Matrix) → List Combination → (from number : ℕ) → Type 0
 NextFollower shifted combinations from number =
     FirstFrom (follows_at shifted combinations) (length combinations) from number
+
+-- the combination that is found, if there is one
+pub record FollowerFound (shifted : Matrix) (combinations : List Combination) (from : ℕ) (found : Option ℕ)
+    : Type 0 where
+  pub next : NextFollower shifted combinations from (unwrap_or found (length combinations))
+  pub some : IfSome found (λ n. n < length combinations)

@@ -1,5 +1,6 @@
 -- Rows of bits that no follower of a matrix is missing from, and the search along them.
-use Rattle.std.specs.Prelude.{◌≡◌, List, true, ℕ, ◌+◌, ◌/◌, ◌%◌, ◌≤◌, ◌<◌, T, length}
+use Rattle.std.specs.Option.{unwrap_or}
+use Rattle.std.specs.Prelude.{Option, IfSome, ◌≡◌, List, true, ℕ, ◌+◌, ◌/◌, ◌%◌, ◌≤◌, ◌<◌, T, length}
 use Rattle.definitions.specs.Combinations.{most_combinations, Combination}
 use Rattle.definitions.specs.PhoneSets.{has}
 use Rattle.definitions.specs.Matrices.{Matrix}
@@ -51,3 +52,8 @@ pub record NextMarked (index : List ℕ) (rows : Rows) (from count next : ℕ) :
   pub after : from ≤ next
   pub within : next ≤ count
   pub passed : (number : ℕ) → from ≤ number → number < next → AllMarked index rows number → ⊥
+
+-- the combination that is found, if there is one
+pub record MarkedFound (index : List ℕ) (rows : Rows) (from count : ℕ) (found : Option ℕ) : Type 0 where
+  pub next : NextMarked index rows from count (unwrap_or found count)
+  pub some : IfSome found (λ n. n < count)

@@ -7,7 +7,7 @@ ghost use Rattle.definitions.specs.PhoneSets.{has};
 ghost use Rattle.matrix.specs.Shapes.{matrix_in};
 ghost use Rattle.index.specs.Combinations.{combinations_in};
 ghost use Rattle.index.specs.Indexing.{IsSet};
-ghost use Rattle.index.specs.Rows.{Admits, Admitting, Near, HasAllSet, AlongRows, NextMarked};
+ghost use Rattle.index.specs.Rows.{Admits, Admitting, Near, HasAllSet, AlongRows, MarkedFound};
 ghost use Rattle.index.specs.Seeking.{Seeking};
 
 use crate::Combinations;
@@ -79,10 +79,10 @@ fn marked_in(index: &[u64], rows: Rows, block: usize) -> u64
         & row_word(index, rows.third + block)
 }
 
-// The first combination, from one on, whose bits are set in all rows, or the number of combinations.
-pub fn next_marked(index: &[u64], rows: Rows, from: usize, count: usize) -> usize
+// The first combination, from one on, whose bits are set in all rows.
+pub fn next_marked(index: &[u64], rows: Rows, from: usize, count: usize) -> Option<usize>
     requires { AlongRows rows from count }
-    ensures { NextMarked index.now rows from count result }
+    ensures { MarkedFound index.now rows from count result }
 {
     let mut number = from;
     // No `for`: whole blocks of combinations are leapt over.
@@ -90,9 +90,10 @@ pub fn next_marked(index: &[u64], rows: Rows, from: usize, count: usize) -> usiz
         let block = number / BLOCK_SIZE;
         let place = (number % BLOCK_SIZE) as u32 + 1;
         if let Some(next) = next_member(marked_in(index, rows, block), place) {
-            return count.min(BLOCK_SIZE * block + wide(next) - 1);
+            let marked = BLOCK_SIZE * block + wide(next) - 1;
+            return if marked < count { Some(marked) } else { None };
         }
         number = count.min(BLOCK_SIZE * (block + 1));
     }
-    number
+    None
 }

@@ -2,7 +2,7 @@
 ghost use Rattle.std.specs.Prelude.{◌≡◌};
 ghost use Rattle.matrix.specs.Shapes.{matrix_in};
 ghost use Rattle.index.specs.Combinations.{combinations_in};
-ghost use Rattle.index.specs.Following.{follows_at, Beyond, NextFollower};
+ghost use Rattle.index.specs.Following.{follows_at, Beyond, FollowerFound};
 ghost use Rattle.index.specs.Seeking.{SeekingFrom, Tried, Failed};
 
 use crate::Combinations;
@@ -45,23 +45,21 @@ impl Combinations<'_> {
         }
     }
 
-    // The first combination from one on that meets a matrix validly, or the number of combinations. Only those in
-    // the rows for the matrix are tried.
-    pub fn next_follower(self, rows: Rows, from: usize, shifted: Matrix) -> usize
+    // The first combination from one on that meets a matrix validly. Only those in the rows for the matrix are tried.
+    pub fn next_follower(self, rows: Rows, from: usize, shifted: Matrix) -> Option<usize>
         requires { SeekingFrom self.header self.words.now self.index.now rows from shifted.columns }
-        ensures { NextFollower (matrix_in self.entry.header.half shifted.columns)
+        ensures { FollowerFound (matrix_in self.entry.header.half shifted.columns)
             (combinations_in self.entry.header self.entry.words.now) from result }
     {
         let count = count_of(self.header.half, self.words);
-        let mut number = next_marked(self.index, rows, from, count);
+        let mut next = next_marked(self.index, rows, from, count);
         // No `for`: combinations that are not marked, and phones not in the centre, are leapt over.
-        while number < count {
+        while let Some(number) = next {
             if self.is_follower(number, shifted) {
-                return number;
+                return Some(number);
             }
-            let next = self.after(number, shifted);
-            number = next_marked(self.index, rows, next, count);
+            next = next_marked(self.index, rows, self.after(number, shifted), count);
         }
-        number
+        None
     }
 }

@@ -8,7 +8,8 @@ ghost use Rattle.turns.specs.Arcs.{AreArcs, Addable, own_of, plain_of};
 
 use crate::appending::add_arcs;
 use crate::{Arcs, Turn};
-use definitions::{ARC_SIZE, Fault, wide};
+use arcs::putting::put_arc;
+use definitions::{Fault, wide};
 use followers::repeating::follow_on;
 use followers::{Expanded, Search};
 use growing::Sizes;
@@ -25,11 +26,13 @@ impl Arcs {
         ensures { (arcs : List Arc) → AreArcs self arcs → AreArcs result (arcs ++ (arc from to model 0 ∷ [])) }
     {
         let mut words = self.words;
-        let at = ARC_SIZE * self.count;
-        words[at] = from as u32;
-        words[at + 1] = to as u32;
-        words[at + 2] = model;
-        words[at + 3] = 0;
+        let arc = arcs::Arc {
+            from: from as u32,
+            to: to as u32,
+            model,
+            phone: 0,
+        };
+        put_arc(&mut words, self.count, arc);
         Arcs {
             count: self.count + 1,
             words,

@@ -1,7 +1,8 @@
 -- Laws about the rows for a matrix: no follower is missing from them, and the search along them passes none.
 -- The idea: where a column of the matrix has one phone alone, a combination that follows has that phone in
 -- that column, so its bit is set.
-use Rattle.std.specs.Prelude.{if◌then◌else◌, ◌≡◌, refl, List, Bool, true, false, ℕ, ◌+◌, ◌-◌, ◌*◌, ◌/◌, ◌%◌, ◌≤◌, ◌<◌, T, leb, ltb, length, drop}
+use Rattle.std.specs.Option.{unwrap_or}
+use Rattle.std.specs.Prelude.{Option, Some, None, IfSome, if◌then◌else◌, ◌≡◌, refl, List, Bool, true, false, ℕ, ◌+◌, ◌-◌, ◌*◌, ◌/◌, ◌%◌, ◌≤◌, ◌<◌, T, leb, ltb, length, drop}
 use Rattle.std.proofs.Common.{sym, ap, ◌∙◌, subst, arith, eqb→eq, get_or-take, ltb-true, ltb-false, leb-true, lt-ltb, le-leb}
 use Rattle.std.specs.Int.Bits.{bit_and}
 use Rattle.definitions.specs.declared.Header.{Header}
@@ -14,6 +15,7 @@ use Rattle.definitions.proofs.Laws.Matrices.PhoneSets.{has-and, has-alone, has_a
 use Rattle.definitions.proofs.Laws.Matrices.Matrices.{valid-columns, meet-has, meet-length}
 use Rattle.definitions.specs.Metastates.{numbered}
 use Rattle.definitions.specs.Searching.{NoneFrom}
+use Rattle.definitions.proofs.Laws.Lists.Searching.{none_more, none_found, none-all}
 use Rattle.definitions.proofs.Laws.Matrices.SevenWords.{words_take}
 use Rattle.matrix.specs.Shapes.{width_of, matrix_in}
 use Rattle.matrix.specs.Laws.Widths.{width-taken}
@@ -21,9 +23,9 @@ use Rattle.matrix.specs.Laws.Words.{seven_at}
 use Rattle.index.specs.declared.rows.Rows.{Rows}
 use Rattle.index.specs.Combinations.{combinations_in}
 use Rattle.index.specs.RecordWords.{record_of, column_word}
-use Rattle.index.specs.Following.{follows_at}
+use Rattle.index.specs.Following.{follows_at, Beyond, FollowerFound}
 use Rattle.index.specs.Indexing.{block_size, blocks_in, row_at, farthest, IsMarked, NextMember}
-use Rattle.index.specs.Rows.{Admits, Admitting, Near, AllSet, AllMarked, HasAllSet, NextMarked}
+use Rattle.index.specs.Rows.{Admits, Admitting, Near, AllSet, AllMarked, HasAllSet, NextMarked, MarkedFound}
 use Rattle.index.specs.Seeking.{Seeking}
 use Rattle.index.specs.Laws.RecordWords.{matrix-word}
 use Rattle.index.specs.Laws.Followers.{narrow}
@@ -174,3 +176,43 @@ marked-none {shifted} {cs} a e n =
           })))
           (λ t. t);
     }
+
+-- the next to try, if there is one: none before it follows
+pub record Ahead (shifted : Matrix) (cs : List Combination) (from : ℕ) (next : Option ℕ) : Type 0 where
+  pub none : NoneFrom (follows_at shifted cs) (length cs) from (unwrap_or next (length cs))
+  pub some : IfSome next (λ n. n < length cs)
+
+pub ahead-marked : {shifted : Matrix} {cs : List Combination} {index : List ℕ} {rows : Rows}
+    {from count : ℕ} {next : Option ℕ}
+    → Admitting shifted cs index rows → count ≡ length cs → MarkedFound index rows from count next
+    → Ahead shifted cs from next
+ahead-marked {shifted} {cs} {from = from} {next = next} a e m =
+    record {
+      none =
+          subst (λ (k : ℕ). NoneFrom (follows_at shifted cs) (length cs) from (unwrap_or next k)) e
+          (marked-none a e m.next);
+      some = subst (λ (k : ℕ). IfSome next (λ n. n < k)) e m.some;
+    }
+
+module _ {shifted : Matrix} {cs : List Combination} {from number : ℕ} {next : Option ℕ}
+    (e : next ≡ Some number) (h : Ahead shifted cs from next)
+  where
+    here : Ahead shifted cs from (Some number)
+    here = subst (λ (n : Option ℕ). Ahead shifted cs from n) e h
+
+    pub ahead-listed : number < length cs
+    ahead-listed = here.some
+
+    pub ahead-found : follows_at shifted cs number ≡ true → FollowerFound shifted cs from (Some number)
+    ahead-found f = record { next = none_found here.none f; some = here.some }
+
+    pub ahead-more : {past : ℕ} {other : Option ℕ} → Beyond shifted cs number past
+        → Ahead shifted cs past other → Ahead shifted cs from other
+    ahead-more b later =
+        record { none = none_more (none_more here.none b.1) later.none; some = later.some }
+
+pub ahead-none : {shifted : Matrix} {cs : List Combination} {from : ℕ} {next : Option ℕ}
+    → next ≡ None → Ahead shifted cs from next → FollowerFound shifted cs from None
+ahead-none {shifted} {cs} {from} e h =
+    let none = subst (λ (n : Option ℕ). Ahead shifted cs from n) e h in
+    record { next = none-all none.none (omega arith); some = tt }

@@ -1,10 +1,9 @@
 -- Laws about arcs as words, up to three: one arc more, and a metastate's own arcs one by one.
-use Rattle.std.specs.Prelude.{◌≡◌, length, set, take, drop}
+use Rattle.std.specs.Prelude.{◌≡◌, length, take, drop}
 use Rattle.std.proofs.Math.Path.{refl}
 use Rattle.std.proofs.Common.{sym, ap, ap₂, ◌∙◌, subst, add-zero, add-one, arith, length-append, length-drop, length-take-le, take_at, get_or-drop, ext_get_or}
 use mathlib.Core.List.{List, [], ◌∷◌, ◌++◌, map, map-append}
 use Prim.Native.Nat.{ℕ, suc, ◌+◌, ◌-◌, ◌*◌, ◌≤◌, ◌<◌}
-use Rattle.std.proofs.lemmas.List.Edits.{sets-eq}
 use Rattle.definitions.specs.declared.Header.{Header}
 use Rattle.definitions.specs.Lists.{◌!◌, concat_map, up_from}
 use Rattle.definitions.specs.Arcs.{Arc, arc, arc_words, first_state}
@@ -14,6 +13,7 @@ use Rattle.definitions.specs.Metastates.{Metastate, models_of}
 use Rattle.definitions.specs.Tables.{node_of}
 use Rattle.definitions.proofs.Laws.Lists.Lists.{concat_map-snoc, up_from-snoc, map-up_from-length, map-up_from-at}
 use Rattle.definitions.proofs.Laws.Books.AcceptedKnown.{header-ranges}
+use Rattle.lines.specs.Putting.{put_at}
 use Rattle.index.specs.Combinations.{combinations_in, nodes_book, Usable}
 use Rattle.index.specs.RecordWords.{model_word}
 use Rattle.index.specs.Laws.RecordWords.{leaf-word, models_length, model-word}
@@ -23,41 +23,29 @@ use Rattle.turns.specs.Arcs.{AreArcs}
 
 -- ---- one arc more
 
--- four words stored at a place, and what stands before them
-four-stored : (words : List ℕ) (at a b c d : ℕ) → at + 4 ≤ length words
-    → take (at + 4) (set (set (set (set words at a) (at + 1) b) (at + 2) c) (at + 3) d)
-    ≡ take at words ++ (a ∷ b ∷ c ∷ d ∷ [])
-four-stored words at a b c d h =
-    let new : List ℕ = a ∷ b ∷ c ∷ d ∷ [] in
-    let two : at + 2 ≡ suc (suc at) = omega arith in
-    let three : at + 3 ≡ suc (suc (suc at)) = omega arith in
-    let before : length (take at words) ≡ at = length-take-le at words (omega arith) in
-    rw (add-one, two, three)
-    (ap (λ (l : List ℕ). take (at + 4) l) (sets-eq new words at h)
-    ∙ take_at (take at words ++ new) (drop (at + 4) words) (at + 4)
-    (length-append (take at words) new ∙ ap (λ (n : ℕ). n + 4) before))
+-- words put at a place, and what stands before them
+put-taken : (words : List ℕ) (at : ℕ) (new : List ℕ) → at ≤ length words
+    → take (at + length new) (put_at at new words) ≡ take at words ++ new
+unfolding put_at
+put-taken words at new h =
+    let before : length (take at words) ≡ at = length-take-le at words h in
+    take_at (take at words ++ new) (drop (at + length new) words) (at + length new)
+    (length-append (take at words) new ∙ ap (λ (n : ℕ). n + length new) before)
 
--- the words of an arc stored after the others
-abbrev pub stored_arc : (words : List ℕ) → (at from to model : ℕ) → List ℕ
-stored_arc words at from to model =
-    set (set (set (set words at from) (at + 1) to) (at + 2) model) (at + 3) 0
-
-pub arc-stored : (new : Arcs) (arcs : List Arc) (from to model : ℕ)
-    → length new.words ≡ 12 → new.count < 3 → AreArcs new arcs
-    → AreArcs (record {
-      count = new.count + 1;
-      words = stored_arc new.words (4 * new.count) from to model;
-    })
-    (arcs ++ (arc from to model 0 ∷ []))
+-- the words of an arc put after the others
+pub arc-stored : (new : Arcs) (arcs : List Arc) (from to model : ℕ) {words : List ℕ}
+    → length new.words ≡ 12 → new.count < 3 → words ≡ put_at (4 * new.count) (arc_words (arc from to model 0)) new.words
+    → AreArcs new arcs
+    → AreArcs (record { count = new.count + 1; words = words }) (arcs ++ (arc from to model 0 ∷ []))
 unfolding arc_words
-arc-stored new arcs from to model sized few are =
+arc-stored new arcs from to model sized few put are =
     let at : ℕ = 4 * new.count in
     let end : 4 * (new.count + 1) ≡ at + 4 = omega arith in
     record {
       counted = ap (λ (n : ℕ). n + 1) are.counted ∙ sym (length-append arcs (arc from to model 0 ∷ []));
       worded =
-          ap (λ (n : ℕ). take n (stored_arc new.words at from to model)) end
-          ∙ four-stored new.words at from to model 0 (omega arith)
+          ap₂ (λ (n : ℕ) (l : List ℕ). take n l) end put
+          ∙ put-taken new.words at (arc_words (arc from to model 0)) (omega arith)
           ∙ ap (λ (l : List ℕ). l ++ arc_words (arc from to model 0)) are.worded
           ∙ sym (concat_map-snoc arc_words arcs (arc from to model 0));
     }

@@ -12,13 +12,6 @@ pub marked_in-requires : goal.marked_in-requires
 marked_in-requires c =
     (c.requires.near, omega (arith, c.loop-number-test.true, c.requires.few))
 
-pub returns-in-Some : goal.returns-in-Some
-returns-in-Some c =
-    marked_next c.loop-number.invariant refl refl c.marked_in.ensures c.in-Some.ensures.next _
-    (omega (arith, c.min.ensures))
-    (omega (arith, c.loop-number-test.true, c.in-Some.ensures.next.after, c.wide.ensures, c.min.ensures))
-    (omega (arith, c.wide.ensures, c.min.ensures))
-
 pub loop-number-preserved : goal.loop-number-preserved
 loop-number-preserved c =
     marked_next c.loop-number.invariant refl refl c.marked_in.ensures c.in_default.ensures.next _
