@@ -30,7 +30,7 @@ impl Tables<'_> {
     }
 
     // Reads all lines into cleared tables. Where a line is refused, the tables hold what was read before it.
-    fn read(&mut self, text: &[u8]) -> Result<Header, Refusal>
+    fn read_lines(&mut self, text: &[u8]) -> Result<Header, Refusal>
         requires { Cleared self.old.nodes.now self.old.classes.now self.old.roots.now self.old.plains.now }
         ensures same { SameLent self.new self.old }
         ensures answer { result ≡ result_of header_of (read_book (lengths_in self.old) text.now) }
@@ -79,7 +79,7 @@ pub fn read(
         plains,
     };
     tables.clear();
-    let answer = tables.read(text);
+    let answer = tables.read_lines(text);
     if answer.is_err() {
         tables.clear();
     }

@@ -40,7 +40,7 @@ fn build_read(
         (lent_tables nodes.old classes.old roots.old plains.old)
         (lent_space combinations.old metastates.old arcs.old) limit }
 {
-    match build(
+    let built = build(
         header,
         nodes,
         classes,
@@ -50,16 +50,14 @@ fn build_read(
         metastates,
         arcs,
         limit,
-    ) {
-        Ok(built) => Ok(built),
-        Err(refusal) => {
-            nodes.fill(0);
-            classes.fill(0);
-            roots.fill(0);
-            plains.fill(0);
-            Err(refusal)
-        }
+    );
+    if built.is_err() {
+        nodes.fill(0);
+        classes.fill(0);
+        roots.fill(0);
+        plains.fill(0);
     }
+    built
 }
 
 // Reads a book and builds its network.

@@ -13,12 +13,10 @@ use std::io;
 
 // Shows the books of a text, one after the other, the first one also in space of several sizes.
 fn show_all(rt: &impl Print, input: &[u8]) -> io::Result<()> {
-    let mut first = true;
-    for Titled { title, text } in Texts(input.get(1..).unwrap_or(&[])) {
+    for (i, Titled { title, text }) in Texts(input.get(1..).unwrap_or(&[])).enumerate() {
         show_case(rt, title, text)?;
-        if first {
+        if i == 0 {
             show_sizes(rt, text)?;
-            first = false;
         }
     }
     Ok(())

@@ -10,12 +10,7 @@ fn place(text: &[u8], byte: u8) -> usize
     ensures within { result ≤ length text.now }
     ensures found { result ≡ place_of byte text.now }
 {
-    for (i, b) in text.iter().enumerate() {
-        if *b == byte {
-            return i;
-        }
-    }
-    text.len()
+    text.iter().position(|b| *b == byte).unwrap_or(text.len())
 }
 
 // Its title.

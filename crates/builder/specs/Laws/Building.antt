@@ -4,7 +4,7 @@
 use Rattle.std.specs.Prelude.{◌≡◌, List, ℕ, T, length, Result, Ok, Err}
 use Rattle.std.specs.Result.{is_ok}
 use Rattle.std.proofs.Math.Path.{refl, ap}
-use Rattle.std.proofs.Common.{sym, ◌∙◌, subst, arith}
+use Rattle.std.proofs.Common.{sym, ◌∙◌, subst}
 use Rattle.definitions.specs.declared.Refusal.{Refusal}
 use Rattle.definitions.specs.declared.Header.{Header}
 use Rattle.definitions.specs.Lists.{cleared}
@@ -22,7 +22,6 @@ use Rattle.definitions.proofs.Demand.Demand.{demand3}
 use Rattle.definitions.proofs.Demand.Endings.{finished-final}
 use Rattle.network.specs.declared.Totals.{Totals}
 use Rattle.network.specs.declared.Build.{Build}
-use Rattle.network.specs.declared.Build.TheVariants as build
 use Rattle.network.specs.Answers.{totals_of, build_of, lent_buffers, build_answer, build_left}
 use Rattle.builder.specs.Answers.{book_answer, WhereFinished, MeetsDemand3, KeepsFinalLast}
 use Rattle.builder.specs.Tables.{tables_kept}

@@ -3,7 +3,6 @@ use Rattle.std.specs.Prelude.{◌≡◌, refl, Result}
 use Rattle.std.proofs.Common.{ap, ◌∙◌}
 use Rattle.definitions.specs.declared.Refusal.{Refusal}
 use Rattle.definitions.specs.Faults.{Outcome, answered, refused}
-use Rattle.definitions.specs.Growing.{finished, stopped}
 use Rattle.definitions.specs.BookBuilding.{BookBuilt}
 use Rattle.definitions.specs.Said.{result_of, said_of, no_progress, book_progress}
 use Rattle.network.specs.declared.Build.{Build}

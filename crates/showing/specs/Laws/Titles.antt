@@ -1,29 +1,26 @@
--- Laws about finding a byte from any place on, and about cutting a text out below its title.
-use Rattle.std.specs.Prelude.{◌≡◌, List, [], ℕ, ◌+◌, ◌-◌, ◌≤◌, ◌<◌, take, drop}
-use Rattle.std.proofs.Math.Path.{sym}
-use Rattle.std.proofs.Common.{◌∙◌, add-one, drop_of_length-le, length-take, length-drop, drop-cons, take_all}
+-- Laws about finding a byte, and about cutting a text out below its title.
+use Rattle.std.specs.Prelude.{◌≡◌, List, [], ℕ, Option, MatchOption, unwrap_or, ◌+◌, ◌-◌, ◌≤◌, ◌<◌, take, drop}
+use Rattle.std.specs.List.{AllWithin, HoldsAt}
+use Rattle.std.proofs.lemmas.Iterator.{index_from_first}
+use borrow.Author.Tests.{eq-eqb, ne_eqb}
+use Rattle.std.proofs.Math.Path.{sym, refl}
+use Rattle.std.proofs.Common.{◌∙◌, add-one, drop_of_length-le, length-take, length-drop, take_all}
 use native.Mathlib.Omega.{arith}
 use Rattle.std.proofs.Math.ListN.{length}
-use borrow.Author.Tests.{eq-eqb, ne_eqb}
-use Rattle.definitions.specs.Lists.{◌!◌}
 use Rattle.definitions.proofs.Laws.Lists.Lists.{drop-take}
 use Rattle.showing.specs.Titles.{place_of, title_of, end_of, text_of}
 
 -- ---- finding a byte
 
-module _ (text : List ℕ) (byte i : ℕ) where
-  pub byte-passed : i < length text → (text ! i ≡ byte → ⊥)
-      → i + place_of byte (drop i text) ≡ i + 1 + place_of byte (drop (i + 1) text)
-  unfolding place_of
-  byte-passed h e = rw (drop-cons text i 0 h, ne_eqb _ _ e, add-one) (omega arith)
-
-  pub byte-found : i < length text → text ! i ≡ byte → i ≡ i + place_of byte (drop i text)
-  unfolding place_of
-  byte-found h e = rw (drop-cons text i 0 h, eq-eqb _ _ e) (omega arith)
-
-  pub bytes-end : length text ≤ i → i ≡ i + place_of byte (drop i text)
-  unfolding place_of
-  bytes-end h = rw (drop_of_length-le text {i = i} h) (omega arith)
+-- its place, as the library's `position` says it
+pub place-first : (byte : ℕ) (text : List ℕ) (r : Option ℕ)
+    → MatchOption r (AllWithin (λ y. y ≡ byte → ⊥) text 0 (length text))
+    (λ i. (i < length text) × HoldsAt (λ y. y ≡ byte) text i × AllWithin (λ y. y ≡ byte → ⊥) text 0 i)
+    → place_of byte text ≡ unwrap_or r (length text)
+unfolding place_of
+place-first byte =
+    index_from_first (λ l. place_of byte l) (λ y. y ≡ byte) (λ y. y ≡ byte → ⊥) refl
+    (λ x xs e. rw (eq-eqb x byte e)) (λ x xs n. rw (ne_eqb x byte n, add-one))
 
 -- ---- cutting out a title and what stands below it
 

@@ -1,7 +1,7 @@
--- `Tables::read` meets its contract. The loop's invariant: the first `i` lines were taken, into the lent tables.
+-- `Tables::read_lines` meets its contract. The loop's invariant: the first `i` lines were taken, into the lent tables.
 use Rattle.book.specs.Tables.{lengths_in, SameLent}
 use Rattle.book.specs.Laws.Reading.{Turn}
-use Rattle.book.proofs.Tables.read.Given as goal
+use Rattle.book.proofs.Tables.read_lines.Given as goal
 
 abbrev pub invariant-loop-i : goal.invariant-loop-i
 invariant-loop-i l = record {

@@ -1,11 +1,11 @@
--- `Tables::read` meets its contract. The loop's invariant: the first `i` lines were taken.
+-- `Tables::read_lines` meets its contract. The loop's invariant: the first `i` lines were taken.
 use Rattle.std.proofs.Common.{ap, sym, ◌∙◌, arith, Err}
 use Rattle.definitions.specs.declared.Refusal.{Refusal}
 use Rattle.lines.specs.Laws.Judging.{next-bytes}
 use Rattle.book.specs.Laws.Reading.{first-turn, turn-ready, turn-endable, turn-next, torn-returns}
 use Rattle.book.specs.Laws.Reading.{stop-returns, end_returns}
 use Rattle.book.specs.Tables.{same-itself, same-further}
-use Rattle.book.proofs.Tables.read.Goals as goal
+use Rattle.book.proofs.Tables.read_lines.Goals as goal
 
 pub returns-then-not-whole_lines : goal.returns-then-not-whole_lines
 returns-then-not-whole_lines c =
