@@ -10,22 +10,15 @@ ghost use Rattle.arcs.specs.Arc.{the_arc};
 use crate::Arc;
 use crate::putting::arc_at;
 use definitions::{ARC_SIZE, Counts, MOST_MODEL, MOST_PHONE, wide};
+use lines::Letters;
 use lines::ranges::in_fixed_ranges;
-use lines::{Letters, Row};
 use tables::holding::holds_only;
 
 // Counts that a W line states.
 fn counts_known(counts: Counts) -> bool
     ensures { result ≡ in_ranges form_w.fields (counts.states ∷ counts.metastates ∷ counts.arcs ∷ []) }
 {
-    in_fixed_ranges(
-        Letters::Network,
-        Row {
-            letter: b'W',
-            used: 3,
-            numbers: [counts.states, counts.metastates, counts.arcs, 0, 0],
-        },
-    )
+    in_fixed_ranges(Letters::Network, counts.into())
 }
 
 // Whether the network has a state.

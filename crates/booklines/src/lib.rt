@@ -46,6 +46,7 @@ pub enum Entry {
 // which says what is kept of any lines, has also headers without states.
 #[derive(Clone, Copy, PartialEq, Eq)]
 pub struct State {
+    // Header and lines are 0 before the H line, as `state_of` of specs/States.antt has them: no Option.
     pub lines: usize,
     pub header: Header,
     // What the last Q line says.

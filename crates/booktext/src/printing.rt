@@ -10,7 +10,6 @@ use crate::nodes::put_nodes;
 use crate::putting::put_line;
 use crate::roots::put_roots;
 use definitions::Header;
-use lines::Row;
 
 // Writes the lines of a book with its header, where there is room. Answers how many there are.
 // The lent slices stay apart, as C lends them to the entry.
@@ -27,18 +26,7 @@ pub fn put_book(
     ensures { Put (book_lines header nodes.now sets.now roots.now plains.now)
         text.old 0 text.new result }
 {
-    let row = Row {
-        letter: b'H',
-        used: 5,
-        numbers: [
-            header.half,
-            header.states,
-            header.phones,
-            header.classes,
-            header.nodes,
-        ],
-    };
-    let heading = put_line(row, text, 0);
+    let heading = put_line(header.into(), text, 0);
     let members = put_classes(header.phones, sets, text, heading);
     let all_nodes = put_nodes(header.nodes, nodes, text, members);
     let boundaries = put_boundaries(plains, text, all_nodes);

@@ -8,6 +8,7 @@ use lines::Row;
 use writing::writing::write as write_line;
 
 // Writes a row as the next line, where there is room. Answers how many lines there are then.
+// Text and count stay apart: a struct that holds the text would say in each contract that it still does.
 pub fn put_line(row: Row, text: &mut [u8], count: usize) -> usize
     requires { (row.used ≤ 5) × Countable (line_in row ∷ []) count }
     ensures { Put (line_in row ∷ []) text.old count text.new result }

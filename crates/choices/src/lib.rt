@@ -9,6 +9,7 @@ use matrix::Matrix;
 #[derive(Clone, Copy)]
 pub struct Choice {
     pub phone: u32,
+    // No heap: three places for leaves, and how many of them are taken.
     pub taken: usize,
     pub leaves: [u64; 3],
     pub matrix: Matrix,

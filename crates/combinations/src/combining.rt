@@ -30,6 +30,7 @@ const SHORT_LIST: usize = LEAF_SIZE * FEW_NODES;
 const LONG_LIST: usize = LEAF_SIZE * MOST_NODES;
 
 // Adds the combinations of a phone.
+// The working lists stay apart: `choose` takes them one place on at each call.
 fn choose_phone(
     trees: Trees,
     phone: u32,

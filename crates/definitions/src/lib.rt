@@ -25,6 +25,7 @@ pub const JOINED_SIZE: usize = 3;
 pub const MOST_NODES: usize = 4096;
 
 // What stands for a root that no R line gives.
+// In lent tables, as C sees them, a root is a word: no Option.
 pub const NO_ROOT: u32 = 4096;
 
 pub const MOST_COMBINATIONS: usize = 65535;

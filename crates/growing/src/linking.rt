@@ -13,6 +13,7 @@ pub fn head_of(heads: usize, key: usize) -> usize
 }
 
 // Puts the element that stands at a place, with this key, at the front of its chain.
+// No map of the library: it takes heap, and chains stand in lent words and arrays.
 pub fn link(chains: &mut [u32], place: usize, key: usize)
     requires { (place < heads_in chains.old) × (place < 4294967295) }
     ensures { chains.new ≡ linked_to (heads_in chains.old) chains.old place key }

@@ -93,6 +93,7 @@ fn join_with(
 
 // Joins into cleared space. Space for fewer than 4096 joined states gets short tables, so that a small join clears few
 // words.
+// Two sizes by hand: a function over both sizes would be as long as the two blocks.
 pub fn join_known(
     arcs: &[u32],
     words: &[u32],

@@ -1,7 +1,10 @@
 -- What a row of the code means: the line of document 01 that it holds, and what the parser answers.
-use Rattle.std.specs.Prelude.{List, [], length, take, Option, Some, None, unwrap_or}
+use Rattle.std.specs.Prelude.{List, [], ◌∷◌, length, take, Option, Some, None, unwrap_or}
 use Rattle.std.proofs.Math.Option as maths
 use Rattle.std.proofs.Math.Option.{none, some}
+use Prim.Native.Char.{code}
+use Rattle.definitions.specs.declared.Header.{Header}
+use Rattle.definitions.specs.declared.Counts.{Counts}
 use Rattle.definitions.specs.Lists.{padded}
 use Rattle.definitions.specs.Forms.{Form, book_forms, network_forms, word_forms}
 use Rattle.definitions.specs.Lines.{Line, Field, blank, malformed, number}
@@ -31,6 +34,15 @@ line_in row = record { letter = row.letter; numbers = take row.used row.numbers 
 unfoldable pub row_of : Line → Row
 row_of line =
     record { letter = line.letter; used = length line.numbers; numbers = padded 5 line.numbers }
+
+-- the rows of an H line and of a W line
+abbrev pub header_row : Header → Row
+header_row h =
+    record { letter = code "H"; used = 5; numbers = h.half ∷ h.states ∷ h.phones ∷ h.classes ∷ h.nodes ∷ [] }
+
+abbrev pub counts_row : Counts → Row
+counts_row c =
+    record { letter = code "W"; used = 3; numbers = c.states ∷ c.metastates ∷ c.arcs ∷ 0 ∷ 0 ∷ [] }
 
 -- an option of the definitions as one of the code
 unfoldable pub option_of : {A B : Type 0} → (A → B) → maths.Option A → Option B

@@ -9,6 +9,11 @@ pub mod parsing;
 pub mod ranges;
 pub mod texts;
 
+ghost use Rattle.std.specs.Prelude.{◌≡◌};
+ghost use Rattle.lines.specs.Rows.{header_row, counts_row};
+
+use definitions::{Counts, Header};
+
 // The letters that a kind of text has.
 #[derive(Clone, Copy, PartialEq, Eq)]
 pub enum Letters {
@@ -24,6 +29,38 @@ pub struct Row {
     // No heap: five numbers, and how many of them are the line's.
     pub used: usize,
     pub numbers: [u32; 5],
+}
+
+// The row of an H line.
+impl From<Header> for Row {
+    ghost from_gives = { λ header row. row ≡ header_row header };
+
+    fn from(header: Header) -> Row {
+        Row {
+            letter: b'H',
+            used: 5,
+            numbers: [
+                header.half,
+                header.states,
+                header.phones,
+                header.classes,
+                header.nodes,
+            ],
+        }
+    }
+}
+
+// The row of a W line.
+impl From<Counts> for Row {
+    ghost from_gives = { λ counts row. row ≡ counts_row counts };
+
+    fn from(counts: Counts) -> Row {
+        Row {
+            letter: b'W',
+            used: 3,
+            numbers: [counts.states, counts.metastates, counts.arcs, 0, 0],
+        }
+    }
 }
 
 // One field of six bytes.

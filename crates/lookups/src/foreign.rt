@@ -104,6 +104,7 @@ fn show_short(rt: &impl Print, lent: Lent) -> io::Result<()> {
 
 // How often a node is named is not judged by a lookup: the last of these is foreign to a transcription alone, where
 // node 1 is a question.
+// One table is lent to be changed, so these four take the tables apart.
 fn show_nodes(
     rt: &impl Print,
     header: Header,

@@ -25,5 +25,6 @@ struct State {
     counts: Counts,
     arcs: usize,
     // The source of the last arc, 0 before the first.
+    // No Option: a source is only tested not to be less than it, and none is less than 0.
     last: u32,
 }

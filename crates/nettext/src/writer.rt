@@ -22,11 +22,7 @@ use writing::writing::write as write_line;
 fn counts_row(counts: Counts) -> Row
     ensures { line_in result ≡ line_of_counts counts }
 {
-    Row {
-        letter: b'W',
-        used: 3,
-        numbers: [counts.states, counts.metastates, counts.arcs, 0, 0],
-    }
+    counts.into()
 }
 
 // The A line of an arc.

@@ -11,6 +11,7 @@ use tables::classes::set_of;
 use tables::records::node_at;
 
 // Notes the set of a class after those that were noted, unless it is one of them. Answers how many are noted.
+// Sets and their count stay apart: the caller cuts the sets by the count that it is answered.
 fn note_set(classes: &[u64], class: u32, sets: &mut [u64], used: usize) -> usize
     requires { used < length sets.old }
     ensures { Collected sets.old used ((classes.now ! (class - 1)) ∷ []) result sets.new }

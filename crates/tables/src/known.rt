@@ -10,27 +10,14 @@ use crate::nodes::nodes_known;
 use crate::phones::{plain_known, roots_given};
 use crate::records::{node_at, word_at};
 use definitions::{Header, NODE_SIZE, wide};
+use lines::Letters;
 use lines::ranges::in_fixed_ranges;
-use lines::{Letters, Row};
 
 // A header that an H line states.
 pub fn header_known(header: Header) -> bool
     ensures { result ≡ header_known header }
 {
-    in_fixed_ranges(
-        Letters::Book,
-        Row {
-            letter: b'H',
-            used: 5,
-            numbers: [
-                header.half,
-                header.states,
-                header.phones,
-                header.classes,
-                header.nodes,
-            ],
-        },
-    )
+    in_fixed_ranges(Letters::Book, header.into())
 }
 
 // Records that N and L lines leave, and nothing beyond them.

@@ -5,4 +5,4 @@ use Rattle.arcs.proofs.known.counts_known.Goals as goal
 
 pub returns : goal.returns
 unfolding in_fixed_ranges form_of line_in
-returns c = c.in_fixed_ranges.ensures
+returns c = rw c.into.ensures at c.in_fixed_ranges.ensures

@@ -55,5 +55,5 @@ unfolding book_line_for line_in
 returns c =
     let a = c.args in
     put_same (book-parts a.header a.nodes.now a.sets.now a.roots.now a.plains.now)
-    (put_then (put_then (put_then (put_then c.put_line-heading.ensures c.put_classes-members.ensures)
+    (put_then (put_then (put_then (put_then (rw c.into.ensures at c.put_line-heading.ensures) c.put_classes-members.ensures)
     c.put_nodes-all_nodes.ensures) c.put_boundaries-boundaries.ensures) c.put_roots.ensures)

@@ -6,4 +6,4 @@ use Rattle.tables.proofs.known.header_known.Goals as goal
 
 pub returns : goal.returns
 unfolding in_fixed_ranges form_of header_known line_in
-returns c = c.in_fixed_ranges.ensures
+returns c = rw c.into.ensures at c.in_fixed_ranges.ensures
