@@ -44,6 +44,7 @@ pub fn expand(
     let wants = wanted(known.words, mark);
     let arcs = network.arcs;
     let mut from = arcs_before(arcs, network.starts, wide(x.state));
+    // No `for`: arcs that lead nowhere are leapt over.
     while let Some(at) = next_arc(arcs, from, x.state, wants) {
         let hop = Hop {
             from: place as u32,

@@ -1,6 +1,6 @@
 // One network text: what reading answers and leaves, and the network written again.
 use crate::ARC_WORDS;
-use crate::written::{show_again, show_foreign};
+use crate::written::{Network, show_again, show_foreign};
 use definitions::Counts;
 use nettext::reader::read;
 use showing::printing::print_used;
@@ -27,7 +27,11 @@ pub fn show_text(rt: &impl Print, title: &[u8], text: &[u8]) -> io::Result<()> {
             show_counts(rt, counts)?;
             print!(rt; "  arcs")?;
             print_used(rt, &arcs)?;
-            show_again(rt, counts, &arcs, text)?;
+            let network = Network {
+                counts,
+                arcs: &arcs,
+            };
+            show_again(rt, network, text)?;
             show_foreign(rt, counts, &arcs)
         }
         Err(refusal) => {
