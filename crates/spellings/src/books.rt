@@ -10,7 +10,7 @@ use transcripts::transcription::transcribe;
 
 impl Book {
     // Reads a book into tables where something stood before.
-    pub fn read(text: &[u8]) -> Result<Book, Refusal> {
+    pub(crate) fn read(text: &[u8]) -> Result<Book, Refusal> {
         let mut nodes = [7u32; 62];
         let mut classes = [7u64; 9];
         let mut roots = [7u32; 7];
@@ -26,7 +26,7 @@ impl Book {
     }
 
     // Writes its plain form; answers how many bytes that has.
-    pub fn write(&self, text: &mut [u8]) -> Result<usize, Refusal> {
+    pub(crate) fn write(&self, text: &mut [u8]) -> Result<usize, Refusal> {
         write(
             self.header,
             &self.nodes,
