@@ -13,7 +13,7 @@ use Rattle.writing.specs.Writing.{last_byte, leading}
 
 -- ---- a number's bytes, from the right
 
-last-digit : (rest : ℕ) → (rest ≡ 0 → ⊥) → 48 + rest % 10 ≡ last_byte rest
+pub last-digit : (rest : ℕ) → (rest ≡ 0 → ⊥) → 48 + rest % 10 ≡ last_byte rest
 last-digit rest h = rw (ne_eqb rest 0 h)
 
 leading-none : (k : ℕ) → leading k 0 ≡ replicate k space

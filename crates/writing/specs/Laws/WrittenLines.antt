@@ -142,7 +142,7 @@ part-put width i text d bytes part h e f =
 -- ---- a line
 
 -- what is lent for the five fields
-middle-length : (bytes : List ℕ) (v : ℕ) → 32 ≤ length bytes
+pub middle-length : (bytes : List ℕ) (v : ℕ) → 32 ≤ length bytes
     → length (take 30 (drop 1 (set bytes 0 v))) ≡ 30
 middle-length bytes v h =
     length-take-le 30 (drop 1 (set bytes 0 v)) (simp (length-drop, length-set) (omega arith))
