@@ -15,17 +15,26 @@ pub fn word_at(words: &[u32], place: usize) -> u32
     words.get(place).copied().unwrap_or(0)
 }
 
-// The record of a node, whose words are 0 beyond the table.
+// The record of a node, whose words are 0 beyond the table. Where all five are there, one test of the length serves.
+#[tactic(auto, unfolding(definitions::specs::Tables::node_of))]
 pub fn node_at(words: &[u32], node: u32) -> Node
     ensures { result ≡ node_of (drop (node_size * node) words.now) }
 {
-    let at = NODE_SIZE * (node as usize);
-    Node {
-        kind: word_at(words, at),
-        value: word_at(words, at + 1),
-        position: word_at(words, at + 2),
-        yes: word_at(words, at + 3),
-        no: word_at(words, at + 4),
+    match words.get(NODE_SIZE * wide(node)..).unwrap_or(&[]) {
+        [kind, value, position, yes, no, ..] => Node {
+            kind: *kind,
+            value: *value,
+            position: *position,
+            yes: *yes,
+            no: *no,
+        },
+        part => Node {
+            kind: word_at(part, 0),
+            value: word_at(part, 1),
+            position: word_at(part, 2),
+            yes: word_at(part, 3),
+            no: word_at(part, 4),
+        },
     }
 }
 
