@@ -47,7 +47,8 @@ impl<'t> LentTrees<'t> {
     fn number_root(&self, root: u32, sets: &[u64], table: &mut [u32], at: u32) -> u32
         requires { Listed self.now.header (root ∷ [])
             × Numberable sets.now at
-            (length (all_nodes sets.now at (there_in self.now.header self.now.nodes.now self.now.classes.now (root ∷ []))))
+            (length (all_nodes sets.now at
+            (there_in self.now.header self.now.nodes.now self.now.classes.now (root ∷ []))))
             table.old }
         ensures { NumberedTrees sets.now at
             (there_in self.now.header self.now.nodes.now self.now.classes.now (root ∷ []))
@@ -65,7 +66,8 @@ impl<'t> LentTrees<'t> {
     pub fn number_all(&self, roots: &[u32], sets: &[u64], table: &mut [u32], starts: &mut [u32])
         requires { Listed self.now.header roots.now
             × Numberable sets.now 0
-            (length (all_nodes sets.now 0 (there_in self.now.header self.now.nodes.now self.now.classes.now roots.now))) table.old
+            (length (all_nodes sets.now 0
+            (there_in self.now.header self.now.nodes.now self.now.classes.now roots.now))) table.old
             × (length roots.now ≤ length starts.old) }
         ensures table { table.new ≡ put_at 0
             (all_words sets.now 0

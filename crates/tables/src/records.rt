@@ -15,39 +15,17 @@ pub fn word_at(words: &[u32], place: usize) -> u32
     words.get(place).copied().unwrap_or(0)
 }
 
-// The record of a node, of whose words some may lie beyond the table: those are 0. Kept out of `node_at`, where hardly
-// any node comes to it.
-#[cold]
-#[inline(never)]
-#[tactic(auto, unfolding(definitions::specs::Tables::node_of))]
-fn node_part(words: &[u32], at: usize) -> Node
-    ensures { result ≡ node_of (drop at words.now) }
-{
-    let part = words.get(at..).unwrap_or(&[]);
-    Node {
-        kind: word_at(part, 0),
-        value: word_at(part, 1),
-        position: word_at(part, 2),
-        yes: word_at(part, 3),
-        no: word_at(part, 4),
-    }
-}
-
-// The record of a node, whose words are 0 beyond the table. Where all five are there, one test of the length serves.
-#[tactic(auto, unfolding(definitions::specs::Tables::node_of))]
+// The record of a node, whose words are 0 beyond the table.
 pub fn node_at(words: &[u32], node: u32) -> Node
     ensures { result ≡ node_of (drop (node_size * node) words.now) }
 {
-    let at = NODE_SIZE * wide(node);
-    match words.get(at..) {
-        Some([kind, value, position, yes, no, ..]) => Node {
-            kind: *kind,
-            value: *value,
-            position: *position,
-            yes: *yes,
-            no: *no,
-        },
-        _ => node_part(words, at),
+    let at = NODE_SIZE * (node as usize);
+    Node {
+        kind: word_at(words, at),
+        value: word_at(words, at + 1),
+        position: word_at(words, at + 2),
+        yes: word_at(words, at + 3),
+        no: word_at(words, at + 4),
     }
 }
 
