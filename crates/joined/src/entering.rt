@@ -32,7 +32,9 @@ pub fn add_joined(states: &mut [u32], chains: &mut [u32], place: usize, x: Joine
 }
 
 impl Join<'_, '_, '_> {
-    // Appends the arc from a joined state into one, which is added first if it is new.
+    // Appends the arc from a joined state into one, which is added first if it is new. Inlined, so that the sizes stay in
+    // registers from arc to arc.
+    #[inline(always)]
     pub fn enter(&mut self, from: u32, target: Joined, model: u32, label: u32) -> Result<(), Fault>
         requires { Grows self.old }
         ensures left { Left self.old (enters self.old from (move_to (joined_of target) model label)) result self.new }
@@ -55,6 +57,7 @@ impl Join<'_, '_, '_> {
     }
 
     // Appends an arc into the joined state at a place.
+    #[inline(always)]
     fn add_arc(&mut self, from: u32, place: usize, model: u32, label: u32) -> Result<(), Fault>
         requires { (self.old.sizes.arcs ≤ arc_room self.old.arcs.now) × (place < most_joined) }
         ensures added { JoinArcAdded (arc from place model label) self.old result self.new }

@@ -17,7 +17,9 @@ fn is_barred(to: u32, mark: Mark) -> bool
     to == 1 && mark != CLOSED
 }
 
-// Enters the joined state that an arc and a mark lead to, where it may be entered.
+// Enters the joined state that an arc and a mark lead to, where it may be entered. Inlined, as `enter` is: as
+// calls, with the join in memory, they made large joins a third slower.
+#[inline(always)]
 pub fn move_into(join: &mut Join, hop: Hop, mark: Mark, label: u32) -> Result<(), Fault>
     requires { Grows join.old }
     ensures left { Left join.old

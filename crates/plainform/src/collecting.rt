@@ -26,12 +26,14 @@ fn note_set(classes: &[u64], class: u32, sets: &mut [u64], used: usize) -> usize
 
 impl<'t> LentTrees<'t> {
     // Notes the sets that the tree at a node asks for. Children are greater than their node, so the node count minus
-    // the node falls at each call.
-    fn collect(self, node: u32, sets: &mut [u64], used: usize) -> usize
-        requires { (node < self.header.nodes)
-            × (used + length (sets_in (tree_in self.header self.nodes.now self.classes.now node)) ≤ length sets.old) }
+    // the node falls at each call. The trees are lent, here and in numbering: a copy at each level took half as much
+    // stack again.
+    fn collect(&self, node: u32, sets: &mut [u64], used: usize) -> usize
+        requires { (node < self.now.header.nodes)
+            × (used + length (sets_in (tree_in self.now.header self.now.nodes.now self.now.classes.now node))
+            ≤ length sets.old) }
         ensures { Collected sets.old used
-            (sets_in (tree_in self.entry.header self.entry.nodes.now self.entry.classes.now node)) result sets.new }
+            (sets_in (tree_in self.now.header self.now.nodes.now self.now.classes.now node)) result sets.new }
     {
         let record = node_at(self.nodes, node);
         if record.kind != 1 {
@@ -43,11 +45,12 @@ impl<'t> LentTrees<'t> {
     }
 
     // Notes the sets that the tree at a root asks for, if there is one.
-    fn collect_root(self, root: u32, sets: &mut [u64], used: usize) -> usize
-        requires { Listed self.header (root ∷ [])
-            × (used + length (uses_in self.header self.nodes.now self.classes.now (root ∷ [])) ≤ length sets.old) }
+    fn collect_root(&self, root: u32, sets: &mut [u64], used: usize) -> usize
+        requires { Listed self.now.header (root ∷ [])
+            × (used + length (uses_in self.now.header self.now.nodes.now self.now.classes.now (root ∷ []))
+            ≤ length sets.old) }
         ensures { Collected sets.old used
-            (uses_in self.entry.header self.entry.nodes.now self.entry.classes.now (root ∷ [])) result sets.new }
+            (uses_in self.now.header self.now.nodes.now self.now.classes.now (root ∷ [])) result sets.new }
     {
         if root == NO_ROOT {
             used
@@ -57,11 +60,12 @@ impl<'t> LentTrees<'t> {
     }
 
     // Notes the sets that the trees at these roots ask for. Answers how many there are.
-    pub fn collect_all(self, roots: &[u32], sets: &mut [u64]) -> usize
-        requires { Listed self.header roots.now
-            × (length (uses_in self.header self.nodes.now self.classes.now roots.now) ≤ length sets.old) }
+    pub fn collect_all(&self, roots: &[u32], sets: &mut [u64]) -> usize
+        requires { Listed self.now.header roots.now
+            × (length (uses_in self.now.header self.now.nodes.now self.now.classes.now roots.now)
+            ≤ length sets.old) }
         ensures { Collected sets.old 0
-            (uses_in self.entry.header self.entry.nodes.now self.entry.classes.now roots.now) result sets.new }
+            (uses_in self.now.header self.now.nodes.now self.now.classes.now roots.now) result sets.new }
     {
         let mut used = 0;
         for root in roots {

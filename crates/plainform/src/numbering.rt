@@ -21,11 +21,11 @@ impl<'t> LentTrees<'t> {
     // Puts the records of the tree at a node into a table, its root as number `at`, where the classes have these sets.
     // Answers the number after the last. Children are greater than their node, so the node count minus the node falls
     // at each call.
-    fn number(self, node: u32, sets: &[u64], table: &mut [u32], at: u32) -> u32
-        requires { (node < self.header.nodes)
-            × Numberable sets.now at (size_of (tree_in self.header self.nodes.now self.classes.now node)) table.old }
+    fn number(&self, node: u32, sets: &[u64], table: &mut [u32], at: u32) -> u32
+        requires { (node < self.now.header.nodes)
+            × Numberable sets.now at (size_of (tree_in self.now.header self.now.nodes.now self.now.classes.now node)) table.old }
         ensures { Numbered sets.now at
-            (tree_in self.entry.header self.entry.nodes.now self.entry.classes.now node)
+            (tree_in self.now.header self.now.nodes.now self.now.classes.now node)
             table.old result table.new }
     {
         let record = node_at(self.nodes, node);
@@ -44,13 +44,14 @@ impl<'t> LentTrees<'t> {
     }
 
     // Puts the records of the tree at a root, if there is one, as `number` does.
-    fn number_root(self, root: u32, sets: &[u64], table: &mut [u32], at: u32) -> u32
-        requires { Listed self.header (root ∷ [])
+    fn number_root(&self, root: u32, sets: &[u64], table: &mut [u32], at: u32) -> u32
+        requires { Listed self.now.header (root ∷ [])
             × Numberable sets.now at
-            (length (all_nodes sets.now at (there_in self.header self.nodes.now self.classes.now (root ∷ []))))
+            (length (all_nodes sets.now at
+            (there_in self.now.header self.now.nodes.now self.now.classes.now (root ∷ []))))
             table.old }
         ensures { NumberedTrees sets.now at
-            (there_in self.entry.header self.entry.nodes.now self.entry.classes.now (root ∷ []))
+            (there_in self.now.header self.now.nodes.now self.now.classes.now (root ∷ []))
             table.old result table.new }
     {
         if root == NO_ROOT {
@@ -62,17 +63,18 @@ impl<'t> LentTrees<'t> {
 
     // Puts the records of the trees at these roots into a table, one tree after the other, and their new roots into
     // another.
-    pub fn number_all(self, roots: &[u32], sets: &[u64], table: &mut [u32], starts: &mut [u32])
-        requires { Listed self.header roots.now
+    pub fn number_all(&self, roots: &[u32], sets: &[u64], table: &mut [u32], starts: &mut [u32])
+        requires { Listed self.now.header roots.now
             × Numberable sets.now 0
-            (length (all_nodes sets.now 0 (there_in self.header self.nodes.now self.classes.now roots.now))) table.old
+            (length (all_nodes sets.now 0
+            (there_in self.now.header self.now.nodes.now self.now.classes.now roots.now))) table.old
             × (length roots.now ≤ length starts.old) }
         ensures table { table.new ≡ put_at 0
             (all_words sets.now 0
-            (there_in self.entry.header self.entry.nodes.now self.entry.classes.now roots.now))
+            (there_in self.now.header self.now.nodes.now self.now.classes.now roots.now))
             table.old }
         ensures starts { starts.new ≡ put_at 0
-            (roots_from 0 (trees_in self.entry.header self.entry.nodes.now self.entry.classes.now roots.now))
+            (roots_from 0 (trees_in self.now.header self.now.nodes.now self.now.classes.now roots.now))
             starts.old }
     {
         let mut at = 0;

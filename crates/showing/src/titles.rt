@@ -14,14 +14,14 @@ fn place(text: &[u8], byte: u8) -> usize
 }
 
 // Its title.
-fn title_of<'a>(text: &'a [u8]) -> &'a [u8]
+pub fn title_of<'a>(text: &'a [u8]) -> &'a [u8]
     ensures { result.now ≡ title_of text.now }
 {
     &text[..place(text, b'\n')]
 }
 
 // Where what stands below its title ends.
-fn end_of(text: &[u8]) -> usize
+pub fn end_of(text: &[u8]) -> usize
     ensures within { result ≤ length text.now }
     ensures found { result ≡ end_of text.now }
 {
@@ -30,7 +30,7 @@ fn end_of(text: &[u8]) -> usize
 }
 
 // What stands below its title.
-fn text_of<'a>(text: &'a [u8]) -> &'a [u8]
+pub fn text_of<'a>(text: &'a [u8]) -> &'a [u8]
     ensures { result.now ≡ text_of text.now }
 {
     let line = place(text, b'\n');

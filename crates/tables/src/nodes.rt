@@ -41,7 +41,9 @@ pub fn record_known(header: Header, at: u32, node: Node) -> bool
     question_known(header, at, node) || leaf_known(node)
 }
 
-// Records that N and L lines leave as the nodes of a book; `node_at` gives the record of a node.
+// Records that N and L lines leave as the nodes of a book; `node_at` gives the record of a node. Inlined: where the caller
+// has tested the table's length, no word is tested against it again.
+#[inline(always)]
 pub fn nodes_known<F: Fn(u32) -> Node>(header: Header, node_at: F) -> bool
     requires { F.IsAlwaysCallable node_at }
     ensures { (nodes : List Node) → Gives (F.post node_at) header.nodes nodes

@@ -1,11 +1,22 @@
--- Laws about the B lines: the next ones, and how many there are at most.
-use Rattle.std.specs.Prelude.{◌≡◌, refl, List, [], ◌∷◌, ◌++◌, ℕ, suc, ◌+◌, ◌≤◌, ◌<◌, eqb, length, drop}
+-- Laws about the B lines: the next ones, where a word names a plain phone, and how many there are at most.
+use Rattle.std.specs.Prelude.{◌≡◌, refl, List, [], ◌∷◌, ◌++◌, true, false, ℕ, suc, ◌+◌, ◌≤◌, ◌<◌, eqb, length, drop}
 use Rattle.std.proofs.Common.{ap, ◌∙◌, add-one, arith, drop_of_length-le, drop-cons}
 use Rattle.definitions.specs.Lists.{◌!◌}
-use Rattle.definitions.specs.BookText.{boundaries_from}
+use Rattle.definitions.specs.BookLines.{B}
+use Rattle.definitions.specs.BookText.{book_line_for, boundaries_from}
 use Rattle.definitions.proofs.Laws.Lists.Tests.{by-test}
 use Rattle.booktext.specs.Parts.{boundary_lines}
 use Rattle.booktext.specs.Laws.Putting.{Next, Places}
+
+-- the line of one word, if it is a plain phone
+pub no-boundary-line : (phone plain : ℕ) → eqb plain 0 ≡ true → boundary_lines phone (plain ∷ []) ≡ []
+unfolding boundaries_from
+no-boundary-line phone plain e = rw e
+
+pub boundary-line : (phone plain : ℕ) → eqb plain 0 ≡ false
+    → boundary_lines phone (plain ∷ []) ≡ book_line_for (B phone plain) ∷ []
+unfolding boundaries_from
+boundary-line phone plain e = rw e
 
 boundary-first : (phone plain : ℕ) (plains : List ℕ)
     → boundary_lines phone (plain ∷ plains)
@@ -22,9 +33,9 @@ boundaries-next i plains h =
           ∙ boundary-first (i + 1) (plains ! i) (drop (suc i) plains) ∙ rw (add-one i, add-one (suc i));
     }
 
-pub boundaries-end : (plains : List ℕ) → boundary_lines (length plains + 1) (drop (length plains) plains) ≡ []
+pub boundaries-end : (i : ℕ) (plains : List ℕ) → length plains ≤ i → boundary_lines (i + 1) (drop i plains) ≡ []
 unfolding boundaries_from
-boundaries-end plains = rw (drop_of_length-le plains {i = length plains} (omega arith))
+boundaries-end i plains h = rw (drop_of_length-le plains {i = i} h)
 
 abbrev pub boundaries : (plains : List ℕ) → Places (length plains) (boundary_lines 1 plains)
 boundaries plains =
@@ -33,7 +44,7 @@ boundaries plains =
       rest = λ i. boundary_lines (i + 1) (drop i plains);
       starts = refl;
       next = λ i. boundaries-next i plains;
-      ends = boundaries-end plains;
+      ends = boundaries-end (length plains) plains (omega arith);
     }
 
 pub boundaries-most : (phone : ℕ) (plains : List ℕ) → length (boundary_lines phone plains) ≤ length plains

@@ -40,9 +40,9 @@ members-next class set phone phones h =
           (member-first class set (phone + 1) (up_from (suc (phone + 1)) (phones - (phone + 1))));
     }
 
-pub members-end : (class set places phones : ℕ) → places ≡ phones → members-after class set places phones ≡ []
+pub members-end : (class set phone phones : ℕ) → phones ≤ phone → members-after class set phone phones ≡ []
 unfolding up_from select
-members-end class set places phones e = let none : phones - places ≡ 0 = omega arith in rw none
+members-end class set phone phones h = let none : phones - phone ≡ 0 = omega arith in rw none
 
 abbrev pub members : (class set places phones : ℕ) → places ≡ phones
     → Places places (member_lines class set (up_from 1 phones))
@@ -52,7 +52,7 @@ members class set places phones e =
       rest = λ i. members-after class set i phones;
       starts = rw sub-zero;
       next = λ i h. members-next class set i phones (omega arith);
-      ends = members-end class set places phones e;
+      ends = members-end class set places phones (omega arith);
     }
 
 select-few : (test : ℕ → Bool) (l : List ℕ) → length (select test l) ≤ length l

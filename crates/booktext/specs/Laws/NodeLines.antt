@@ -1,5 +1,5 @@
 -- Laws about the lines of nodes: the next ones, and how many there are.
-use Rattle.std.specs.Prelude.{◌≡◌, refl, List, [], ◌∷◌, map, ℕ, suc, ◌+◌, ◌-◌, ◌<◌, length}
+use Rattle.std.specs.Prelude.{◌≡◌, refl, List, [], ◌∷◌, map, ℕ, suc, ◌+◌, ◌-◌, ◌≤◌, ◌<◌, length}
 use Rattle.std.proofs.Common.{ap, ◌∙◌, add-one, arith}
 use Rattle.std.proofs.lemmas.List.{length-map}
 use Rattle.definitions.specs.BookLines.{TreeNode}
@@ -17,9 +17,9 @@ pub nodes-next : (nodes at : ℕ) (words : List ℕ) → at < nodes
 unfolding lines_of_nodes
 nodes-next nodes at words h = record { parts = rw (records-next nodes at words h, add-one) }
 
-pub nodes-end : (places nodes : ℕ) (words : List ℕ) → places ≡ nodes → node_lines nodes places words ≡ []
+pub nodes-end : (nodes at : ℕ) (words : List ℕ) → nodes ≤ at → node_lines nodes at words ≡ []
 unfolding lines_of_nodes
-nodes-end places nodes words e = rw (records-end nodes places words (omega arith))
+nodes-end nodes at words h = rw (records-end nodes at words h)
 
 abbrev pub nodes_written : (places nodes : ℕ) (words : List ℕ) → places ≡ nodes
     → Places places (node_lines nodes 0 words)
@@ -29,7 +29,7 @@ nodes_written places nodes words e =
       rest = λ node. node_lines nodes node words;
       starts = refl;
       next = λ node h. nodes-next nodes node words (omega arith);
-      ends = nodes-end places nodes words e;
+      ends = nodes-end nodes places words (omega arith);
     }
 
 lines-of-nodes : (at : ℕ) (nodes : List TreeNode) → length (lines_of_nodes at nodes) ≡ length nodes

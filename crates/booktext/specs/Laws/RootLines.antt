@@ -1,12 +1,22 @@
--- Laws about the R lines: the next ones, and how many there are at most.
-use Rattle.std.specs.Prelude.{◌≡◌, refl, List, [], ◌∷◌, ◌++◌, ℕ, suc, ◌+◌, ◌≤◌, ◌<◌, eqb, length, drop}
+-- Laws about the R lines: the next ones, where there is a root, and how many there are at most.
+use Rattle.std.specs.Prelude.{◌≡◌, refl, List, [], ◌∷◌, ◌++◌, true, false, ℕ, suc, ◌+◌, ◌/◌, ◌%◌, ◌≤◌, ◌<◌, eqb, length, drop}
 use Rattle.std.proofs.Common.{ap, ◌∙◌, add-one, arith, drop_of_length-le, drop-cons}
 use Rattle.definitions.specs.Lists.{◌!◌}
-use Rattle.definitions.specs.BookLines.{no_root}
-use Rattle.definitions.specs.BookText.{roots_listed}
+use Rattle.definitions.specs.BookLines.{R, no_root}
+use Rattle.definitions.specs.BookText.{book_line_for, roots_listed}
 use Rattle.definitions.proofs.Laws.Lists.Tests.{by-test}
 use Rattle.booktext.specs.Parts.{root_lines}
 use Rattle.booktext.specs.Laws.Putting.{Next, Places}
+
+-- the line of one word, if it is a root
+pub no-root-line : (states at word : ℕ) → eqb word no_root ≡ true → root_lines states at (word ∷ []) ≡ []
+unfolding roots_listed
+no-root-line states at word e = rw e
+
+pub root_line : (states at word : ℕ) → eqb word no_root ≡ false
+    → root_lines states at (word ∷ []) ≡ book_line_for (R (at / states + 1) (at % states + 1) word) ∷ []
+unfolding roots_listed
+root_line states at word e = rw e
 
 root-first : (states at word : ℕ) (words : List ℕ)
     → root_lines states at (word ∷ words) ≡ root_lines states at (word ∷ []) ++ root_lines states (suc at) words
@@ -22,9 +32,9 @@ roots-next states i roots h =
           ∙ rw (add-one i);
     }
 
-pub roots-end : (states : ℕ) (roots : List ℕ) → root_lines states (length roots) (drop (length roots) roots) ≡ []
+pub roots-end : (states i : ℕ) (roots : List ℕ) → length roots ≤ i → root_lines states i (drop i roots) ≡ []
 unfolding roots_listed
-roots-end states roots = rw (drop_of_length-le roots {i = length roots} (omega arith))
+roots-end states i roots h = rw (drop_of_length-le roots {i = i} h)
 
 abbrev pub roots_written : (states : ℕ) (roots : List ℕ) → Places (length roots) (root_lines states 0 roots)
 roots_written states roots =
@@ -33,7 +43,7 @@ roots_written states roots =
       rest = λ i. root_lines states i (drop i roots);
       starts = refl;
       next = λ i. roots-next states i roots;
-      ends = roots-end states roots;
+      ends = roots-end states (length roots) roots (omega arith);
     }
 
 pub roots-most : (states at : ℕ) (roots : List ℕ) → length (root_lines states at roots) ≤ length roots

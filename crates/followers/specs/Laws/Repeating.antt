@@ -1,8 +1,8 @@
 -- Laws about entering the followers of a metastate: where another with the same shifted matrix has a span,
 -- the copies of its arcs are what entering them adds; else they are entered and make a span.
-use Rattle.std.specs.Prelude.{◌≡◌, Bool, false, ℕ, zero, suc, ◌+◌, ◌-◌, ◌*◌, ◌≤◌, min, T, drop, get_or, Some, is_some, Result, Ok, Err}
+use Rattle.std.specs.Prelude.{◌≡◌, Bool, false, ℕ, zero, suc, ◌+◌, ◌-◌, ◌*◌, ◌/◌, ◌%◌, ◌≤◌, ◌<◌, min, T, drop, get_or, Some, is_some, Result, Ok, Err}
 use Rattle.std.proofs.Math.Path.{refl, sym, ap, subst}
-use Rattle.std.proofs.Common.{◌∙◌, arith, length-set}
+use Rattle.std.proofs.Common.{◌∙◌, mod-lt, arith, length-set}
 use mathlib.Core.List.{List, ◌++◌, map}
 use Rattle.std.proofs.Math.Bool.{true}
 use Rattle.std.proofs.Math.Dec.{leb}
@@ -42,7 +42,7 @@ use Rattle.metastates.specs.Steps.{StepLeft}
 use Rattle.metastates.specs.Outcomes.{followed_from, followed_on}
 use Rattle.followers.specs.Turns.{TurnLeft, BetweenTurns, Expandable, Onward}
 use Rattle.followers.specs.declared.Span.{Span}
-use Rattle.followers.specs.Spans.{span_of, span_in, leaving_from, copies_of, SlotWithin, place_in, first_in, end_in}
+use Rattle.followers.specs.Spans.{span_of, span_in, leaving_from, copies_of, span_size, SlotWithin, place_in, first_in, end_in}
 use Rattle.followers.specs.Spans.{noted_in, followers_at, arcs_to, IsSpan, Spanned}
 use Rattle.followers.specs.Repeating.{Repeated, Repeats}
 use Rattle.followers.specs.Laws.PerformedArcs.{performs-arcs, performs-over}
@@ -50,6 +50,13 @@ use Rattle.followers.specs.Laws.Turns.{asked, arcs-asked, inside, shifted-is}
 use Rattle.followers.specs.Laws.Spans.{arcs-to-from, spans-stay, spans-noted, span-made, enters-known}
 
 -- ---- the span in a slot
+
+-- a remainder is a slot
+pub some-slots : (size : ℕ) → span_size ≤ size → 0 < size / span_size
+some-slots size h = omega (arith, h)
+
+pub slot-within : (n size : ℕ) → span_size ≤ size → span_size * (n % (size / span_size)) + span_size ≤ size
+slot-within n size h = let l = mod-lt n {m = size / span_size} (some-slots size h) in omega (arith, l)
 
 span-fields : (word first end : ℕ) {span : Span} → span_of word first end ≡ Some span
     → (word ≡ suc span.place) × (first ≡ span.first) × (end ≡ span.end)

@@ -1,12 +1,13 @@
 -- Laws about one field read byte by byte: its leading spaces, then its digits, from any place on.
-use Rattle.std.specs.Prelude.{if◌then◌else◌, ◌≡◌, refl, ◌⊎◌, List, [], ◌∷◌, ℕ, zero, suc, ◌+◌, ◌-◌, ◌*◌, ◌^◌, ◌≤◌, ◌<◌, leb, length, take, drop, true, false}
-use Rattle.std.proofs.Common.{ap, ◌∙◌, inl, inr, arith, drop_of_length-le, length-drop, drop-cons, take_all}
+use Rattle.std.specs.Prelude.{if◌then◌else◌, ◌≡◌, refl, ◌⊎◌, List, [], ◌∷◌, ℕ, zero, suc, ◌+◌, ◌-◌, ◌*◌, ◌^◌, ◌≤◌, ◌<◌, leb, length, take, drop, true, false, T}
+use Rattle.std.proofs.Common.{ap, sym, subst, ◌∙◌, inl, inr, arith, drop_of_length-le, length-drop, drop-cons, take_all}
 use Rattle.std.proofs.Math.Numerals.{add-one}
 use borrow.Author.Tests.{eq-eqb, ne_eqb, le-leb, lt-leb}
 use Rattle.definitions.specs.Lists.{◌!◌, every}
 use Rattle.definitions.specs.Numerals.{is_digit, is_numeral, value_of}
 use Rattle.definitions.specs.Lines.{space, Field, blank, malformed, number, skip_spaces, digits_field, field_of}
 use Rattle.definitions.proofs.Laws.Lists.Tests.{by-test}
+use Rattle.definitions.proofs.Laws.Text.Numerals.{digit-range}
 
 -- ---- leading spaces
 
@@ -70,14 +71,16 @@ module _ {s : List ℕ} {value i : ℕ} (r : Reading s value i) where
   unfolding rest_field every
   digit-other h other = r.field ∙ rw (drop-cons s i 0 h, other)
 
-  pub digit-next : (digit : ℕ) → i < length s → is_digit (s ! i) ≡ true → digit < 10 → digit ≡ s ! i - 48
+  pub digit-next : (digit : ℕ) → i < length s → is_digit (s ! i) ≡ true → digit ≡ s ! i - 48
       → Reading s (value * 10 + digit) (i + 1)
   unfolding rest_field every value_of
-  digit-next digit h is below e = record {
-    within = omega arith;
-    below = rw add-one (omega (arith, r.below));
-    field = r.field ∙ rw (drop-cons s i 0 h, is, add-one, e);
-  }
+  digit-next digit h is e =
+      let below : digit < 10 = omega (arith, e, (digit-range (s ! i) (subst T (sym is) tt)).1) in
+      record {
+        within = omega arith;
+        below = rw add-one (omega (arith, r.below));
+        field = r.field ∙ rw (drop-cons s i 0 h, is, add-one, e);
+      }
 
   pub digits-end : length s ≤ i → digits_field s ≡ number value
   unfolding rest_field every value_of

@@ -5,8 +5,7 @@ use Rattle.std.proofs.Common.{ap, ◌∙◌, arith, take-append-drop, drop-cons,
 use Rattle.std.proofs.Math.Numerals.{add-one}
 use Rattle.std.proofs.Math.ListN.{drop_of_length-le}
 use Rattle.std.proofs.Math.Seq.{append_snoc}
-use Rattle.std.specs.Ordering.{nat_cmp, is_lt, is_eq}
-use Rattle.std.specs.Cmp.Lexicographic.{slice_cmp}
+use Rattle.std.specs.Ordering.{is_lt, is_eq}
 use Rattle.std.specs.declared.cmp.Ordering.{Ordering}
 use Rattle.std.specs.declared.cmp.Ordering.TheVariants.{Less, Equal, Greater}
 use borrow.Author.Tests.{ne_eqb, ltb-true}
@@ -14,12 +13,9 @@ use Rattle.definitions.specs.Lists.{same, precedes}
 use Rattle.definitions.specs.Matrices.{Matrix}
 use Rattle.definitions.specs.MatrixLists.{insert_matrix}
 use Rattle.definitions.proofs.Laws.Lists.Tests.{by-test}
-use Rattle.lists.specs.Ordering.{BelongsAt}
+use Rattle.lists.specs.Ordering.{order_of, BelongsAt}
 
 -- ---- the library's order is the definitions'
-
-abbrev order_of : Matrix → Matrix → Ordering
-order_of m x = slice_cmp nat_cmp m x
 
 order-less : (m x : Matrix) → precedes m x ≡ is_lt (order_of m x)
 unfolding precedes

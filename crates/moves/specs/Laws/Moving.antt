@@ -2,7 +2,7 @@
 use Rattle.std.specs.Prelude.{◌≡◌, refl, List, [], ◌∷◌, Bool, true, false, not, ◌&&◌, ℕ, eqb, Result, Ok}
 use Rattle.std.proofs.Common.{sym, ap, ◌∙◌}
 use Rattle.std.proofs.Math.Path.{subst}
-use borrow.Author.Tests.{eq-eqb}
+use borrow.Author.Tests.{ne_eqb, eq-eqb}
 use Rattle.std.proofs.Math.Bool.{not-not}
 use Rattle.definitions.specs.declared.Fault.{Fault}
 use Rattle.definitions.specs.Faults.{Outcome, answered}
@@ -18,6 +18,10 @@ use Rattle.moves.specs.Moving.{moved_all, allowed}
 -- ---- FINAL
 
 module _ (state word mark : ℕ) where
+  pub free-elsewhere : (state ≡ 1 → ⊥) → not false ≡ may_enter (joined state word mark)
+  unfolding may_enter
+  free-elsewhere n = rw (ne_eqb _ _ n)
+
   -- FINAL is barred but for 0, 2
   pub by-closing : (other : Bool) → state ≡ 1 → other ≡ not (eqb word 0 && eqb mark 2)
       → not other ≡ may_enter (joined state word mark)

@@ -94,6 +94,10 @@ pub record Gathered (tree : ℕ → Tree) (roots before : List ℕ) (i : ℕ) (s
   pub few : used + length (left tree roots i) ≤ length (left tree roots 0)
   pub rest : first_uses (take used sets) (left tree roots i) ≡ first_uses (take 0 before) (left tree roots 0)
 
+pub gathered-start : (tree : ℕ → Tree) (roots before : List ℕ) → Gathered tree roots before 0 before 0
+gathered-start tree roots before =
+    record { within = omega arith; sized = refl; few = omega arith; rest = refl }
+
 module _ {tree : ℕ → Tree} {roots before : List ℕ} {i used : ℕ} {sets : List ℕ}
     (g : Gathered tree roots before i sets used) where
   module _ (h : i < length roots) where

@@ -1,6 +1,6 @@
 -- Laws about the answers of the lookup, one for each way that the code returns.
 use Rattle.std.specs.Prelude.{◌≡◌, refl, List, map, Result, Ok, Err, true, ◌&&◌, ℕ, ◌*◌, ◌<◌, ltb, length}
-use Rattle.std.proofs.Common.{sym, ap, ◌∙◌}
+use Rattle.std.proofs.Common.{sym, ap, ◌∙◌, arith}
 use Rattle.std.proofs.Math.Bool.{Bool, false, and_assoc, and_comm}
 use Rattle.std.proofs.lemmas.Bool.{false≢true}
 use Rattle.std.proofs.Math.Dec.{T, eqb, ltb→lt, eqb→eq}
@@ -16,10 +16,12 @@ use Rattle.definitions.specs.Tables.{tree_node, node_records}
 use Rattle.definitions.specs.ForeignTables.{header_known, nodes_known, holds_only, class_table_known}
 use Rattle.definitions.specs.Lookup.{reached, lookup_known, is_context, leaf_lookup, leaf_lookup_in_table}
 use Rattle.definitions.proofs.Laws.Lists.Tests.{T-three, T_and, by-test}
+use Rattle.definitions.proofs.Laws.Books.AcceptedKnown.{header-ranges}
 use Rattle.tables.specs.Usable.{tree_nodes}
 use Rattle.trees.specs.declared.Walked.{Walked}
 use Rattle.trees.specs.Answers.{walked_of}
 use Rattle.trees.specs.Laws.Agreement.{tables_agree}
+use Rattle.trees.specs.Laws.Walking.{Walking}
 
 abbrev pub at-no-line : Fault → Refusal
 at-no-line fault = record { fault = fault; line = 0 }
@@ -84,6 +86,19 @@ module _ (header : Header) (classes : List ℕ) (nodes : List Node) (root : ℕ)
         let last = (T-three (header_known header && counted && known) (class_table_known header classes)
         (ltb root header.nodes)).0 all in
         (((T-three (header_known header) counted known).0 last.0).2, ltb→lt _ _ last.2)
+
+    -- and it has met few questions, wherever it stands
+    pub passed-few : (node questions : ℕ) → Walking header nodes classes context root node questions
+        → questions < 4096
+    unfolding lookup_known
+    passed-few node questions w =
+        let all : T (lookup_known header classes nodes root) = rw h tt in
+        let counted : Bool = eqb (length nodes) header.nodes in
+        let known : Bool = nodes_known header 0 nodes in
+        let front = ((T-three (header_known header && counted && known) (class_table_known header classes)
+        (ltb root header.nodes)).0 all).0 in
+        let own = ((T-three (header_known header) counted known).0 front).0 in
+        omega (arith, w.listed, w.further, (header-ranges header own).nodes_range.high)
 
 -- ---- the same over the table of their words
 

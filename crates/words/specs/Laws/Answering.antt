@@ -18,7 +18,7 @@ module _ (lent : List ℕ) {words : List ℕ} (c : words ≡ cleared (length len
     abbrev outcome : Outcome (List WordLine)
     outcome = read_words (length lent) text
 
-    read-answer : answer ≡ result_of word_count outcome
+    pub read-answer : answer ≡ result_of word_count (read_words (length lent) text)
     read-answer = a ∙ ap (λ (n : ℕ). result_of word_count (read_words n text)) (clear-length lent words c)
 
     -- an accepted book: the table holds it

@@ -10,8 +10,9 @@ use denote.Ref.{Bor}
 use Rattle.definitions.proofs.Laws.Lists.Tests.{by-test}
 use Rattle.std.specs.Prelude.{refl, zero, suc, ◌∷◌, Option, Some, None, IsSomeAnd, IfSome, IsTrue}
 use Rattle.std.proofs.Common.{subst}
-use Rattle.std.specs.Prelude.{◌≡◌, List, [], Bool, true, false, ℕ, ◌+◌, ◌-◌, ◌*◌, ◌/◌, ◌≤◌, ◌<◌, take, drop, get_or}
+use Rattle.std.specs.Prelude.{◌≡◌, List, [], Bool, true, false, ℕ, ◌+◌, ◌-◌, ◌*◌, ◌/◌, ◌≤◌, ◌<◌, leb, take, drop, get_or}
 use Rattle.std.proofs.Common.{sym, ap, ◌∙◌}
+use Rattle.std.proofs.Math.Bool.{and-false}
 use Rattle.std.proofs.Math.Numerals.{add-one}
 use native.Mathlib.Omega.{arith}
 use Rattle.std.proofs.Math.ListN.{length}
@@ -24,6 +25,21 @@ use Rattle.definitions.specs.Lists.{◌!◌, every, records}
 use Rattle.definitions.specs.WordBooks.{word_size, word_in, word_known, words_known}
 use Rattle.definitions.proofs.Laws.Books.AcceptedKnown.{holds-padded}
 use Rattle.definitions.proofs.Laws.Lists.Records.{records-length, record-at, records-taken}
+
+-- ---- a phone
+
+module _ (p : ℕ) where
+  pub phone-zero : p ≡ 0 → is_phone most_phone p ≡ false
+  unfolding is_phone
+  phone-zero e = rw (lt-leb 1 p (omega arith))
+
+  pub phone_high : most_phone < p → is_phone most_phone p ≡ false
+  unfolding is_phone
+  phone_high h = rw (lt-leb p most_phone h) (and-false (leb 1 p))
+
+  pub phone-fine : (p ≡ 0 → ⊥) → p ≤ most_phone → is_phone most_phone p ≡ true
+  unfolding is_phone
+  phone-fine n h = rw (le-leb 1 p (omega arith), le-leb p most_phone h)
 
 -- ---- the record of a word, by its length
 

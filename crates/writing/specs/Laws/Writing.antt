@@ -3,6 +3,7 @@
 -- are spaces once it is 0. The proofs of the functions that write a number use them.
 use Rattle.std.specs.Prelude.{◌≡◌, refl, List, [], ◌∷◌, ◌++◌, ℕ, zero, suc, ◌+◌, ◌-◌, ◌/◌, ◌%◌, ◌^◌, ◌≤◌, ◌<◌, ltb, length, drop, set, replicate}
 use Rattle.std.proofs.Common.{ap, ◌∙◌, append_assoc, arith, length-append, drop_of_length-le, drop-cons, drop-set-lt, get_or-set_same, lt-length-set, ltb-true, ltb-false, ne_eqb}
+use borrow.Author.Tests.{eq-eqb}
 use Rattle.std.proofs.lemmas.List.{replicate-append-replicate}
 use Rattle.std.proofs.Math.Seq.{append_snoc}
 use Rattle.definitions.specs.Numerals.{numeral}
@@ -13,7 +14,10 @@ use Rattle.writing.specs.Writing.{last_byte, leading}
 
 -- ---- a number's bytes, from the right
 
-last-digit : (rest : ℕ) → (rest ≡ 0 → ⊥) → 48 + rest % 10 ≡ last_byte rest
+pub last_none : (rest : ℕ) → rest ≡ 0 → space ≡ last_byte rest
+last_none rest e = rw (eq-eqb rest 0 e)
+
+pub last-digit : (rest : ℕ) → (rest ≡ 0 → ⊥) → 48 + rest % 10 ≡ last_byte rest
 last-digit rest h = rw (ne_eqb rest 0 h)
 
 leading-none : (k : ℕ) → leading k 0 ≡ replicate k space

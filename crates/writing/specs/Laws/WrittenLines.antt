@@ -8,7 +8,7 @@ use Prim.Native.Nat.{ℕ, zero, suc, ◌+◌, ◌-◌, ◌*◌, ◌≤◌, ◌<�
 use Rattle.std.proofs.Math.ListN.{length, take, replicate}
 use Rattle.std.proofs.lemmas.List.{length-replicate, replicate-append-replicate, set_at}
 use Rattle.std.proofs.Math.Seq.{append_snoc}
-use borrow.Rule.Slice.PartMut.{put_mid}
+use borrow.Rule.Slice.PartMut.{put_mid, same_len_mid}
 use Rattle.definitions.specs.Lists.{every, concat_map}
 use Rattle.definitions.specs.Lines.{space, line_feed, field_text, line_text}
 use Rattle.definitions.proofs.Laws.Lists.Tests.{every-at}
@@ -142,7 +142,7 @@ part-put width i text d bytes part h e f =
 -- ---- a line
 
 -- what is lent for the five fields
-middle-length : (bytes : List ℕ) (v : ℕ) → 32 ≤ length bytes
+pub middle-length : (bytes : List ℕ) (v : ℕ) → 32 ≤ length bytes
     → length (take 30 (drop 1 (set bytes 0 v))) ≡ 30
 middle-length bytes v h =
     length-take-le 30 (drop 1 (set bytes 0 v)) (simp (length-drop, length-set) (omega arith))
@@ -166,3 +166,8 @@ line-put row (b ∷ bytes) part h k e =
     ap (λ (l : List ℕ). row.letter ∷ l)
     (feed-put part bytes (k ∙ middle-length (b ∷ bytes) row.letter h) (omega arith)
     ∙ ap (λ (l : List ℕ). l ++ (line_feed ∷ []) ++ drop 31 bytes) e)
+
+pub put-length : (bytes part : List ℕ) (v : ℕ) → 32 ≤ length bytes → length part ≡ 30
+    → length (put_mid 1 30 (set bytes 0 v) part) ≡ length bytes
+put-length bytes part v h k =
+    same_len_mid 1 30 (set bytes 0 v) part (k ∙ sym (middle-length bytes v h)) ∙ length-set bytes 0 v

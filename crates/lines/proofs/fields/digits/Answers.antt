@@ -46,8 +46,7 @@ pub loop-byte-preserved : goal.loop-byte-preserved
 unfolding is_digit
 loop-byte-preserved c =
     let digit = held c.is_ascii_digit.ensures.value (not_from_true _ c.if-not-is_ascii_digit.false) in
-    digit-next c.loop-byte.invariant _ c.loop-byte-test.true digit
-    (search rules) (search rules)
+    digit-next c.loop-byte.invariant _ c.loop-byte-test.true digit (search rules)
 
 pub returns : goal.returns
 unfolding field_in

@@ -10,26 +10,26 @@ use Rattle.plainform.specs.Laws.Collecting.{collected-leaf, collected-question}
 use Rattle.plainform.proofs.trees.LentTrees.+collect.Goals as goal
 use Rattle.plainform.proofs.trees.LentTrees.+collect.Goals.{Else-record-ne1, Start}
 
-here : (t : ℕ) (c : goal.Start t) → let trees = c.args.self in KnownNode trees.header trees.nodes.now c.args.node
-here t c = at-node c.args.self c.args.node c.requires.0
+here : (t : ℕ) (c : goal.Start t) → let trees = c.args.self.now in KnownNode trees.header trees.nodes.now c.args.node
+here t c = at-node c.args.self.now c.args.node c.requires.0
 
 -- there is room for its own set and those of its sides
 abbrev uses : (t : ℕ) (c : goal.Else-record-ne1 t) (node : ℕ) → ℕ
 uses t c node =
-    let trees = c.args.self in length (sets_in (tree_in trees.header trees.nodes.now trees.classes.now node))
+    let trees = c.args.self.now in length (sets_in (tree_in trees.header trees.nodes.now trees.classes.now node))
 
 room : (t : ℕ) (c : goal.Else-record-ne1 t)
     → c.args.used
     + suc (uses t c c.node_at-record.result.yes + uses t c c.node_at-record.result.no)
     ≤ length c.args.sets.now
 room t c =
-    let k = at-node c.args.self c.args.node c.requires.0 in
-    omega (arith, c.requires.1, sets-here k c.node_at-record.ensures c.if-record-ne1.false c.args.self.classes.now)
+    let k = at-node c.args.self.now c.args.node c.requires.0 in
+    omega (arith, c.requires.1, sets-here k c.node_at-record.ensures c.if-record-ne1.false c.args.self.now.classes.now)
 
 pub returns-then-record-ne1 : goal.returns-then-record-ne1
 returns-then-record-ne1 t c =
     let a = c.args in
-    collected-leaf (here t (goal.at.returns-then-record-ne1 t c).Start) c.node_at-record.ensures a.self.classes.now
+    collected-leaf (here t (goal.at.returns-then-record-ne1 t c).Start) c.node_at-record.ensures a.self.now.classes.now
     a.sets.now a.used c.if-record-ne1.true
 
 pub note_set-own-requires : goal.note_set-own-requires
@@ -68,5 +68,5 @@ collect-requires t c =
 
 pub returns : goal.returns
 returns t c =
-    collected-question (here t (goal.at.returns t c).Start) c.node_at-record.ensures c.args.self.classes.now
+    collected-question (here t (goal.at.returns t c).Start) c.node_at-record.ensures c.args.self.now.classes.now
     c.if-record-ne1.false c.note_set-own.ensures c.collect-left.ensures c.collect.ensures

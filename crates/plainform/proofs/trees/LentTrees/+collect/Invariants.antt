@@ -3,4 +3,4 @@ use Prim.Native.Nat.{◌-◌}
 use Rattle.plainform.proofs.trees.LentTrees.+collect.Given as goal
 
 abbrev pub decreases-collect : goal.decreases-collect
-decreases-collect l = l.self.header.nodes - l.node
+decreases-collect l = l.self.now.header.nodes - l.node

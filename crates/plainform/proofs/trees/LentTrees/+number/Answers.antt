@@ -11,30 +11,30 @@ use Rattle.plainform.specs.Laws.Numbering.{numbered-leaf, numbered-question}
 use Rattle.plainform.proofs.trees.LentTrees.+number.Goals as goal
 use Rattle.plainform.proofs.trees.LentTrees.+number.Goals.{Else-record-ne1, Start}
 
-here : (t : ℕ) (c : goal.Start t) → let trees = c.args.self in KnownNode trees.header trees.nodes.now c.args.node
-here t c = at-node c.args.self c.args.node c.requires.0
+here : (t : ℕ) (c : goal.Start t) → let trees = c.args.self.now in KnownNode trees.header trees.nodes.now c.args.node
+here t c = at-node c.args.self.now c.args.node c.requires.0
 
 -- it has its root
 some : (t : ℕ) (c : goal.Start t)
-    → let trees = c.args.self in 1 ≤ size_of (tree_in trees.header trees.nodes.now trees.classes.now c.args.node)
-some t c = let trees = c.args.self in some-node (tree_in trees.header trees.nodes.now trees.classes.now c.args.node)
+    → let trees = c.args.self.now in 1 ≤ size_of (tree_in trees.header trees.nodes.now trees.classes.now c.args.node)
+some t c = let trees = c.args.self.now in some-node (tree_in trees.header trees.nodes.now trees.classes.now c.args.node)
 
 -- its own record and those of its sides
 sides : (t : ℕ) (c : goal.Else-record-ne1 t)
-    → let trees = c.args.self in
+    → let trees = c.args.self.now in
     size_of (tree_in trees.header trees.nodes.now trees.classes.now c.args.node)
     ≡ suc (size_of (tree_in trees.header trees.nodes.now trees.classes.now c.node_at-record.result.yes)
     + size_of (tree_in trees.header trees.nodes.now trees.classes.now c.node_at-record.result.no))
 sides t c =
-    size-here (at-node c.args.self c.args.node c.requires.0) c.node_at-record.ensures c.if-record-ne1.false
-    c.args.self.classes.now
+    size-here (at-node c.args.self.now c.args.node c.requires.0) c.node_at-record.ensures c.if-record-ne1.false
+    c.args.self.now.classes.now
 
 pub put_node-requires : goal.put_node-requires
 put_node-requires t c = omega (arith, some t (goal.at.put_node-requires t c).Start, c.requires.1.room)
 
 pub returns-then-record-ne1 : goal.returns-then-record-ne1
 returns-then-record-ne1 t c =
-    numbered-leaf (here t (goal.at.returns-then-record-ne1 t c).Start) c.node_at-record.ensures c.args.self.classes.now
+    numbered-leaf (here t (goal.at.returns-then-record-ne1 t c).Start) c.node_at-record.ensures c.args.self.now.classes.now
     c.args.sets.now c.args.at c.if-record-ne1.true c.leaf_node.ensures c.put_node.ensures
 
 pub number-middle-requires : goal.number-middle-requires
@@ -87,6 +87,6 @@ number-requires t c =
 
 pub returns : goal.returns
 returns t c =
-    numbered-question (here t (goal.at.returns t c).Start) c.node_at-record.ensures c.args.self.classes.now
+    numbered-question (here t (goal.at.returns t c).Start) c.node_at-record.ensures c.args.self.now.classes.now
     c.args.sets.now c.args.at c.if-record-ne1.false c.requires.1.room c.number-middle.ensures
     c.class_among-class.ensures c.question_node.ensures c.put_node-2.ensures c.number.ensures

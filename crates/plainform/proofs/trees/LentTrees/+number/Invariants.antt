@@ -3,4 +3,4 @@ use Prim.Native.Nat.{◌-◌}
 use Rattle.plainform.proofs.trees.LentTrees.+number.Given as goal
 
 abbrev pub decreases-number : goal.decreases-number
-decreases-number l = l.self.header.nodes - l.node
+decreases-number l = l.self.now.header.nodes - l.node
