@@ -13,7 +13,7 @@ fn compare(rt: &impl Print, text: &[u8], other: &[u8]) -> io::Result<()> {
 }
 
 // A plain form read into the tables that its book fitted, and written again.
-fn show_again(rt: &impl Print, text: &[u8]) -> io::Result<()> {
+pub fn show_again(rt: &impl Print, text: &[u8]) -> io::Result<()> {
     let Ok(book) = Book::read(text) else {
         return Ok(());
     };
